@@ -38,6 +38,9 @@ class Words(unittest.TestCase):
         for words, inputs in (
             ("go a b --symbols s", "source a, symbols s, history b"),
             ("compile --symbols s a b", "source a, symbols s"),
+            ("go --german a b --symbols s", "source a, symbols s, history b"),
+            ("english a b", "source a"),
+            ("german a b", "source a"),
             ("run a b", "image a, history b"),
             ("live a b c d --steps 7", "image a, stimuli b, script 1 c, script 2 d"),
             ("live --steps=7 a b c d e f", "image a, stimuli b, script 1 c, script 2 d, script 3 e, script 4 f"),
@@ -53,7 +56,7 @@ class Words(unittest.TestCase):
             self.assertEqual(told, inputs, words)
 
     def test_the_file_that_is_written(self):
-        for command in ("compile", "upgrade", "bound"):
+        for command in ("compile", "english", "german", "upgrade", "bound"):
             self.assertEqual(read_call([command, "a", "b"]).written_word(), (2, "", "b"))
         for words in (["compile", "a"], ["go", "a", "b"], ["run", "a", "b"], ["recheck", "a", "b"], ["gen", "1"], []):
             self.assertIsNone(read_call(words).written_word())

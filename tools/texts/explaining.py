@@ -98,6 +98,8 @@ def of_read_fault(call, text):
 
 def of_length(call, text):
     match = TOO_LONG.match(text)
+    if match and match[1] == "result" and "source" in call.inputs():
+        return [f"the translation of {call.inputs()['source']} would have more than {documents.limit('result'):,} bytes"]
     path = call.inputs().get(match[1]) if match else None
     if not path:
         return []

@@ -8,6 +8,8 @@ WORDS_BY_COMMAND = {
     "go": ("source", "history"),
     "check": ("source",),
     "compile": ("source", "written"),
+    "english": ("source", "written"),
+    "german": ("source", "written"),
     "run": ("image", "history"),
     "gen": (None,),
     "live": ("image", "stimuli", *SCRIPTS),

@@ -15,8 +15,11 @@ pub mod LengthLemmas
 pub mod LayoutLemmas
 pub mod TableLemmas
 pub mod OffsetLemmas
+pub mod SumLemmas
 pub mod CycleLemmas
 pub mod DirectoryLemmas
 pub mod HeadLemmas
 pub mod AloneLemmas
 pub mod OperandLemmas
+pub mod ListedLemmas
+pub mod RebuiltLemmas

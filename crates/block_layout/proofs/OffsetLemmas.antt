@@ -1,19 +1,20 @@
 -- Where components lie: the least places, and no others.
-use Rattle.std.proofs.Common.{ℕ, zero, suc, ◌≡◌, ◌<◌, ◌≤◌, ◌+◌, ◌⊎◌, inl, inr, ⊎_elim, List, [], ◌∷◌, ◌++◌, Some, Bool, true, false, ◌&&◌, nat_eq, nat_lt, refl, sym, ◌∙◌, ap, subst, arith, length, drop, map, add-one, if◌then◌else◌}
+use Rattle.std.proofs.Common.{ℕ, zero, suc, ◌≡◌, ◌<◌, ◌≤◌, ◌+◌, ◌⊎◌, inl, inr, ⊎_elim, List, [], ◌∷◌, ◌++◌, Option, Some, None, Bool, true, false, ◌&&◌, nat_eq, nat_lt, refl, sym, ◌∙◌, ap, subst, arith, length, drop, map, add-one, if◌then◌else◌}
 use Rattle.std.proofs.lemmas.Bool.{cases_Bool}
 use Rattle.std.specs.List.{filter, slice_get}
+use Rattle.std.specs.Str.{bytes_eq}
 use Rattle.stl_ast.specs.declared.declarations.Simple.TheVariants as simple
 use Rattle.block_layout.specs.declared.cells.Cell.{Cell}
 use Rattle.block_layout.specs.declared.cells.Element.{Element}
 use Rattle.block_layout.specs.declared.cells.Element.TheVariants.{Plain, Structure, DateAndTime, Udt, Unknown}
 use Rattle.block_layout.specs.Sizes.{largest}
 use Rattle.block_layout.specs.declared.members.Member.{Member}
-use Rattle.block_layout.specs.Members.{members_of}
-use Rattle.block_layout.specs.Places.{AreOffsets, IsLeastPlace, Sibling, is_sound_cell, siblings, sound_offsets}
+use Rattle.block_layout.specs.Members.{component, members_of}
+use Rattle.block_layout.specs.Places.{AreOffsets, FindsSound, IsLeastPlace, IsOneOf, Sibling, is_sound_cell, siblings, sound_offsets}
 use Rattle.block_layout.specs.Sizes.{alignment, capped, cell_bits, element_alignment, element_of, end_of, stepped, up}
 
 -- a place that is the least is one alone
-same_place : (end align p q : ℕ) → IsLeastPlace end align p → IsLeastPlace end align q → p ≡ q
+pub same_place : (end align p q : ℕ) → IsLeastPlace end align p → IsLeastPlace end align q → p ≡ q
 same_place end align p q a b = let le = a.least q b.behind b.meets in let ge = b.least p a.behind a.meets in omega arith
 
 one_places : (end : ℕ) (ss : List Sibling) (ps qs : List ℕ) → AreOffsets end ss ps → AreOffsets end ss qs → ps ≡ qs
@@ -76,7 +77,7 @@ up_is_least n align h =
     more)
     h
 
-here_least : (n : ℕ) (c : Cell) → IsLeastPlace n (alignment c) (up n (alignment c))
+pub here_least : (n : ℕ) (c : Cell) → IsLeastPlace n (alignment c) (up n (alignment c))
 here_least n c = up_is_least n (alignment c) (aligned c)
 
 -- the end of components is no lower than where they begin
@@ -123,14 +124,14 @@ offsets_from level at (c ∷ cs) =
     if nat_lt c.level level then []
     else (if c.sound && nat_eq c.level level then up at (alignment c) ∷ [] else []) ++ offsets_from level (stepped level at c (cell_bits c cs)) cs
 
-step_here : (level at : ℕ) (c : Cell) (bits : ℕ) → (c.sound && nat_eq c.level level) ≡ true → stepped level at c bits ≡ capped (up at (alignment c) + bits)
+pub step_here : (level at : ℕ) (c : Cell) (bits : ℕ) → (c.sound && nat_eq c.level level) ≡ true → stepped level at c bits ≡ capped (up at (alignment c) + bits)
 step_here level at c bits here = by_tests c.sound (nat_eq c.level level) here where
   by_tests : (sound same : Bool) → (sound && same) ≡ true → (if same then if sound then capped (up at (alignment c) + bits) else at else at) ≡ capped (up at (alignment c) + bits)
   by_tests true true h = refl
   by_tests true false h = cc
   by_tests false same h = cc
 
-step_stays : (level at : ℕ) (c : Cell) (bits : ℕ) → (c.sound && nat_eq c.level level) ≡ false → stepped level at c bits ≡ at
+pub step_stays : (level at : ℕ) (c : Cell) (bits : ℕ) → (c.sound && nat_eq c.level level) ≡ false → stepped level at c bits ≡ at
 step_stays level at c bits other = by_tests c.sound (nat_eq c.level level) other where
   by_tests : (sound same : Bool) → (sound && same) ≡ false → (if same then if sound then capped (up at (alignment c) + bits) else at else at) ≡ at
   by_tests true true h = cc
@@ -213,3 +214,51 @@ offsets_are level cells short =
 
 pub offsets_alone : (level : ℕ) (cells : List Cell) (places : List ℕ) → end_of level 0 cells < largest → AreOffsets 0 (siblings level cells) places → places ≡ sound_offsets level cells
 offsets_alone level cells places short are = one_places 0 (siblings level cells) places (sound_offsets level cells) are (offsets_are level cells short)
+
+-- ---- a component that is found by its name
+
+-- the sound ones of some components of these cells
+abbrev sound_ones : List Cell → List Member → List Member
+sound_ones all ms = filter (λ k. is_sound_cell (slice_get all k.place)) ms
+
+kept_here : (all : List Cell) (m : Member) (ms : List Member) → is_sound_cell (slice_get all m.place) ≡ true → IsOneOf m (sound_ones all (m ∷ ms))
+kept_here all m ms sound = rw sound (inl refl)
+
+kept_behind : (all : List Cell) (m n : Member) (ms : List Member) → IsOneOf m (sound_ones all ms) → IsOneOf m (sound_ones all (n ∷ ms))
+kept_behind all m n ms more = by (is_sound_cell (slice_get all n.place))
+  where
+    by : (t : Bool) → IsOneOf m (if t then n ∷ sound_ones all ms else sound_ones all ms)
+    by true = inr more
+    by false = more
+
+found_sound : (all : List Cell) (level at p : ℕ) (cells : List Cell) (name : List ℕ) (m : Member) → component level at p name cells ≡ Some m →
+    is_sound_cell (slice_get all m.place) ≡ true → IsOneOf m (sound_ones all (members_of level at p cells))
+unfolding component members_of
+found_sound all level at p [] name m e sound = absurd cc
+found_sound all level at p (c ∷ cs) name m e sound =
+    by (nat_lt c.level level) (nat_eq c.level level) (bytes_eq name c.name) e
+    (λ h. found_sound all level (stepped level at c (cell_bits c cs)) (p + 1) cs name m h sound)
+  where
+    here : Member
+    here = record { place = p; offset = up at (alignment c) }
+
+    rest : Option Member
+    rest = component level (stepped level at c (cell_bits c cs)) (p + 1) name cs
+
+    others : List Member
+    others = members_of level (stepped level at c (cell_bits c cs)) (p + 1) cs
+
+    some_same : (x y : Member) → Some x ≡ Some y → x ≡ y
+    some_same x y k = cc
+
+    by : (low same called : Bool) → (if low then None else if same && called then Some here else rest) ≡ Some m →
+        (rest ≡ Some m → IsOneOf m (sound_ones all others)) →
+        IsOneOf m (sound_ones all (if low then [] else (if same then here ∷ [] else []) ++ others))
+    by true same called e more = absurd cc
+    by false true true e more =
+        subst (λ (k : Member). IsOneOf m (sound_ones all (k ∷ others))) (sym (some_same here m e)) (kept_here all m others sound)
+    by false true false e more = kept_behind all m here others (more e)
+    by false false called e more = more e
+
+pub finds_sound : FindsSound
+finds_sound level name cells m e sound = found_sound cells level 0 0 cells name m e sound

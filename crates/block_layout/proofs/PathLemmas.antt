@@ -5,22 +5,22 @@ use Rattle.block_layout.specs.declared.members.Member.{Member}
 use Rattle.block_layout.specs.Members.{component, members_of}
 use Rattle.block_layout.specs.declared.blocks.BlockLayout.{BlockLayout}
 use Rattle.block_layout.specs.declared.cells.Element.TheVariants.{Structure}
-use Rattle.block_layout.specs.declared.walks.Spot.{Spot}
-use Rattle.block_layout.specs.declared.walks.Walk.{Walk}
+use Rattle.block_layout.specs.declared.walks.ComponentAt.{ComponentAt}
+use Rattle.block_layout.specs.declared.walks.PathEnd.{PathEnd}
 use Rattle.block_layout.specs.Paths.{cells_at, found_at, named_in}
 use Rattle.block_layout.specs.Scopes.{IsScope}
-use Rattle.block_layout.specs.declared.members.Scope.{Scope}
+use Rattle.block_layout.specs.declared.members.NameList.{NameList}
 
-pub members_from : (x y : Cell) (d behind : List Cell) (s t : Scope) → IsScope y d t → s ≡ t → x ≡ y → behind ≡ d → s.members.items ≡ members_of (x.level + 1) 0 0 behind
+pub members_from : (x y : Cell) (d behind : List Cell) (s t : NameList) → IsScope y d t → s ≡ t → x ≡ y → behind ≡ d → s.members.items ≡ members_of (x.level + 1) 0 0 behind
 members_from x y d behind s t scope is_s is_x is_behind =
-    ap (λ (z : Scope). z.members.items) is_s ∙ scope.members ∙ ap (λ (c : Cell). members_of (c.level + 1) 0 0 d) (sym is_x) ∙ ap (λ (l : List Cell). members_of (x.level + 1) 0 0 l) (sym is_behind)
+    ap (λ (z : NameList). z.members.items) is_s ∙ scope.members ∙ ap (λ (c : Cell). members_of (c.level + 1) 0 0 d) (sym is_x) ∙ ap (λ (l : List Cell). members_of (x.level + 1) 0 0 l) (sym is_behind)
 
 pub got : (xs : List Cell) (i : ℕ) (c : Cell) → slice_get xs i ≡ Some c → get_or xs i c ≡ c
 got [] i c e = refl
 got (x ∷ xs) zero c e = cc
 got (x ∷ xs) (suc i) c e = got xs i c e
 
-pub named_structure : (l : List BlockLayout) (spot : Spot) (name : List ℕ) (c : Cell) (cells : List Cell) (found : Option Member) (r : Walk) → cells ≡ cells_at l spot.block spot.temporary →
+pub named_structure : (l : List BlockLayout) (spot : ComponentAt) (name : List ℕ) (c : Cell) (cells : List Cell) (found : Option Member) (r : PathEnd) → cells ≡ cells_at l spot.block spot.temporary →
     slice_get cells spot.place ≡ Some c → ((d : Cell) → found ≡ component ((get_or cells spot.place d).level + 1) 0 0 name (drop (spot.place + 1) cells)) →
     r ≡ found_at cells spot.block spot.temporary (spot.place + 1) spot.offset found → c.of ≡ Structure → r ≡ named_in l spot name c c.of
 named_structure l spot name c cells found r are there is_found is_r is_structure =

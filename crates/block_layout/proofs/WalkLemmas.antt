@@ -11,9 +11,9 @@ use Rattle.block_layout.specs.declared.cells.Cell.{Cell}
 use Rattle.block_layout.specs.declared.cells.Element.{Element}
 use Rattle.block_layout.specs.declared.cells.Element.TheVariants.{Plain, Structure, DateAndTime, Udt, Unknown}
 use Rattle.block_layout.specs.declared.members.Member.{Member}
-use Rattle.block_layout.specs.declared.walks.Spot.{Spot}
-use Rattle.block_layout.specs.declared.walks.Walk.{Walk}
-use Rattle.block_layout.specs.declared.walks.Walk.TheVariants as walk
+use Rattle.block_layout.specs.declared.walks.ComponentAt.{ComponentAt}
+use Rattle.block_layout.specs.declared.walks.PathEnd.{PathEnd}
+use Rattle.block_layout.specs.declared.walks.PathEnd.TheVariants as walk
 use Rattle.block_layout.specs.Members.{component}
 use Rattle.block_layout.specs.Paths.{IsSoundAt, ReachesSound, cells_at, entered, found_at, goes_on, indexed, indexed_behind, is_beyond, named, named_behind, named_in, outermost, step_of, walked, within}
 
@@ -34,62 +34,62 @@ pub outermost_sound : (l : List BlockLayout) (block : ℕ) (temporary : Bool) (o
 unfolding outermost
 outermost_sound l block temporary offset name = found_sound l block temporary 0 offset (component 0 0 0 name (cells_at l block temporary))
 
-pub outermost_reaches : (l : List BlockLayout) (block : ℕ) (temporary : Bool) (offset : ℕ) (name : List ℕ) (w : Walk) → w ≡ outermost l block temporary offset name → ReachesSound l w
-outermost_reaches l block temporary offset name w is = subst (λ (x : Walk). ReachesSound l x) (sym is) (outermost_sound l block temporary offset name)
+pub outermost_reaches : (l : List BlockLayout) (block : ℕ) (temporary : Bool) (offset : ℕ) (name : List ℕ) (w : PathEnd) → w ≡ outermost l block temporary offset name → ReachesSound l w
+outermost_reaches l block temporary offset name w is = subst (λ (x : PathEnd). ReachesSound l x) (sym is) (outermost_sound l block temporary offset name)
 
-in_sound : (l : List BlockLayout) (spot : Spot) (name : List ℕ) (c : Cell) (of : Element) → ReachesSound l (named_in l spot name c of)
+in_sound : (l : List BlockLayout) (spot : ComponentAt) (name : List ℕ) (c : Cell) (of : Element) → ReachesSound l (named_in l spot name c of)
 in_sound l spot name c (Plain kind) = tt
 in_sound l spot name c Structure = found_sound l spot.block spot.temporary (spot.place + 1) spot.offset _
 in_sound l spot name c DateAndTime = tt
 in_sound l spot name c (Udt block bits) = outermost_sound l block false spot.offset name
 in_sound l spot name c Unknown = tt
 
-if_sound : (l : List BlockLayout) (t : Bool) (v w : Walk) → ReachesSound l v → ReachesSound l w → ReachesSound l (if t then v else w)
+if_sound : (l : List BlockLayout) (t : Bool) (v w : PathEnd) → ReachesSound l v → ReachesSound l w → ReachesSound l (if t then v else w)
 if_sound l true v w a b = a
 if_sound l false v w a b = b
 
-behind_sound : (l : List BlockLayout) (spot : Spot) (name : List ℕ) (o : Option Cell) → ReachesSound l (named_behind l spot name o)
+behind_sound : (l : List BlockLayout) (spot : ComponentAt) (name : List ℕ) (o : Option Cell) → ReachesSound l (named_behind l spot name o)
 behind_sound l spot name None = tt
 behind_sound l spot name (Some c) = if_sound l (nat_eq spot.depth (length c.bounds)) (named_in l spot name c c.of) walk.Unknown (in_sound l spot name c c.of) tt
 
-within_sound : (l : List BlockLayout) (spot : Spot) (c : Cell) (behind : List Cell) (at : ℤ) (o : Option Bounds) → IsSoundAt l spot → ReachesSound l (within spot c behind at o)
+within_sound : (l : List BlockLayout) (spot : ComponentAt) (c : Cell) (behind : List Cell) (at : ℤ) (o : Option Bounds) → IsSoundAt l spot → ReachesSound l (within spot c behind at o)
 within_sound l spot c behind at None sound = tt
 within_sound l spot c behind at (Some b) sound = if_sound l (is_beyond b at) _ _ sound sound
 
-index_sound : (l : List BlockLayout) (spot : Spot) (cells : List Cell) (at : ℤ) (o : Option Cell) → IsSoundAt l spot → ReachesSound l (indexed_behind spot cells at o)
+index_sound : (l : List BlockLayout) (spot : ComponentAt) (cells : List Cell) (at : ℤ) (o : Option Cell) → IsSoundAt l spot → ReachesSound l (indexed_behind spot cells at o)
 index_sound l spot cells at None sound = tt
 index_sound l spot cells at (Some c) sound = within_sound l spot c _ at _ sound
 
-by_step : (l : List BlockLayout) (spot : Spot) (s : PathStep) → IsSoundAt l spot → ReachesSound l (step_of l spot s)
+by_step : (l : List BlockLayout) (spot : ComponentAt) (s : PathStep) → IsSoundAt l spot → ReachesSound l (step_of l spot s)
 unfolding step_of named indexed
 by_step l spot (step.Named name) sound = behind_sound l spot name _
 by_step l spot (step.Index at) sound = index_sound l spot _ at _ sound
 
-pub step_sound : (l : List BlockLayout) (spot next : Spot) (s : PathStep) (w : Walk) → IsSoundAt l spot → w ≡ step_of l spot s → w ≡ walk.Reaches next → IsSoundAt l next
-step_sound l spot next s w sound is reaches = subst (λ (x : Walk). ReachesSound l x) (sym is ∙ reaches) (by_step l spot s sound)
+pub step_sound : (l : List BlockLayout) (spot next : ComponentAt) (s : PathStep) (w : PathEnd) → IsSoundAt l spot → w ≡ step_of l spot s → w ≡ walk.Reaches next → IsSoundAt l next
+step_sound l spot next s w sound is reaches = subst (λ (x : PathEnd). ReachesSound l x) (sym is ∙ reaches) (by_step l spot s sound)
 
-pub walk_next : (l : List BlockLayout) (spot next : Spot) (path : List PathStep) (i : ℕ) (s : PathStep) (w whole : Walk) → i < length path → s ≡ get_or path i s → w ≡ step_of l spot s → w ≡ walk.Reaches next →
+pub walk_next : (l : List BlockLayout) (spot next : ComponentAt) (path : List PathStep) (i : ℕ) (s : PathStep) (w whole : PathEnd) → i < length path → s ≡ get_or path i s → w ≡ step_of l spot s → w ≡ walk.Reaches next →
     walked l spot (drop i path) ≡ whole → walked l next (drop (i + 1) path) ≡ whole
 walk_next l spot next path i s w whole inside is_s is_w reaches so_far =
     let split : drop i path ≡ s ∷ drop (i + 1) path = drop_more path i s inside ∙ ap (λ (x : PathStep). x ∷ drop (i + 1) path) (sym is_s) in
-    ap (λ (x : Walk). goes_on x (λ to. walked l to (drop (i + 1) path))) (sym reaches ∙ is_w)
+    ap (λ (x : PathEnd). goes_on x (λ to. walked l to (drop (i + 1) path))) (sym reaches ∙ is_w)
     ∙ ap (λ (p : List PathStep). walked l spot p) (sym split) ∙ so_far
 
-not_on : (w : Walk) (next : Spot → Walk) → ((to : Spot) → w ≡ walk.Reaches to → ⊥) → goes_on w next ≡ w
+not_on : (w : PathEnd) (next : ComponentAt → PathEnd) → ((to : ComponentAt) → w ≡ walk.Reaches to → ⊥) → goes_on w next ≡ w
 not_on (walk.Reaches to) next never = absurd (never to refl)
 not_on walk.Unknown next never = refl
 not_on walk.Rests next never = refl
 
-pub walk_ends : (l : List BlockLayout) (spot : Spot) (path : List PathStep) (i : ℕ) (s : PathStep) (w whole : Walk) → i < length path → s ≡ get_or path i s → w ≡ step_of l spot s → ((to : Spot) → w ≡ walk.Reaches to → ⊥) →
+pub walk_ends : (l : List BlockLayout) (spot : ComponentAt) (path : List PathStep) (i : ℕ) (s : PathStep) (w whole : PathEnd) → i < length path → s ≡ get_or path i s → w ≡ step_of l spot s → ((to : ComponentAt) → w ≡ walk.Reaches to → ⊥) →
     walked l spot (drop i path) ≡ whole → w ≡ whole
 walk_ends l spot path i s w whole inside is_s is_w never so_far =
     let split : drop i path ≡ s ∷ drop (i + 1) path = drop_more path i s inside ∙ ap (λ (x : PathStep). x ∷ drop (i + 1) path) (sym is_s) in
     sym (not_on w (λ to. walked l to (drop (i + 1) path)) never)
-    ∙ ap (λ (x : Walk). goes_on x (λ to. walked l to (drop (i + 1) path))) is_w
+    ∙ ap (λ (x : PathEnd). goes_on x (λ to. walked l to (drop (i + 1) path))) is_w
     ∙ ap (λ (p : List PathStep). walked l spot p) (sym split) ∙ so_far
 
-pub walk_done : (l : List BlockLayout) (spot : Spot) (path : List PathStep) (i : ℕ) (whole : Walk) → length path ≤ i → walked l spot (drop i path) ≡ whole → walk.Reaches spot ≡ whole
+pub walk_done : (l : List BlockLayout) (spot : ComponentAt) (path : List PathStep) (i : ℕ) (whole : PathEnd) → length path ≤ i → walked l spot (drop i path) ≡ whole → walk.Reaches spot ≡ whole
 walk_done l spot path i whole over so_far = ap (λ (p : List PathStep). walked l spot p) (sym (drop_of_length-le path over)) ∙ so_far
 
-pub goes_to : (w : Walk) (next : Spot → Walk) (to : Spot) → w ≡ walk.Reaches to → goes_on w next ≡ next to
-goes_to w next to is = ap (λ (x : Walk). goes_on x next) is
+pub goes_to : (w : PathEnd) (next : ComponentAt → PathEnd) (to : ComponentAt) → w ≡ walk.Reaches to → goes_on w next ≡ next to
+goes_to w next to is = ap (λ (x : PathEnd). goes_on x next) is

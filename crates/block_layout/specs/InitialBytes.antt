@@ -12,8 +12,8 @@ use Rattle.block_layout.specs.declared.cells.Cell.{Cell}
 use Rattle.block_layout.specs.declared.cells.Element.{Element}
 use Rattle.block_layout.specs.declared.cells.Element.TheVariants.{Plain, Structure, Udt}
 use Rattle.block_layout.specs.declared.cells.Preset.{Preset}
-use Rattle.block_layout.specs.declared.walks.Walk.{Walk}
-use Rattle.block_layout.specs.declared.walks.Walk.TheVariants as walk
+use Rattle.block_layout.specs.declared.walks.PathEnd.{PathEnd}
+use Rattle.block_layout.specs.declared.walks.PathEnd.TheVariants as walk
 use Rattle.block_layout.specs.Declarations.{count}
 use Rattle.block_layout.specs.Fits.{bits_of}
 use Rattle.block_layout.specs.Measures.{rounds}
@@ -105,7 +105,7 @@ write_of offset value (Some kind) =
     record { offset = offset; width = plain_bits kind; value = value } ∷ []
 
 -- a setting, by where its path leads: nothing where that is no elementary component
-abbrev pub setting_write : List BlockLayout → Literal → Walk → List Write
+abbrev pub setting_write : List BlockLayout → Literal → PathEnd → List Write
 setting_write l value (walk.Reaches spot) =
     write_of spot.offset (bits_of value) (elementary_at l spot)
 setting_write l value _ = []

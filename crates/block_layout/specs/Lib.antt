@@ -22,7 +22,10 @@ pub mod Layouts
 pub mod Paths
 pub mod Offsets
 pub mod InitialBytes
+pub mod Listed
+pub mod Rebuilt
 pub mod Places
+pub mod Sums
 pub mod Rule21
 pub mod Rule22
 pub mod Rule23

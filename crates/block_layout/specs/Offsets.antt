@@ -14,8 +14,8 @@ use Rattle.stl_ast.specs.declared.declarations.Simple.TheVariants as simple
 use Rattle.block_layout.specs.declared.blocks.BlockLayout.{BlockLayout}
 use Rattle.block_layout.specs.declared.blocks.Section.{Section}
 use Rattle.block_layout.specs.declared.blocks.Section.TheVariants as section
-use Rattle.block_layout.specs.declared.walks.Walk.{Walk}
-use Rattle.block_layout.specs.declared.walks.Walk.TheVariants as walk
+use Rattle.block_layout.specs.declared.walks.PathEnd.{PathEnd}
+use Rattle.block_layout.specs.declared.walks.PathEnd.TheVariants as walk
 use Rattle.block_layout.specs.Blocks.{known_block}
 use Rattle.block_layout.specs.Paths.{walked_data, walked_from, leaves_from, leaves_judged, structure_of, elementary_at, if_whole}
 
@@ -42,7 +42,7 @@ placed a number bits (Some kind) =
     if nat_le (bits / 8) 65535 then Some (place_at a number bits, width_of kind) else None
 
 -- the same where a path leads; none where it reaches no component, or no elementary one
-abbrev pub reached : List BlockLayout → Area → (number : ℕ) → Walk → Option (Place × Width)
+abbrev pub reached : List BlockLayout → Area → (number : ℕ) → PathEnd → Option (Place × Width)
 reached l a number (walk.Reaches spot) = placed a number spot.offset (elementary_at l spot)
 reached l a number _ = None
 

@@ -15,9 +15,9 @@ use Rattle.block_layout.specs.declared.cells.Element.{Element}
 use Rattle.block_layout.specs.declared.cells.Element.TheVariants.{Plain, Structure, Udt}
 use Rattle.block_layout.specs.Sizes.{largest}
 use Rattle.block_layout.specs.declared.members.Member.{Member}
-use Rattle.block_layout.specs.declared.walks.Spot.{Spot}
-use Rattle.block_layout.specs.declared.walks.Walk.{Walk}
-use Rattle.block_layout.specs.declared.walks.Walk.TheVariants as walk
+use Rattle.block_layout.specs.declared.walks.ComponentAt.{ComponentAt}
+use Rattle.block_layout.specs.declared.walks.PathEnd.{PathEnd}
+use Rattle.block_layout.specs.declared.walks.PathEnd.TheVariants as walk
 use Rattle.block_layout.specs.Members.{component}
 use Rattle.block_layout.specs.Sizes.{capped, array_bits, element_of}
 
@@ -40,7 +40,7 @@ abbrev pub cells_at : List BlockLayout → (block : ℕ) → (temporary : Bool) 
 cells_at l block temporary = cells_in temporary (slice_get l block)
 
 -- a declaration that breaks a rule itself isn't gone through
-abbrev pub entered : (block : ℕ) → (temporary : Bool) → (place offset : ℕ) → Option Cell → Walk
+abbrev pub entered : (block : ℕ) → (temporary : Bool) → (place offset : ℕ) → Option Cell → PathEnd
 entered block temporary place offset None = walk.Unknown
 entered block temporary place offset (Some c) =
     if c.sound
@@ -54,7 +54,7 @@ entered block temporary place offset (Some c) =
 
 -- a component, whose place counts from `first` on and whose offset from that of the structure
 abbrev pub found_at : List Cell → (block : ℕ) → (temporary : Bool) → (first offset : ℕ)
-    → Option Member → Walk
+    → Option Member → PathEnd
 found_at cells block temporary first offset None = walk.Unknown
 found_at cells block temporary first offset (Some m) =
     entered block temporary (first + m.place) (capped (offset + capped m.offset))
@@ -62,13 +62,13 @@ found_at cells block temporary first offset (Some m) =
 
 -- a name in the outermost declarations of a block
 unfoldable pub outermost : List BlockLayout → (block : ℕ) → (temporary : Bool) → (offset : ℕ)
-    → List ℕ → Walk
+    → List ℕ → PathEnd
 outermost l block temporary offset name =
     found_at (cells_at l block temporary) block temporary 0 offset
     (component 0 0 0 name (cells_at l block temporary))
 
 -- a name behind a component: of a structure its own components, of a data type those of the block that declares it
-abbrev pub named_in : List BlockLayout → Spot → List ℕ → Cell → Element → Walk
+abbrev pub named_in : List BlockLayout → ComponentAt → List ℕ → Cell → Element → PathEnd
 named_in l spot name c Structure =
     found_at (cells_at l spot.block spot.temporary) spot.block spot.temporary
     (spot.place + 1) spot.offset
@@ -78,13 +78,13 @@ named_in l spot name c (Udt block bits) = outermost l block false spot.offset na
 named_in l spot name c _ = walk.Unknown
 
 -- once all its indices are there
-abbrev pub named_behind : List BlockLayout → Spot → List ℕ → Option Cell → Walk
+abbrev pub named_behind : List BlockLayout → ComponentAt → List ℕ → Option Cell → PathEnd
 named_behind l spot name None = walk.Unknown
 named_behind l spot name (Some c) =
     if nat_eq spot.depth (length c.bounds) then named_in l spot name c c.of else walk.Unknown
 
 -- a name behind a spot; where an index is lacking, or what is there has no components, it's unknown
-unfoldable pub named : List BlockLayout → Spot → List ℕ → Walk
+unfoldable pub named : List BlockLayout → ComponentAt → List ℕ → PathEnd
 named l spot name =
     named_behind l spot name (slice_get (cells_at l spot.block spot.temporary) spot.place)
 
@@ -94,7 +94,7 @@ is_beyond b at = int_lt at b.low || int_lt b.high at
 
 -- an index behind a component with these bounds left. One outside them leads on as the first element does, so that a
 -- declaration further on that breaks a rule is seen
-abbrev pub within : Spot → Cell → (behind : List Cell) → ℤ → Option Bounds → Walk
+abbrev pub within : ComponentAt → Cell → (behind : List Cell) → ℤ → Option Bounds → PathEnd
 within spot c behind at None = walk.Unknown
 within spot c behind at (Some b) =
     if is_beyond b at then walk.Reaches (record spot { depth = spot.depth + 1 })
@@ -106,35 +106,35 @@ within spot c behind at (Some b) =
     })
 
 -- an index behind a component that stands among `cells`, for the first bounds without an index yet
-abbrev pub indexed_behind : Spot → (cells : List Cell) → ℤ → Option Cell → Walk
+abbrev pub indexed_behind : ComponentAt → (cells : List Cell) → ℤ → Option Cell → PathEnd
 indexed_behind spot cells at None = walk.Unknown
 indexed_behind spot cells at (Some c) =
     within spot c (drop (spot.place + 1) cells) at (slice_get c.bounds spot.depth)
 
 -- an index behind a spot; behind what is no array, or has all its indices, it is unknown
-unfoldable pub indexed : List BlockLayout → Spot → ℤ → Walk
+unfoldable pub indexed : List BlockLayout → ComponentAt → ℤ → PathEnd
 indexed l spot at =
     indexed_behind spot (cells_at l spot.block spot.temporary) at
     (slice_get (cells_at l spot.block spot.temporary) spot.place)
 
 -- one step of a path behind a spot
-unfoldable pub step_of : List BlockLayout → Spot → PathStep → Walk
+unfoldable pub step_of : List BlockLayout → ComponentAt → PathStep → PathEnd
 step_of l spot (step.Named name) = named l spot name
 step_of l spot (step.Index at) = indexed l spot at
 
 -- a path goes on behind a component that it reaches; what is unknown or rests stays so
-abbrev pub goes_on : Walk → (Spot → Walk) → Walk
+abbrev pub goes_on : PathEnd → (ComponentAt → PathEnd) → PathEnd
 goes_on (walk.Reaches spot) next = next spot
 goes_on walk.Unknown next = walk.Unknown
 goes_on walk.Rests next = walk.Rests
 
 -- the steps behind a component
-abbrev pub walked : List BlockLayout → Spot → List PathStep → Walk
+abbrev pub walked : List BlockLayout → ComponentAt → List PathStep → PathEnd
 walked l spot [] = walk.Reaches spot
 walked l spot (s ∷ ss) = goes_on (step_of l spot s) (λ next. walked l next ss)
 
 -- a whole path in the outermost declarations of a block begins with a name
-abbrev pub walked_from : List BlockLayout → (block : ℕ) → (temporary : Bool) → List PathStep → Walk
+abbrev pub walked_from : List BlockLayout → (block : ℕ) → (temporary : Bool) → List PathStep → PathEnd
 walked_from l block temporary (step.Named name ∷ ss) =
     goes_on (outermost l block temporary 0 name) (λ spot. walked l spot ss)
 walked_from l block temporary _ = walk.Unknown
@@ -150,18 +150,18 @@ is_beyond_in depth None at = false
 is_beyond_in depth (Some c) at = is_beyond_left (slice_get c.bounds depth) at
 
 -- a step behind a spot is an index outside its array; a name never is
-abbrev pub step_is_beyond : List BlockLayout → Spot → PathStep → Bool
+abbrev pub step_is_beyond : List BlockLayout → ComponentAt → PathStep → Bool
 step_is_beyond l spot (step.Named name) = false
 step_is_beyond l spot (step.Index at) =
     is_beyond_in spot.depth (slice_get (cells_at l spot.block spot.temporary) spot.place) at
 
 -- whether this holds of the spot that a path reaches; where it reaches none it doesn't
-abbrev pub further : Walk → (Spot → Bool) → Bool
+abbrev pub further : PathEnd → (ComponentAt → Bool) → Bool
 further (walk.Reaches spot) next = next spot
 further _ next = false
 
 -- whether one of these steps is an index outside its array, up to the first that reaches nothing
-abbrev pub leaves : List BlockLayout → Spot → List PathStep → Bool
+abbrev pub leaves : List BlockLayout → ComponentAt → List PathStep → Bool
 leaves l spot [] = false
 leaves l spot (s ∷ ss) =
     step_is_beyond l spot s || further (step_of l spot s) (λ next. leaves l next ss)
@@ -173,7 +173,7 @@ leaves_from l block temporary (step.Named name ∷ ss) =
 leaves_from l block temporary _ = false
 
 -- a path that goes through what breaks a rule itself isn't checked
-abbrev pub is_judged : Walk → Bool
+abbrev pub is_judged : PathEnd → Bool
 is_judged walk.Rests = false
 is_judged _ = true
 
@@ -201,7 +201,7 @@ abbrev pub structure_of : List BlockLayout → ℕ → Option ℕ
 structure_of l block = option_and_then (λ b. shape_block l block b.shape) (whole_at l block)
 
 -- a path in the components that this block declares; where none declares them it rests
-abbrev pub walked_or_rests : List BlockLayout → Option ℕ → List PathStep → Walk
+abbrev pub walked_or_rests : List BlockLayout → Option ℕ → List PathStep → PathEnd
 walked_or_rests l None path = walk.Rests
 walked_or_rests l (Some block) path = walked_from l block false path
 
@@ -212,7 +212,7 @@ setting_structure l block =
     option_and_then (λ b. shape_block l block b.shape) (slice_get l block)
 
 -- the target of a setting
-unfoldable pub walked_setting : List BlockLayout → (block : ℕ) → List PathStep → Walk
+unfoldable pub walked_setting : List BlockLayout → (block : ℕ) → List PathStep → PathEnd
 walked_setting l block path = walked_or_rests l (setting_structure l block) path
 
 -- whether a path leaves an array, where it is checked
@@ -222,18 +222,18 @@ leaves_judged l (Some block) path =
     is_judged (walked_from l block false path) && leaves_from l block false path
 
 -- a path into a data block
-unfoldable pub walked_data : List BlockLayout → (block : ℕ) → List PathStep → Walk
+unfoldable pub walked_data : List BlockLayout → (block : ℕ) → List PathStep → PathEnd
 walked_data l block path = walked_or_rests l (structure_of l block) path
 
 -- a name in the sections of a block: of two that are the same the first one is meant, and VAR_TEMP is the last section
-abbrev pub in_sections : List BlockLayout → (block : ℕ) → List ℕ → Walk
+abbrev pub in_sections : List BlockLayout → (block : ℕ) → List ℕ → PathEnd
 in_sections l block name =
     if is_some (component 0 0 0 name (cells_at l block false))
     then outermost l block false 0 name
     else outermost l block true 0 name
 
 -- a path in the body of a block, into its own variables
-unfoldable pub walked_local : List BlockLayout → (block : ℕ) → List ℕ → List PathStep → Walk
+unfoldable pub walked_local : List BlockLayout → (block : ℕ) → List ℕ → List PathStep → PathEnd
 walked_local l block name path =
     if is_some (whole_at l block)
     then goes_on (in_sections l block name) (λ spot. walked l spot path) else walk.Rests
@@ -254,25 +254,25 @@ plain_kind (Plain kind) = Some kind
 plain_kind _ = None
 
 -- the elementary type of a component once all its indices are there; none of another type
-abbrev pub kind_of : Spot → Option Cell → Option Simple
+abbrev pub kind_of : ComponentAt → Option Cell → Option Simple
 kind_of spot None = None
 kind_of spot (Some c) = if nat_eq spot.depth (length c.bounds) then plain_kind c.of else None
 
 -- the elementary type at a spot; none of an array, a structure, a data type or DATE_AND_TIME
-abbrev pub elementary_at : List BlockLayout → Spot → Option Simple
+abbrev pub elementary_at : List BlockLayout → ComponentAt → Option Simple
 elementary_at l spot = kind_of spot (slice_get (cells_at l spot.block spot.temporary) spot.place)
 
 -- an offset isn't above the cap
-abbrev pub OffsetIsNear : Walk → Type 0
+abbrev pub OffsetIsNear : PathEnd → Type 0
 OffsetIsNear (walk.Reaches spot) = spot.offset ≤ largest
 OffsetIsNear _ = Unit {0}
 
 -- the component at a spot is sound
-abbrev pub IsSoundAt : List BlockLayout → Spot → Type 0
+abbrev pub IsSoundAt : List BlockLayout → ComponentAt → Type 0
 IsSoundAt l spot = (c : Cell)
     → slice_get (cells_at l spot.block spot.temporary) spot.place ≡ Some c → c.sound ≡ true
 
 -- the component that a path reaches is sound; nothing is said where it reaches none
-abbrev pub ReachesSound : List BlockLayout → Walk → Type 0
+abbrev pub ReachesSound : List BlockLayout → PathEnd → Type 0
 ReachesSound l (walk.Reaches spot) = IsSoundAt l spot
 ReachesSound l _ = Unit {0}

@@ -1,9 +1,10 @@
 -- Where components lie, as a relation: the offset of each is the least place at or past the end of its preceding sibling
 -- that meets its alignment.
-use Rattle.std.specs.Prelude.{◌≡◌, ℕ, ◌+◌, ◌%◌, ◌≤◌, nat_lt, nat_eq, Bool, false, ◌&&◌, List, [], ◌∷◌, ◌++◌, map, Option, Some, None, if◌then◌else◌}
+use Rattle.std.specs.Prelude.{◌≡◌, ℕ, ◌+◌, ◌%◌, ◌≤◌, nat_lt, nat_eq, Bool, true, false, ◌&&◌, List, [], ◌∷◌, ◌++◌, map, Option, Some, None, if◌then◌else◌, ◌⊎◌}
 use Rattle.std.specs.List.{filter, slice_get}
 use Rattle.block_layout.specs.declared.cells.Cell.{Cell}
-use Rattle.block_layout.specs.Members.{members_of}
+use Rattle.block_layout.specs.declared.members.Member.{Member}
+use Rattle.block_layout.specs.Members.{component, members_of}
 use Rattle.block_layout.specs.Sizes.{alignment, cell_bits}
 
 -- the least place at or past `end` that meets the alignment
@@ -38,8 +39,23 @@ abbrev pub is_sound_cell : Option Cell → Bool
 is_sound_cell None = false
 is_sound_cell (Some c) = c.sound
 
--- the offsets that the layout gives the sound components at a level, of which these cells are the first
+-- the sound components at a level, of which these cells are the first
+abbrev pub sound_members : ℕ → List Cell → List Member
+sound_members level cells =
+    filter (λ m. is_sound_cell (slice_get cells m.place)) (members_of level 0 0 cells)
+
+-- and the offsets that the layout gives them
 abbrev pub sound_offsets : ℕ → List Cell → List ℕ
-sound_offsets level cells =
-    map (λ m. m.offset)
-    (filter (λ m. is_sound_cell (slice_get cells m.place)) (members_of level 0 0 cells))
+sound_offsets level cells = map (λ m. m.offset) (sound_members level cells)
+
+-- a component is one of these
+abbrev pub IsOneOf : Member → List Member → Type 0
+IsOneOf m [] = ⊥
+IsOneOf m (n ∷ ns) = (m ≡ n) ⊎ IsOneOf m ns
+
+-- a sound component that is found by its name is one of the sound ones, with its offset
+abbrev pub FindsSound : Type 0
+FindsSound =
+    (level : ℕ) (name : List ℕ) (cells : List Cell) (m : Member)
+    → component level 0 0 name cells ≡ Some m → is_sound_cell (slice_get cells m.place) ≡ true
+    → IsOneOf m (sound_members level cells)

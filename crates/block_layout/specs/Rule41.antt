@@ -14,8 +14,8 @@ use Rattle.block_layout.specs.Fits.{fits}
 use Rattle.block_layout.specs.Paths.{folded_path, walked_setting, elementary_at}
 use Rattle.block_layout.specs.Settings.{on_settings}
 use Rattle.block_layout.specs.declared.blocks.BlockLayout.{BlockLayout}
-use Rattle.block_layout.specs.declared.walks.Walk.{Walk}
-use Rattle.block_layout.specs.declared.walks.Walk.TheVariants as walk
+use Rattle.block_layout.specs.declared.walks.PathEnd.{PathEnd}
+use Rattle.block_layout.specs.declared.walks.PathEnd.TheVariants as walk
 
 -- a declaration whose initial values don't fit its type
 abbrev pub broken_41 : Outside → List Declaration → Declaration → List Refusal
@@ -27,7 +27,7 @@ fits_kind value None = false
 fits_kind value (Some kind) = fits value kind
 
 -- only a path that leads to a component is checked by its value
-abbrev pub misfits : List BlockLayout → Literal → Walk → Bool
+abbrev pub misfits : List BlockLayout → Literal → PathEnd → Bool
 misfits l value (walk.Reaches spot) = not (fits_kind value (elementary_at l spot))
 misfits l value _ = false
 

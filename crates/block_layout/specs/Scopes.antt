@@ -3,23 +3,23 @@ use Rattle.std.specs.Prelude.{ℕ, ◌+◌, ◌<◌, ◌≤◌, ◌≡◌, true,
 use Rattle.std.specs.List.{AllByRecursion}
 use Rattle.stl_ast.specs.Blocks.{is_parameter}
 use Rattle.block_layout.specs.declared.cells.Cell.{Cell}
-use Rattle.block_layout.specs.declared.members.Scope.{Scope}
+use Rattle.block_layout.specs.declared.members.NameList.{NameList}
 use Rattle.block_layout.specs.Members.{members_of, names_of}
 use Rattle.block_layout.specs.Sizes.{largest}
 use Rattle.block_layout.specs.Sizes.{elements_of, structure_bits}
 
 -- the components at a level, of which these cells are the first
-pub record HasComponents (level : ℕ) (cells : List Cell) (s : Scope) : Type 0 where
+pub record HasComponents (level : ℕ) (cells : List Cell) (s : NameList) : Type 0 where
   pub names : s.names ≡ names_of level cells
   pub members : s.members.items ≡ members_of level 0 0 cells
 
 -- the components of the cell c, of which those behind it are
-abbrev pub IsScope : Cell → List Cell → Scope → Type 0
+abbrev pub IsScope : Cell → List Cell → NameList → Type 0
 IsScope c behind s = HasComponents (c.level + 1) behind s
 
 -- each sound cell has its components
-abbrev pub AreScopes : List Cell → List Scope → Type 0
-AreScopes cells scopes = (k : ℕ) (c : Cell) (s : Scope) → k < length cells
+abbrev pub AreScopes : List Cell → List NameList → Type 0
+AreScopes cells scopes = (k : ℕ) (c : Cell) (s : NameList) → k < length cells
     → (get_or cells k c).sound ≡ true
     → IsScope (get_or cells k c) (drop (k + 1) cells) (get_or scopes k s)
 
@@ -39,7 +39,7 @@ pub record HaveParameters (cells first : List Cell) : Type 0 where
   pub others : AreOthers rest
 
 -- sizes and components of cells, and how many of them have all parameters
-pub record AreKept (cells : List Cell) (elements : List ℕ) (outer : Scope) (scopes : List Scope)
+pub record AreKept (cells : List Cell) (elements : List ℕ) (outer : NameList) (scopes : List NameList)
     (bits parameters : ℕ) : Type 0 where
   pub sized : elements ≡ elements_of cells
   pub outermost : HasComponents 0 cells outer

@@ -21,7 +21,7 @@ ghost use Rattle.block_layout.specs.Paths.{
 use crate::blocks::BlockLayout;
 use crate::cells::Cell;
 use crate::routes::{in_sections, walk_local};
-use crate::walks::{Spot, Walk, bounds_at, layout_at, outermost, step, walk_from};
+use crate::walks::{ComponentAt, PathEnd, bounds_at, layout_at, outermost, step, walk_from};
 use stl_ast::{Bounds, PathStep};
 
 /// Whether an index is outside these bounds.
@@ -40,7 +40,7 @@ fn is_beyond_in(cell: &Cell, depth: usize, at: i32) -> bool
     }
 }
 
-fn index_is_beyond(layouts: &[BlockLayout], spot: Spot, at: i32) -> bool
+fn index_is_beyond(layouts: &[BlockLayout], spot: ComponentAt, at: i32) -> bool
     ensures { result ≡ is_beyond_in spot.depth
         (slice_get (cells_at layouts.now spot.block spot.temporary) spot.place) at }
 {
@@ -53,7 +53,7 @@ fn index_is_beyond(layouts: &[BlockLayout], spot: Spot, at: i32) -> bool
     }
 }
 
-fn step_is_beyond(layouts: &[BlockLayout], spot: Spot, step: &PathStep) -> bool
+fn step_is_beyond(layouts: &[BlockLayout], spot: ComponentAt, step: &PathStep) -> bool
     ensures { result ≡ step_is_beyond layouts.now spot step.now }
 {
     match step {
@@ -64,7 +64,7 @@ fn step_is_beyond(layouts: &[BlockLayout], spot: Spot, step: &PathStep) -> bool
 
 /// Whether an index of a path is outside its array, from a sound component on.
 #[tactic(auto, using(crate::proofs::WalkLemmas::step_sound))]
-fn leaves(layouts: &[BlockLayout], start: Spot, path: &[PathStep]) -> bool
+fn leaves(layouts: &[BlockLayout], start: ComponentAt, path: &[PathStep]) -> bool
     requires offset { start.offset ≤ largest }
     requires sound { IsSoundAt layouts.now start }
     ensures { result ≡ leaves layouts.now start path.now }
@@ -75,7 +75,7 @@ fn leaves(layouts: &[BlockLayout], start: Spot, path: &[PathStep]) -> bool
             return true;
         }
         match step(layouts, spot, next) {
-            Walk::Reaches { spot: reached } => spot = reached,
+            PathEnd::Reaches { spot: reached } => spot = reached,
             _ => return false,
         }
     }
@@ -83,13 +83,13 @@ fn leaves(layouts: &[BlockLayout], start: Spot, path: &[PathStep]) -> bool
 }
 
 /// Whether a path leaves an array behind a component that was looked up.
-fn leaves_behind(layouts: &[BlockLayout], found: Walk, path: &[PathStep]) -> bool
+fn leaves_behind(layouts: &[BlockLayout], found: PathEnd, path: &[PathStep]) -> bool
     requires near { OffsetIsNear found }
     requires sound { ReachesSound layouts.now found }
     ensures { result ≡ further found (λ spot. leaves layouts.now spot path.now) }
 {
     match found {
-        Walk::Reaches { spot } => leaves(layouts, spot, path),
+        PathEnd::Reaches { spot } => leaves(layouts, spot, path),
         _ => false,
     }
 }
@@ -113,10 +113,10 @@ pub(crate) fn leaves_from(
     }
 }
 
-fn is_judged(walk: Walk) -> bool
+fn is_judged(walk: PathEnd) -> bool
     ensures { result ≡ is_judged walk }
 {
-    !matches!(walk, Walk::Rests)
+    !matches!(walk, PathEnd::Rests)
 }
 
 /// Whether a path leaves an array of the structure of a data block, where it is checked.

@@ -6,13 +6,16 @@ ghost use Rattle.block_layout.specs.Lengths.{length_of, local_len};
 ghost use Rattle.block_layout.specs.Rule43.{contains_itself};
 ghost use Rattle.block_layout.specs.Types.{Types};
 
-use crate::excess::{MOST_BYTES, MOST_LOCAL, data_len, exceeds};
-use crate::heads::{
-    counted_data, has_too_many_parameters, has_too_many_statements, has_wrong_number,
-    is_block_twice, is_one_too_many,
-};
+use crate::rules::rule_22::is_block_twice;
+use crate::rules::rule_23::has_unknown_head;
+use crate::rules::rule_44::has_wrong_number;
+use crate::rules::rule_50::MOST_LOCAL;
+use crate::rules::rule_51::MOST_BYTES;
+use crate::rules::rule_52::has_too_many_parameters;
+use crate::rules::rule_53::{counted_data, is_one_too_many};
+use crate::rules::rule_54::{data_len, exceeds};
+use crate::rules::rule_55::has_too_many_statements;
 use crate::types::Types;
-use crate::unknown::has_unknown_head;
 use stl_ast::Block;
 
 /// What stands before a block: how many blocks, how many of them are data blocks, and their bytes.

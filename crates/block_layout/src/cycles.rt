@@ -1,21 +1,13 @@
-ghost use Rattle.std.specs.Prelude.{◌≡◌, ◌<◌, ℕ, IfOk, map, length, List, get_or, false, []};
+ghost use Rattle.std.specs.Prelude.{◌≡◌, IfOk, map, length, List, get_or, false, []};
 ghost use Rattle.block_layout.specs.Heads.{flagged};
 ghost use Rattle.block_layout.specs.Types.{Types};
-ghost use Rattle.std.specs.List.{flat_map, slice_get};
+ghost use Rattle.std.specs.List.{flat_map};
 ghost use Rattle.stl_ast.specs.declared.blocks.Block.{Block};
-ghost use Rattle.block_layout.specs.Rule43.{
-  contains_itself,
-  if_some,
-  leads_to,
-  rule_43,
-  used_by,
-  uses_of,
-};
-ghost use Rattle.plc_base.specs.Least.{least};
+ghost use Rattle.block_layout.specs.Rule43.{contains_itself, if_some, leads_to, used_by};
 ghost use Rattle.block_layout.specs.Cycles.{spread, uses_of_all, with_mark, with_marks};
 
 use crate::types::Types;
-use plc_base::{BlockKind, Refusal, broken_if, lesser};
+use plc_base::BlockKind;
 use std::alloc::{AllocError, Global};
 use stl_ast::{Block, Declaration, ElementType};
 
@@ -172,19 +164,4 @@ pub(crate) fn cycles(
         flags.push(flag)?;
     }
     Ok(flags)
-}
-
-/// The least refusal by rule 43, where it is known of each block whether it is a data type that
-/// contains itself.
-#[tactic(auto, unfolding(crate::specs::Rule43::rule_43))]
-pub(crate) fn least_in_itself(in_itself: &[bool], blocks: &[Block]) -> Option<Refusal>
-    ensures { (y : Types) → in_itself.now ≡ flagged (contains_itself y blocks.now) [] blocks.now
-        → result ≡ least (rule_43 y blocks.now) }
-{
-    let mut found = None;
-    for (place, block) in blocks.iter().enumerate() {
-        let contains = flag_at(in_itself, place);
-        found = lesser(found, broken_if(contains, block.line, 43));
-    }
-    found
 }

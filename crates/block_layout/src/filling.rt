@@ -28,7 +28,7 @@ use crate::paths::Path;
 use crate::routes::{elementary_at, structure_of, walk_data};
 use crate::sizes::{array_bits, stepped};
 use crate::starts::{begun, element_starts, filled_starts, preset_values};
-use crate::walks::{Walk, layout_at};
+use crate::walks::{PathEnd, layout_at};
 use std::alloc::{AllocError, Global};
 use stl_ast::{Block, Setting, Simple};
 
@@ -217,7 +217,7 @@ fn put_setting(
 {
     let path = Path::new(alloc, setting.path.as_slice())?;
     match walk_data(layouts, block, path.steps()) {
-        Walk::Reaches { spot } => {
+        PathEnd::Reaches { spot } => {
             if let Some(kind) = elementary_at(layouts, spot) {
                 put(bytes, kind, spot.offset, bits_of(&setting.value));
             }

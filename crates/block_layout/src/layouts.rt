@@ -19,8 +19,8 @@ ghost use Rattle.block_layout.specs.Scopes.{AreScopes, EndParameters, HaveParame
 ghost use Rattle.block_layout.specs.declared.cells.Cell.{Cell};
 
 use crate::cells::Cell;
-use crate::heads::is_parameter;
-use crate::members::{Member, Scope, find, members};
+use crate::members::{Member, NameList, find, members};
+use crate::rules::rule_52::is_parameter;
 use crate::sizes::{elements, structure_bits};
 use std::alloc::{AllocError, Global};
 use std::marker::Model;
@@ -30,8 +30,8 @@ use std::marker::Model;
 pub struct Layout {
     cells: Vec<Cell>,
     elements: Vec<u64>,
-    outer: Scope,
-    scopes: Vec<Scope>,
+    outer: NameList,
+    scopes: Vec<NameList>,
     bits: u64,
     parameters: usize,
 }
@@ -71,20 +71,20 @@ fn scope_of(
     cell: &Cell,
     behind: &[Cell],
     elements: &[u64],
-) -> Result<Scope, AllocError>
+) -> Result<NameList, AllocError>
     requires { elements.now ≡ elements_of behind.now }
     ensures { IfOk result (λ s. cell.now.sound ≡ true → IsScope cell.now behind.now s) }
 {
     if cell.sound {
         members(alloc, behind, elements, cell.level as u64 + 1)
     } else {
-        Ok(Scope::new(alloc))
+        Ok(NameList::new(alloc))
     }
 }
 
 /// The components of each sound cell.
 #[tactic(auto, using(crate::proofs::ScopeLemmas::behind_elements, crate::proofs::ScopeLemmas::scopes_next))]
-fn scopes(alloc: Global, cells: &[Cell], elements: &[u64]) -> Result<Vec<Scope>, AllocError>
+fn scopes(alloc: Global, cells: &[Cell], elements: &[u64]) -> Result<Vec<NameList>, AllocError>
     requires { elements.now ≡ elements_of cells.now }
     ensures count { IfOk result (λ v. length v.items ≡ length cells.now) }
     ensures scopes { IfOk result (λ v. AreScopes cells.now v.items) }

@@ -20,7 +20,7 @@ use crate::laying::Layouts;
 use crate::paths::Path;
 use crate::routes::{elementary_at, has_component, if_whole, walk_data, walk_local, whole_at};
 use crate::types::named_block;
-use crate::walks::{Spot, Walk, layout_at};
+use crate::walks::{ComponentAt, PathEnd, layout_at};
 use plc_base::BlockKind;
 use stl_ast::{BlockName, Simple};
 use stl_symbols::Symbols;
@@ -75,7 +75,7 @@ impl Layouts {
     }
 
     /// The declaration at a spot.
-    pub fn cell_at(&self, spot: Spot) -> Option<&Cell>
+    pub fn cell_at(&self, spot: ComponentAt) -> Option<&Cell>
         ensures { option_copied result
             ≡ slice_get (cells_at self.now spot.block spot.temporary) spot.place }
     {
@@ -84,7 +84,7 @@ impl Layouts {
     }
 
     /// The elementary type at a spot; none where an array or a structure is there.
-    pub fn elementary_at(&self, spot: Spot) -> Option<Simple>
+    pub fn elementary_at(&self, spot: ComponentAt) -> Option<Simple>
         ensures { result ≡ elementary_at self.now spot }
     {
         elementary_at(self.list(), spot)
@@ -99,14 +99,14 @@ impl Layouts {
 
     /// Where a path in the body of a block leads, into its own variables: a name in upper case, and
     /// the steps behind it.
-    pub fn walk_local(&self, block: usize, name: &[u8], path: &Path) -> Walk
+    pub fn walk_local(&self, block: usize, name: &[u8], path: &Path) -> PathEnd
         ensures { result ≡ walked_local self.now block name.now path.now }
     {
         walk_local(self.list(), block, name, path.steps())
     }
 
     /// Where a path into a data block leads.
-    pub fn walk_data(&self, block: usize, path: &Path) -> Walk
+    pub fn walk_data(&self, block: usize, path: &Path) -> PathEnd
         ensures { result ≡ walked_data self.now block path.now }
     {
         walk_data(self.list(), block, path.steps())

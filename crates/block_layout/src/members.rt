@@ -28,18 +28,18 @@ pub struct Member {
 
 /// The components of a structure, and their names in the same order.
 #[derive(Drop)]
-pub struct Scope {
+pub struct NameList {
     pub names: Names,
     pub members: Vec<Member>,
 }
 
-impl Scope {
+impl NameList {
     /// No components.
     pub(crate) fn new(alloc: Global) -> Self
         ensures names { result.names ≡ [] }
         ensures members { result.members.items ≡ [] }
     {
-        Scope {
+        NameList {
             names: Names::new(alloc),
             members: Vec::new(alloc),
         }
@@ -73,12 +73,12 @@ pub(crate) fn members(
     cells: &[Cell],
     elements: &[u64],
     level: u64,
-) -> Result<Scope, AllocError>
+) -> Result<NameList, AllocError>
     requires { elements.now ≡ elements_of cells.now }
     ensures names { IfOk result (λ s. s.names ≡ names_of level cells.now) }
     ensures members { IfOk result (λ s. s.members.items ≡ members_of level 0 0 cells.now) }
 {
-    let mut scope = Scope::new(alloc);
+    let mut scope = NameList::new(alloc);
     let mut at = 0;
     for i in 0..cells.len() {
         let cell = &cells[i];
@@ -111,7 +111,7 @@ fn member_at(members: &[Member], place: usize) -> Option<Member>
 }
 
 /// The component of this name.
-pub(crate) fn find(scope: &Scope, name: &[u8], cells: &[Cell], level: u64) -> Option<Member>
+pub(crate) fn find(scope: &NameList, name: &[u8], cells: &[Cell], level: u64) -> Option<Member>
     requires names { scope.now.names ≡ names_of level cells.now }
     requires members { scope.now.members.items ≡ members_of level 0 0 cells.now }
     ensures value { result ≡ component level 0 0 name.now cells.now }

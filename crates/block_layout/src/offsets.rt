@@ -7,7 +7,7 @@ ghost use Rattle.block_layout.specs.Paths.{if_whole};
 use crate::beyond::{leaves_from, leaves_judged};
 use crate::blocks::{BlockLayout, Section};
 use crate::routes::{elementary_at, if_whole, structure_of, walk_data};
-use crate::walks::{Walk, walk_from};
+use crate::walks::{PathEnd, walk_from};
 use plc_base::{Area, BlockId, Place, Width};
 use stl_ast::{PathStep, Simple};
 
@@ -42,11 +42,16 @@ pub fn placed(area: Area, number: u16, bits: u64, kind: Simple) -> Option<(Place
     }
 }
 
-fn reached(layouts: &[BlockLayout], area: Area, number: u16, walk: Walk) -> Option<(Place, Width)>
+fn reached(
+    layouts: &[BlockLayout],
+    area: Area,
+    number: u16,
+    walk: PathEnd,
+) -> Option<(Place, Width)>
     ensures { result ≡ reached layouts.now area number walk }
 {
     match walk {
-        Walk::Reaches { spot } => {
+        PathEnd::Reaches { spot } => {
             let kind = elementary_at(layouts, spot)?;
             placed(area, number, spot.offset, kind)
         }

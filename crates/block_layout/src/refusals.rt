@@ -9,15 +9,19 @@ ghost use Rattle.block_layout.specs.Table.{refusals_by};
 
 use crate::blocks::BlockLayout;
 use crate::building::Facts;
-use crate::cycles::least_in_itself;
-use crate::excess::{least_exceeding, least_too_long, least_too_much_local};
-use crate::heads::{
-    least_block_twice, least_data_block_too_many, least_too_many_parameters,
-    least_too_many_statements, least_wrong_number,
-};
-use crate::outside::{least_outside, least_unfit};
+use crate::rules::rule_22::least_block_twice;
+use crate::rules::rule_23::least_unknown;
+use crate::rules::rule_41::least_unfit;
+use crate::rules::rule_42::least_outside;
+use crate::rules::rule_43::least_in_itself;
+use crate::rules::rule_44::least_wrong_number;
+use crate::rules::rule_50::least_too_much_local;
+use crate::rules::rule_51::least_too_long;
+use crate::rules::rule_52::least_too_many_parameters;
+use crate::rules::rule_53::least_data_block_too_many;
+use crate::rules::rule_54::least_exceeding;
+use crate::rules::rule_55::least_too_many_statements;
 use crate::types::Types;
-use crate::unknown::least_unknown;
 use plc_base::{Refusal, least_of};
 use std::alloc::{AllocError, Global};
 use stl_ast::Block;

@@ -23,7 +23,7 @@ ghost use Rattle.block_layout.specs.Paths.{
 
 use crate::blocks::{BlockLayout, Shape};
 use crate::cells::{Cell, Element};
-use crate::walks::{Spot, Walk, is_used_up, layout_at, outermost, walk_from, walk_on};
+use crate::walks::{ComponentAt, PathEnd, is_used_up, layout_at, outermost, walk_from, walk_on};
 use stl_ast::{PathStep, Simple};
 
 /// The block at this place in the source, where it breaks no rule as a whole.
@@ -71,19 +71,19 @@ pub(crate) fn setting_structure(layouts: &[BlockLayout], block: usize) -> Option
     shape_block(layouts, block, found.shape)
 }
 
-fn walk_or_rest(layouts: &[BlockLayout], structure: Option<usize>, path: &[PathStep]) -> Walk
+fn walk_or_rest(layouts: &[BlockLayout], structure: Option<usize>, path: &[PathStep]) -> PathEnd
     ensures value { result ≡ walked_or_rests layouts.now structure path.now }
     ensures near { OffsetIsNear result }
 {
     match structure {
-        None => Walk::Rests,
+        None => PathEnd::Rests,
         Some(block) => walk_from(layouts, block, false, path),
     }
 }
 
 /// Where the target of a setting leads.
 #[tactic(auto, unfolding(crate::specs::Paths::walked_setting))]
-pub(crate) fn walk_setting(layouts: &[BlockLayout], block: usize, path: &[PathStep]) -> Walk
+pub(crate) fn walk_setting(layouts: &[BlockLayout], block: usize, path: &[PathStep]) -> PathEnd
     ensures value { result ≡ walked_setting layouts.now block path.now }
     ensures near { OffsetIsNear result }
 {
@@ -92,7 +92,7 @@ pub(crate) fn walk_setting(layouts: &[BlockLayout], block: usize, path: &[PathSt
 
 /// Where a path into a data block leads.
 #[tactic(auto, unfolding(crate::specs::Paths::walked_data))]
-pub(crate) fn walk_data(layouts: &[BlockLayout], block: usize, path: &[PathStep]) -> Walk
+pub(crate) fn walk_data(layouts: &[BlockLayout], block: usize, path: &[PathStep]) -> PathEnd
     ensures value { result ≡ walked_data layouts.now block path.now }
     ensures near { OffsetIsNear result }
 {
@@ -111,7 +111,7 @@ pub(crate) fn has_component(layouts: &[BlockLayout], block: usize, name: &[u8]) 
 
 /// Where a name leads in the sections of a block, of which VAR_TEMP is the last.
 #[tactic(auto, using(crate::proofs::WalkLemmas::outermost_reaches))]
-pub(crate) fn in_sections(layouts: &[BlockLayout], block: usize, name: &[u8]) -> Walk
+pub(crate) fn in_sections(layouts: &[BlockLayout], block: usize, name: &[u8]) -> PathEnd
     ensures value { result ≡ in_sections layouts.now block name.now }
     ensures near { OffsetIsNear result }
     ensures sound { ReachesSound layouts.now result }
@@ -127,12 +127,12 @@ pub(crate) fn walk_local(
     block: usize,
     name: &[u8],
     path: &[PathStep],
-) -> Walk
+) -> PathEnd
     ensures value { result ≡ walked_local layouts.now block name.now path.now }
     ensures near { OffsetIsNear result }
 {
     if whole_at(layouts, block).is_none() {
-        return Walk::Rests;
+        return PathEnd::Rests;
     }
     let found = in_sections(layouts, block, name);
     walk_on(layouts, found, path)
@@ -147,7 +147,7 @@ fn plain_kind(of: Element) -> Option<Simple>
     }
 }
 
-fn kind_of(spot: Spot, cell: &Cell) -> Option<Simple>
+fn kind_of(spot: ComponentAt, cell: &Cell) -> Option<Simple>
     ensures { result ≡ kind_of spot (Some cell.now) }
 {
     if is_used_up(cell, spot.depth) {
@@ -158,7 +158,7 @@ fn kind_of(spot: Spot, cell: &Cell) -> Option<Simple>
 }
 
 /// The elementary type of the component that a path reaches.
-pub(crate) fn elementary_at(layouts: &[BlockLayout], spot: Spot) -> Option<Simple>
+pub(crate) fn elementary_at(layouts: &[BlockLayout], spot: ComponentAt) -> Option<Simple>
     ensures { result ≡ elementary_at layouts.now spot }
 {
     let layout = layout_at(layouts, spot.block, spot.temporary)?;

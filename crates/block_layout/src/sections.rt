@@ -21,8 +21,10 @@ ghost use Rattle.block_layout.specs.Verdicts.{
 
 use crate::cells::{Cell, Element};
 use crate::making::add_cells;
+use crate::rules::rule_21::least_twice;
+use crate::rules::rule_56::least_deep;
 use crate::types::Types;
-use crate::verdicts::{Frame, Verdict, judge_all, least_deep, least_twice};
+use crate::verdicts::{Frame, Verdict, judge_all};
 use plc_base::{Refusal, lesser};
 use std::alloc::{AllocError, Global};
 use stl_ast::{Block, Name, Part, PartKind, Sequence, Simple};

@@ -1,45 +1,23 @@
 ghost use Rattle.std.specs.Prelude.{◌≡◌, IfOk};
 ghost use Rattle.plc_base.specs.Least.{broken_if, least};
 ghost use Rattle.block_layout.specs.SettingFaults.{rule_of, setting_breaks};
-ghost use Rattle.block_layout.specs.Paths.{folded_path, walked_setting};
-ghost use Rattle.block_layout.specs.Rule41.{fits_kind, misfits, setting_misfits};
-ghost use Rattle.block_layout.specs.Rule42.{setting_is_outside};
+ghost use Rattle.block_layout.specs.Paths.{folded_path};
 ghost use Rattle.block_layout.specs.Settings.{in_settings, on_settings};
 
 use crate::beyond::leaves_judged;
 use crate::blocks::BlockLayout;
-use crate::constants::fits;
 use crate::paths::Path;
-use crate::routes::{elementary_at, setting_structure, walk_setting};
-use crate::walks::Walk;
+use crate::routes::{setting_structure, walk_setting};
+use crate::rules::rule_41::misfits;
 use plc_base::{Refusal, broken_if, lesser, try_least_of};
 use std::alloc::{AllocError, Global};
-use stl_ast::{Block, Literal, Setting, Simple};
+use stl_ast::{Block, Setting};
 
 /// What a setting can break: its value doesn't fit, or an index is outside its array.
 #[derive(Clone, Copy, Debug, PartialEq, Eq)]
 pub(crate) enum SettingFault {
     UnfitValue,
     OutsideIndex,
-}
-
-fn fits_kind(value: &Literal, kind: Option<Simple>) -> bool
-    ensures { result ≡ fits_kind value.now kind }
-{
-    match kind {
-        None => false,
-        Some(kind) => fits(value, kind),
-    }
-}
-
-/// Whether the value doesn't fit what a path leads to.
-fn misfits(layouts: &[BlockLayout], value: &Literal, target: Walk) -> bool
-    ensures { result ≡ misfits layouts.now value.now target }
-{
-    match target {
-        Walk::Reaches { spot } => !fits_kind(value, elementary_at(layouts, spot)),
-        _ => false,
-    }
 }
 
 fn breaks(

@@ -1,37 +1,13 @@
-ghost use Rattle.std.specs.Prelude.{
-  ◌≡◌,
-  ◌<◌,
-  ◌≤◌,
-  List,
-  length,
-  get_or,
-  [],
-  ◌++◌,
-  IfOk,
-  not,
-  ◌&&◌,
-};
+ghost use Rattle.std.specs.Prelude.{◌≡◌, ◌<◌, List, length, get_or, IfOk, not, ◌&&◌};
 ghost use Rattle.stl_ast.specs.Outline.{IsOutline};
 ghost use Rattle.stl_ast.specs.declared.declarations.Declaration.{Declaration};
 ghost use Rattle.plc_base.specs.Folding.{folded};
-ghost use Rattle.plc_base.specs.Least.{least};
-ghost use Rattle.block_layout.specs.Around.{Outside, onto};
+ghost use Rattle.block_layout.specs.Around.{Outside};
 ghost use Rattle.block_layout.specs.declared.verdicts.Frame.{Frame};
-ghost use Rattle.block_layout.specs.Verdicts.{
-  AreOpen,
-  JudgedOnto,
-  breaks_in,
-  by_verdicts,
-  deep_by,
-  entered_by,
-  is_deep_in,
-  twice_by,
-  verdict_in,
-};
+ghost use Rattle.block_layout.specs.Verdicts.{AreOpen, JudgedOnto, entered_by, verdict_in};
 
 use crate::declarations::{breaks_alone, deep, own_depth, uses_oversized};
 use crate::types::Types;
-use plc_base::{Refusal, broken_if, lesser};
 use std::alloc::{AllocError, Global};
 use stl_ast::Declaration;
 use stl_symbols::Names;
@@ -137,32 +113,4 @@ pub(crate) fn judge_all(
         verdicts.push(verdict)?;
     }
     Ok(verdicts)
-}
-
-/// The least refusal of declarations by names that stand twice.
-#[tactic(auto, using(crate::proofs::CellLemmas::by_verdicts_next, crate::proofs::CellLemmas::by_verdicts_done))]
-pub(crate) fn least_twice(declarations: &[Declaration], verdicts: &[Verdict]) -> Option<Refusal>
-    requires { length verdicts.now ≡ length declarations.now }
-    ensures { result ≡ least (by_verdicts twice_by verdicts.now declarations.now) }
-{
-    let mut found = None;
-    for i in 0..declarations.len() {
-        let one = broken_if(verdicts[i].twice, declarations[i].line, 21);
-        found = lesser(found, one);
-    }
-    found
-}
-
-/// The least refusal of declarations by types that are nested too deep.
-#[tactic(auto, using(crate::proofs::CellLemmas::by_verdicts_next, crate::proofs::CellLemmas::by_verdicts_done))]
-pub(crate) fn least_deep(declarations: &[Declaration], verdicts: &[Verdict]) -> Option<Refusal>
-    requires { length verdicts.now ≡ length declarations.now }
-    ensures { result ≡ least (by_verdicts deep_by verdicts.now declarations.now) }
-{
-    let mut found = None;
-    for i in 0..declarations.len() {
-        let one = broken_if(verdicts[i].deep, declarations[i].line, 56);
-        found = lesser(found, one);
-    }
-    found
 }

@@ -50,7 +50,7 @@ use stl_ast::{Bounds, PathStep};
 /// its place among the cells there, how many of its bounds the path has used, and its offset in
 /// bits from the start of the whole.
 #[derive(Clone, Copy, Debug, PartialEq, Eq)]
-pub struct Spot {
+pub struct ComponentAt {
     pub block: usize,
     pub temporary: bool,
     pub place: usize,
@@ -62,8 +62,8 @@ pub struct Spot {
 /// declaration or a block that breaks a rule itself. An index outside its array leads on as the first
 /// element does.
 #[derive(Clone, Copy, Debug, PartialEq, Eq)]
-pub enum Walk {
-    Reaches { spot: Spot },
+pub enum PathEnd {
+    Reaches { spot: ComponentAt },
     Unknown,
     Rests,
 }
@@ -82,17 +82,17 @@ pub(crate) fn layout_at(layouts: &[BlockLayout], block: usize, temporary: bool) 
 }
 
 /// The component at a place of a block.
-fn entered(layout: &Layout, block: usize, temporary: bool, place: usize, offset: u64) -> Walk
+fn entered(layout: &Layout, block: usize, temporary: bool, place: usize, offset: u64) -> PathEnd
     requires { offset ≤ largest }
     ensures value { result ≡ entered block temporary place offset (slice_get layout.now place) }
     ensures near { OffsetIsNear result }
 {
     match layout.cell_at(place) {
-        None => Walk::Unknown,
+        None => PathEnd::Unknown,
         Some(cell) => {
             if cell.sound {
-                Walk::Reaches {
-                    spot: Spot {
+                PathEnd::Reaches {
+                    spot: ComponentAt {
                         block,
                         temporary,
                         place,
@@ -101,7 +101,7 @@ fn entered(layout: &Layout, block: usize, temporary: bool, place: usize, offset:
                     },
                 }
             } else {
-                Walk::Rests
+                PathEnd::Rests
             }
         }
     }
@@ -114,14 +114,14 @@ fn found_at(
     first: usize,
     offset: u64,
     found: Option<Member>,
-) -> Walk
+) -> PathEnd
     requires near { offset ≤ largest }
     requires within { IfSome found (λ m. first + m.place < 2 ^ 64) }
     ensures value { result ≡ found_at layout.now block temporary first offset found }
     ensures near { OffsetIsNear result }
 {
     match found {
-        None => Walk::Unknown,
+        None => PathEnd::Unknown,
         Some(member) => entered(
             layout,
             block,
@@ -140,13 +140,13 @@ pub(crate) fn outermost(
     temporary: bool,
     offset: u64,
     name: &[u8],
-) -> Walk
+) -> PathEnd
     requires { offset ≤ largest }
     ensures value { result ≡ outermost layouts.now block temporary offset name.now }
     ensures near { OffsetIsNear result }
 {
     match layout_at(layouts, block, temporary) {
-        None => Walk::Unknown,
+        None => PathEnd::Unknown,
         Some(layout) => {
             let found = layout.outermost(name);
             found_at(layout, block, temporary, 0, offset, found)
@@ -161,7 +161,13 @@ pub(crate) fn is_used_up(cell: &Cell, depth: usize) -> bool
 }
 
 /// A name behind a component.
-fn named_in(layouts: &[BlockLayout], layout: &Layout, spot: Spot, name: &[u8], cell: &Cell) -> Walk
+fn named_in(
+    layouts: &[BlockLayout],
+    layout: &Layout,
+    spot: ComponentAt,
+    name: &[u8],
+    cell: &Cell,
+) -> PathEnd
     requires offset { spot.offset ≤ largest }
     requires layout { layout.now ≡ cells_at layouts.now spot.block spot.temporary }
     requires cell { slice_get layout.now spot.place ≡ Some cell.now }
@@ -183,26 +189,26 @@ fn named_in(layouts: &[BlockLayout], layout: &Layout, spot: Spot, name: &[u8], c
             )
         }
         Element::Udt { block, .. } => outermost(layouts, block, false, spot.offset, name),
-        _ => Walk::Unknown,
+        _ => PathEnd::Unknown,
     }
 }
 
 /// A step by name.
 #[tactic(auto, unfolding(crate::specs::Paths::named))]
-fn named(layouts: &[BlockLayout], spot: Spot, name: &[u8]) -> Walk
+fn named(layouts: &[BlockLayout], spot: ComponentAt, name: &[u8]) -> PathEnd
     requires offset { spot.offset ≤ largest }
     requires sound { IsSoundAt layouts.now spot }
     ensures value { result ≡ named layouts.now spot name.now }
     ensures near { OffsetIsNear result }
 {
     let Some(layout) = layout_at(layouts, spot.block, spot.temporary) else {
-        return Walk::Unknown;
+        return PathEnd::Unknown;
     };
     let Some(cell) = layout.cell_at(spot.place) else {
-        return Walk::Unknown;
+        return PathEnd::Unknown;
     };
     if !is_used_up(cell, spot.depth) {
-        return Walk::Unknown;
+        return PathEnd::Unknown;
     }
     named_in(layouts, layout, spot, name, cell)
 }
@@ -226,21 +232,21 @@ pub(crate) fn bounds_behind(bounds: &[Bounds], depth: usize) -> &[Bounds]
 }
 
 /// An index behind a component of a block.
-fn indexed_in(layout: &Layout, spot: Spot, at: i32) -> Walk
+fn indexed_in(layout: &Layout, spot: ComponentAt, at: i32) -> PathEnd
     requires { spot.offset ≤ largest }
     ensures value { result
         ≡ indexed_behind spot layout.now at (slice_get layout.now spot.place) }
     ensures near { OffsetIsNear result }
 {
     let Some(cell) = layout.cell_at(spot.place) else {
-        return Walk::Unknown;
+        return PathEnd::Unknown;
     };
     let Some(bounds) = bounds_at(cell.bounds.as_slice(), spot.depth) else {
-        return Walk::Unknown;
+        return PathEnd::Unknown;
     };
     if at < bounds.low || bounds.high < at {
-        return Walk::Reaches {
-            spot: Spot {
+        return PathEnd::Reaches {
+            spot: ComponentAt {
                 depth: spot.depth + 1,
                 ..spot
             },
@@ -249,8 +255,8 @@ fn indexed_in(layout: &Layout, spot: Spot, at: i32) -> Walk
     let element = layout.element_at(spot.place);
     let inner = array_bits(bounds_behind(cell.bounds.as_slice(), spot.depth), element);
     let gone = at.abs_diff(bounds.low) as u64 * inner;
-    Walk::Reaches {
-        spot: Spot {
+    PathEnd::Reaches {
+        spot: ComponentAt {
             block: spot.block,
             temporary: spot.temporary,
             place: spot.place,
@@ -262,20 +268,20 @@ fn indexed_in(layout: &Layout, spot: Spot, at: i32) -> Walk
 
 /// A step by index.
 #[tactic(auto, unfolding(crate::specs::Paths::indexed))]
-fn indexed(layouts: &[BlockLayout], spot: Spot, at: i32) -> Walk
+fn indexed(layouts: &[BlockLayout], spot: ComponentAt, at: i32) -> PathEnd
     requires { spot.offset ≤ largest }
     ensures value { result ≡ indexed layouts.now spot at }
     ensures near { OffsetIsNear result }
 {
     match layout_at(layouts, spot.block, spot.temporary) {
-        None => Walk::Unknown,
+        None => PathEnd::Unknown,
         Some(layout) => indexed_in(layout, spot, at),
     }
 }
 
 /// A step.
 #[tactic(auto, unfolding(crate::specs::Paths::step_of))]
-pub(crate) fn step(layouts: &[BlockLayout], spot: Spot, step: &PathStep) -> Walk
+pub(crate) fn step(layouts: &[BlockLayout], spot: ComponentAt, step: &PathStep) -> PathEnd
     requires offset { spot.offset ≤ largest }
     requires sound { IsSoundAt layouts.now spot }
     ensures value { result ≡ step_of layouts.now spot step.now }
@@ -289,7 +295,7 @@ pub(crate) fn step(layouts: &[BlockLayout], spot: Spot, step: &PathStep) -> Walk
 
 /// Where a path leads from a sound component.
 #[tactic(auto, using(crate::proofs::WalkLemmas::step_sound))]
-fn walk_behind(layouts: &[BlockLayout], start: Spot, path: &[PathStep]) -> Walk
+fn walk_behind(layouts: &[BlockLayout], start: ComponentAt, path: &[PathStep]) -> PathEnd
     requires offset { start.offset ≤ largest }
     requires sound { IsSoundAt layouts.now start }
     ensures value { result ≡ walked layouts.now start path.now }
@@ -298,23 +304,23 @@ fn walk_behind(layouts: &[BlockLayout], start: Spot, path: &[PathStep]) -> Walk
     let mut spot = start;
     for next in path {
         match step(layouts, spot, next) {
-            Walk::Reaches { spot: reached } => spot = reached,
+            PathEnd::Reaches { spot: reached } => spot = reached,
             other => return other,
         }
     }
-    Walk::Reaches { spot }
+    PathEnd::Reaches { spot }
 }
 
 /// Where a path leads from a component that was looked up.
 #[tactic(auto, using(crate::proofs::WalkLemmas::goes_to))]
-pub(crate) fn walk_on(layouts: &[BlockLayout], found: Walk, path: &[PathStep]) -> Walk
+pub(crate) fn walk_on(layouts: &[BlockLayout], found: PathEnd, path: &[PathStep]) -> PathEnd
     requires near { OffsetIsNear found }
     requires sound { ReachesSound layouts.now found }
     ensures value { result ≡ goes_on found (λ spot. walked layouts.now spot path.now) }
     ensures near { OffsetIsNear result }
 {
     match found {
-        Walk::Reaches { spot } => walk_behind(layouts, spot, path),
+        PathEnd::Reaches { spot } => walk_behind(layouts, spot, path),
         other => other,
     }
 }
@@ -326,7 +332,7 @@ pub(crate) fn walk_from(
     block: usize,
     temporary: bool,
     path: &[PathStep],
-) -> Walk
+) -> PathEnd
     ensures value { result ≡ walked_from layouts.now block temporary path.now }
     ensures near { OffsetIsNear result }
 {
@@ -335,6 +341,6 @@ pub(crate) fn walk_from(
             let found = outermost(layouts, block, temporary, 0, name.as_bytes());
             walk_on(layouts, found, behind)
         }
-        _ => Walk::Unknown,
+        _ => PathEnd::Unknown,
     }
 }

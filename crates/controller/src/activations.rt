@@ -20,7 +20,7 @@ use crate::errors::failure;
 use crate::serving::{Answer, serve};
 use crate::spots::spot_at;
 use arrayvec::ArrayVec;
-use frames::{Activation, Binding, Frame};
+use frames::{Activation, Binding, Bindings, Frame};
 use image_file::Loaded;
 use machine::{Inputs, Outcome, give_result, quiet_statements, statement};
 use ob_sched::{Sched, StartInfo};
@@ -46,11 +46,13 @@ pub(crate) struct Stand {
 
 /// The running activation and those that it and others interrupted. A contract sees them as a list
 /// from the running one down. They stay where they are: behind those that stand are such as have ended,
-/// and the next one begins in the place of one of them.
+/// and the next one begins in the place of one of them. Beside them is room for what the parameters of a
+/// call stand for: to make it new for each call would write all sixty.
 #[derive(Drop)]
 pub(crate) struct Activations {
     all: Vec<Activation>,
     standing: usize,
+    spare: Bindings,
 }
 
 impl Model for Activations {
@@ -145,7 +147,11 @@ impl Activations {
         ensures { IfOk result (λ a. a ≡ []) }
     {
         let all = Vec::with_capacity(alloc, ACTIVATIONS)?;
-        Ok(Activations { all, standing: 0 })
+        Ok(Activations {
+            all,
+            standing: 0,
+            spare: Bindings::new(),
+        })
     }
 
     /// Ends all activations.
@@ -345,7 +351,7 @@ impl Activations {
             return 0;
         };
         let running = &mut self.all.as_mut_slice()[place];
-        quiet_statements(program, m, t, n, running, most)
+        quiet_statements(program, m, t, n, running, most, &mut self.spare)
     }
 
     /// The running activation calls a system function, whose result goes where it is bound. The

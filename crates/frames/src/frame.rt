@@ -47,6 +47,18 @@ impl Default for Frame {
     }
 }
 
+// Brackets become the same as others. Mostly there are none on either side.
+#[inline(always)]
+#[tactic(auto, using(crate::proofs::Nothing::none_there, crate::proofs::Nothing::both_none))]
+fn copy_brackets(into: &mut Brackets, from: &Brackets)
+    ensures { into.new ≡ from.now }
+{
+    if into.is_empty() && from.is_empty() {
+        return;
+    }
+    *into = from.copied();
+}
+
 impl Frame {
     /// Becomes the frame of a block at its first statement, with so many local bytes.
     pub fn begin(&mut self, block: BlockId, local_len: u16)
@@ -72,8 +84,8 @@ impl Frame {
         self.db = other.db;
         self.di = other.di;
         self.instance = other.instance;
-        self.brackets = other.brackets.copied();
-        self.relay = other.relay.copied();
+        copy_brackets(&mut self.brackets, &other.brackets);
+        self.relay.copy_from(&other.relay);
         self.local_len = other.local_len;
         self.bindings.copy_from(&other.bindings);
     }

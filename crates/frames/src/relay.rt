@@ -50,6 +50,19 @@ impl Zones {
         Zones { values }
     }
 
+    // Becomes the same as others. Mostly there are none.
+    #[inline(always)]
+    #[tactic(auto, using(crate::proofs::Nothing::none_there))]
+    fn copy_from(&mut self, other: &Zones)
+        ensures { self.new ≡ other.now }
+    {
+        if other.len() == 0 {
+            self.values.clear();
+        } else {
+            *self = other.copied();
+        }
+    }
+
     // The value of the last zone; 1 where none is open.
     #[tactic(auto, using(crate::proofs::ZoneLemmas::last_value, crate::proofs::ZoneLemmas::no_value))]
     fn value(&self) -> bool
@@ -89,6 +102,15 @@ impl Relay {
             active: self.active,
             zones: self.zones.copied(),
         }
+    }
+
+    /// Becomes the same as another one.
+    #[inline(always)]
+    pub(crate) fn copy_from(&mut self, other: &Relay)
+        ensures { self.new ≡ other.now }
+    {
+        self.active = other.active;
+        self.zones.copy_from(&other.zones);
     }
 
     /// `MCR(`: a zone opens, whose value is RLO and the value of the zone around it. False, with nothing

@@ -167,11 +167,13 @@ fault_is_one p f g a b = first_one (lens_judged p) (map record_of_block p.code_b
 -- ---- what was written is loaded
 
 pub given_back : (stamp : Stamp) (p : Program) (bytes : List ℕ) (result : Result LoadedProgram LoadError) → ((i : ℕ) → get_or bytes i 0 < 256) → IsProgram p → bytes ≡ image stamp p
-    → IfOk result (λ l. IsImageOf bytes l) → IfErr result (λ e. IsRefusedBy e (faults_of bytes)) → GivesBack p (profile_of stamp) result
+    → IfOk result (λ l. IsImageOf bytes l) → IfErr result (λ e. IsRefusedBy e (faults_of bytes)) → GivesBack p stamp result
 given_back stamp p bytes (Ok l) are program spelled ok err =
     let found = gives_image bytes ok.stamp l.program are ok.given in
     let same = image_one stamp ok.stamp p l.program program found.program (sym spelled ∙ found.spelled) in
     (sym same.1, ok.profile ∙ ap profile_of (sym same.0))
-given_back stamp p bytes (Err (error.Fault f)) are program spelled ok err = λ verifies.
-    (subst (IsLeast f) (image_gives bytes stamp p are (record { spelled = spelled; program = program; verifies = verifies })).clean err).one
+given_back stamp p bytes (Err (error.Fault f)) are program spelled ok err = (
+  (λ verifies. (subst (IsLeast f) (image_gives bytes stamp p are (record { spelled = spelled; program = program; verifies = verifies })).clean err).one),
+  subst (λ z. IsLeast f (faults_of z)) spelled err,
+)
 given_back stamp p bytes (Err error.NoMemory) are program spelled ok err = tt

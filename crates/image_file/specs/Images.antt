@@ -1,12 +1,13 @@
 -- Images that are loaded, and those that were just written.
 use Rattle.std.specs.Prelude.{◌≡◌, ℕ, List, Result, Ok, Err}
-use Rattle.plc_base.specs.declared.profiles.Profile.{Profile}
 use Rattle.flat_code.specs.declared.stamps.Stamp.{Stamp}
-use Rattle.flat_code.specs.Loading.{Gives, Verifies}
+use Rattle.flat_code.specs.Image.{image}
+use Rattle.flat_code.specs.Loading.{faults_of, Gives, Verifies}
 use Rattle.flat_code.specs.Programs.{Program}
 use Rattle.flat_code.specs.Stamps.{profile_of}
 use Rattle.image_file.specs.declared.refusing.LoadError.{LoadError}
 use Rattle.image_file.specs.declared.refusing.LoadError.TheVariants as error
+use Rattle.image_file.specs.Least.{IsLeast}
 use Rattle.image_file.specs.Loaded.{LoadedProgram}
 
 -- bytes are without fault and give a program; it has the profile that their version has or names
@@ -15,8 +16,9 @@ pub record IsImageOf (bytes : List ℕ) (l : LoadedProgram) : Type 0 where
   pub given : Gives bytes stamp l.program
   pub profile : l.profile ≡ profile_of stamp
 
--- the program again, with a profile, or it doesn't verify; nothing is said where memory is wanting
-abbrev pub GivesBack : Program → Profile → Result LoadedProgram LoadError → Type 0
-GivesBack p profile (Ok l) = (l.program ≡ p) × (l.profile ≡ profile)
-GivesBack p profile (Err (error.Fault f)) = Verifies p → ⊥
-GivesBack p profile (Err error.NoMemory) = Unit {0}
+-- the program again, with the profile of the image that was written; or the program doesn't verify, and the
+-- fault is the least one of that image; nothing is said where memory is wanting
+abbrev pub GivesBack : Program → Stamp → Result LoadedProgram LoadError → Type 0
+GivesBack p stamp (Ok l) = (l.program ≡ p) × (l.profile ≡ profile_of stamp)
+GivesBack p stamp (Err (error.Fault f)) = (Verifies p → ⊥) × IsLeast f (faults_of (image stamp p))
+GivesBack p stamp (Err error.NoMemory) = Unit {0}

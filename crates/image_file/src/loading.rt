@@ -1,11 +1,11 @@
 //! Bytes checked as an image: read in one pass, and then the ops of each block.
 ghost use Rattle.std.specs.Prelude.{ℕ, ◌≡◌, ◌++◌, ◌∷◌, [], ◌+◌, ◌<◌, ◌^◌, length, map, get_or, IfOk, IfErr, IsSome, None};
 ghost use Rattle.std.specs.Option.{option_map};
-ghost use Rattle.plc_base.specs.declared.profiles.Profile.TheVariants as profiles;
 ghost use Rattle.flat_code.specs.Blocks.{signature_of, block_faults};
 ghost use Rattle.flat_code.specs.Image.{IsProgram, read_image};
 ghost use Rattle.flat_code.specs.Loading.{lens_of, blocks_of, judged_blocks, faults_of, Verifies};
 ghost use Rattle.flat_code.specs.Stamps.{profile_of};
+ghost use Rattle.flat_code.specs.declared.stamps.Stamp.TheVariants as stamps;
 ghost use Rattle.image_file.specs.Images.{GivesBack, IsImageOf};
 ghost use Rattle.image_file.specs.Judging.{around_of};
 ghost use Rattle.image_file.specs.Least.{with_faults};
@@ -171,7 +171,8 @@ fn found_by(alloc: Global, reader: &mut Reader) -> Result<Option<FoundRead>, NoM
 
 /// The least of the faults so far and those of the ops of the blocks that were read.
 fn least_fault(alloc: Global, reader: &Reader) -> Result<Option<LoadFault>, NoMemory>
-    ensures { IfOk result (λ l. l ≡ with_faults reader.now.least (judged_read (log_of reader.now))) }
+    ensures { IfOk result
+        (λ l. l ≡ with_faults reader.now.least (judged_read (log_of reader.now))) }
 {
     let blocks = reader.blocks.as_slice();
     let signatures = signatures(alloc, blocks)?;
@@ -272,7 +273,7 @@ fn law_of_bytes(bytes: &[u8])
 
 /// A program that is written as its image of a version and profile, and loaded.
 fn load_stamped(alloc: Global, program: &Program, stamp: Stamp) -> Result<Loaded, LoadError>
-    ensures { GivesBack program.now (profile_of stamp) result }
+    ensures { GivesBack program.now stamp result }
 {
     law_of_program(program);
     let image = write_stamped(alloc, program, stamp)?;
@@ -285,9 +286,9 @@ fn load_stamped(alloc: Global, program: &Program, stamp: Stamp) -> Result<Loaded
 ///
 /// # Errors
 ///
-/// `Fault` exactly where it doesn't verify; `NoMemory`.
+/// `Fault` exactly where it doesn't verify, with the least fault of that image; `NoMemory`.
 pub fn load_written(alloc: Global, program: &Program) -> Result<Loaded, LoadError>
-    ensures { GivesBack program.now profiles.Small result }
+    ensures { GivesBack program.now stamps.One result }
 {
     load_stamped(alloc, program, Stamp::One)
 }
@@ -296,13 +297,13 @@ pub fn load_written(alloc: Global, program: &Program) -> Result<Loaded, LoadErro
 ///
 /// # Errors
 ///
-/// `Fault` exactly where it doesn't verify; `NoMemory`.
+/// `Fault` exactly where it doesn't verify, with the least fault of that image; `NoMemory`.
 pub fn load_written2(
     alloc: Global,
     program: &Program,
     profile: Profile,
 ) -> Result<Loaded, LoadError>
-    ensures { GivesBack program.now profile result }
+    ensures { GivesBack program.now (stamps.Two profile) result }
 {
     load_stamped(alloc, program, Stamp::Two(profile))
 }

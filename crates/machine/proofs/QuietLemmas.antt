@@ -1,8 +1,7 @@
 -- Statements one after another that leave the peripheral outputs as they are.
 use Rattle.std.specs.Option.{option_map}
-use Rattle.std.proofs.Common.{◌≡◌, ◌∙◌, ◌+◌, ◌<◌, ◌≤◌, ◌&&◌, ◌||◌, ℕ, zero, suc, length, is_ok, is_some, arith, Bool, true, false, List, [], ◌∷◌, Option, Some, None, Result, Ok, Err, refl, sym, ap, subst}
+use Rattle.std.proofs.Common.{◌≡◌, ◌∙◌, ◌+◌, ◌<◌, ◌≤◌, ℕ, zero, suc, length, is_ok, is_some, arith, Bool, true, false, List, [], ◌∷◌, Option, Some, None, Result, Ok, Err, refl, sym, ap, subst}
 use Rattle.plc_base.specs.declared.BlockId.{BlockId}
-use Rattle.plc_base.specs.declared.blocks.BlockKind.{BlockKind}
 use Rattle.plc_mem.specs.Areas.{Areas}
 use Rattle.timers_counters.specs.Timer.{Timer}
 use Rattle.timers_counters.specs.Counter.{Counter}
@@ -12,26 +11,22 @@ use Rattle.frames.specs.declared.bindings.Binding.{Binding}
 use Rattle.frames.specs.declared.frame.Frame.{Frame}
 use Rattle.frames.specs.declared.FrameFault.{FrameFault}
 use Rattle.frames.specs.declared.running.Running.{Running}
-use Rattle.flat_code.specs.Instr.{Instr, Does, Passing}
+use Rattle.flat_code.specs.Instr.{Instr, Passing}
 use Rattle.flat_code.specs.Ops.{OpData}
 use Rattle.flat_code.specs.Placed.{op_placed}
 use Rattle.flat_code.specs.Programs.{CodeBlock, Program}
 use Rattle.flat_code.specs.Operations.{operation_of}
 use Rattle.flat_code.specs.declared.operands.Operand.{Operand}
-use Rattle.flat_code.specs.declared.operands.Operand.TheVariants as operand
-use Rattle.flat_code.specs.declared.operations.CallOperation.{CallOperation}
 use Rattle.flat_code.specs.declared.operations.Operation.{Operation}
-use Rattle.flat_code.specs.declared.operations.Operation.TheVariants as operation
 use Rattle.flat_code.specs.declared.programs.Param.{Param}
 use Rattle.image_file.specs.Readers.{block_of}
 use Rattle.machine.specs.declared.outcomes.Outcome.TheVariants as outcome
 use Rattle.machine.specs.Code.{Code, Fetched}
 use Rattle.machine.specs.Entering.{Call, Fails, Stops, Enters, Callee, Calls, called_with, entered_if, supplied}
-use Rattle.flat_code.specs.Forms.{kind_of_code}
-use Rattle.machine.specs.Flat.{call_instr, code_of, instr_of, most_ops, run_at, statement_at}
+use Rattle.machine.specs.Flat.{code_of, instr_of, most_ops, run_at, statement_at}
 use Rattle.machine.specs.Outcomes.{Meets}
 use Rattle.machine.specs.Parts.{Parts, scene_of}
-use Rattle.machine.specs.Quiet.{GoesQuietly, GoesOrStays, RunsQuietly, StaysReady, goes_as, goes_on, has_caller as has_caller_of, is_of, is_quiet, is_quiet_across, is_quiet_inside}
+use Rattle.machine.specs.Quiet.{GoesQuietly, GoesOrStays, RunsQuietly, StaysReady, goes_as, goes_on, has_caller as has_caller_of, is_of, is_quiet}
 use Rattle.machine.specs.Returning.{Return, Returns, GoesOn, Ends, given_back, left, returning}
 use Rattle.machine.specs.Statement.{Comes, Goes, Step, Went, Ended, SyncError, SysCall, Stop, Stuck, World, after_call, after_return, fetched, performed, statement, went_on, world}
 use Rattle.machine.specs.Walking.{Passes, Walk, walk_with}
@@ -121,19 +116,6 @@ pub found_nowhere :
     → None ≡ option_map (walk_with None) (run_at most_ops b.code at) → Goes (fetched c (statement_at b at) a w)
     → GoesOrStays (fetched c (statement_at b at) a w) (is_of kind (statement_at b at) a) a a w w false
 found_nowhere b at c kind a w h there = absurd (fetched_nowhere b at c a w h there)
-
--- a call or a return is none of the instructions that stay in their block
-pub calls_leave :
-    (how : CallOperation) (operand : Operand) (opens : Option ℕ) (passings : List Passing) (next : ℕ) (ops : List OpData) (a : Activation)
-    → is_quiet_inside (instr_of (operation.Call how) operand opens passings next ops) a ≡ false
-calls_leave how (operand.Called kind number instance) opens passings next ops a = by (kind_of_code kind)
-  where
-    by : (found : Option BlockKind)
-        → is_quiet_inside (call_instr found how number instance passings
-        (Does opens (operation.Call how) (operand.Called kind number instance))) a ≡ false
-    by None = refl
-    by (Some found) = refl
-calls_leave how _ opens passings next ops a = refl
 
 -- ---- calls and returns
 
@@ -278,17 +260,17 @@ pub tried :
     (p : Program) (b : CodeBlock) (i : ℕ) (a c d : Activation) (w v u : World) (answer : Bool)
     → block_of a.running.frame.block p.code_blocks ≡ Some b → c.running.frame.block ≡ a.running.frame.block
     → StaysReady p a w → RunsQuietly (code_of p) i a c w v
-    → ((code : Code) → Goes (fetched code (statement_at b c.running.frame.at) c v)
-    → GoesOrStays (fetched code (statement_at b c.running.frame.at) c v)
-    (is_of is_quiet_inside (statement_at b c.running.frame.at) c) c d v u answer)
+    → (Goes (fetched (code_of p) (statement_at b c.running.frame.at) c v)
+    → GoesOrStays (fetched (code_of p) (statement_at b c.running.frame.at) c v)
+    (is_of is_quiet (statement_at b c.running.frame.at) c) c d v u answer)
     → GoesOrStays (statement (code_of p) c v)
-    (is_of is_quiet_inside ((code_of p).fetch c.running.frame.block c.running.frame.at) c) c d v u answer
+    (is_of is_quiet ((code_of p).fetch c.running.frame.block c.running.frame.at) c) c d v u answer
 tried p b i a c d w v u answer found same ready runs pass =
     let here : block_of c.running.frame.block p.code_blocks ≡ Some b =
     ap (λ (block : BlockId). block_of block p.code_blocks) same ∙ found in
     let is : statement (code_of p) c v ≡ fetched (code_of p) (statement_at b c.running.frame.at) c v = statement_in p b c v here in
     let there : Goes (statement (code_of p) c v) = (ready i c v runs).there v in
-    here_of p b c d v u answer is_quiet_inside here (pass (code_of p) (subst Goes is there))
+    here_of p b c d v u answer is_quiet here (pass (subst Goes is there))
 
 pub runs_next :
     (code : Code) (i : ℕ) (a c d : Activation) (w v u : World) (kind answer : Bool) → answer ≡ true
@@ -316,31 +298,6 @@ pub stops_nowhere :
     (p : Program) (kind : Instr → Activation → Bool) (a : Activation) (w : World)
     → block_of a.running.frame.block p.code_blocks ≡ None → goes_as kind (code_of p) a w ≡ false
 stops_nowhere p kind a w none = rw none refl
-
-either_kind : (i j goes : Bool) → (i && goes) ≡ false → (j && goes) ≡ false → ((i || j) && goes) ≡ false
-either_kind true j goes first second = first
-either_kind false j goes first second = second
-
-is_either :
-    (f : Option Fetched) (a : Activation) → is_of is_quiet f a ≡ (is_of is_quiet_inside f a || is_of is_quiet_across f a)
-is_either None a = refl
-is_either (Some f) a = refl
-
-pub stops_all :
-    (code : Code) (a : Activation) (w : World) → goes_as is_quiet_inside code a w ≡ false → goes_as is_quiet_across code a w ≡ false
-    → goes_as is_quiet code a w ≡ false
-stops_all code a w inside across =
-    ap (λ (kind : Bool). kind && goes_on (statement code a w)) (is_either (code.fetch a.running.frame.block a.running.frame.at) a)
-    ∙ either_kind (is_of is_quiet_inside (code.fetch a.running.frame.block a.running.frame.at) a)
-    (is_of is_quiet_across (code.fetch a.running.frame.block a.running.frame.at) a) (goes_on (statement code a w)) inside across
-
--- neither kind, at the same place
-pub stops_both :
-    (code : Code) (a b : Activation) (w v : World) (answer : Bool) → answer ≡ false
-    → GoesOrStays (statement code a w) (is_of is_quiet_across (code.fetch a.running.frame.block a.running.frame.at) a) a b w v answer
-    → goes_as is_quiet_inside code a w ≡ false → goes_as is_quiet code b v ≡ false
-stops_both code a b w v true is goes inside = absurd cc
-stops_both code a b w v false is goes inside = rw (goes.0, goes.1) (stops_all code a w inside goes.2)
 
 -- how many frames there are, and whether the innermost has a caller
 pub some_below :

@@ -14,6 +14,8 @@ use Rattle.flat_code.specs.declared.operands.Operand.TheVariants as operand
 use Rattle.flat_code.specs.declared.operations.Operation.{Operation}
 use Rattle.flat_code.specs.declared.operations.Operation.TheVariants as operation
 use Rattle.machine.specs.Code.{Code, Fetched}
+use Rattle.machine.specs.declared.quiet.Pass.{Pass}
+use Rattle.machine.specs.declared.quiet.Pass.TheVariants as pass
 use Rattle.machine.specs.Flat.{code_of}
 use Rattle.machine.specs.Lasting.{IsReady}
 use Rattle.machine.specs.Places.{is_peripheral}
@@ -89,31 +91,23 @@ moves (operation.Call how) = true
 moves (operation.End how) = true
 moves _ = false
 
--- an instruction that stays in its block and surely leaves the peripheral outputs as they are; a JL
--- is none of them
-abbrev pub is_quiet_inside : Instr → Activation → Bool
-is_quiet_inside (Does use_db w o) a = not (moves w) && keeps_outputs w o a.running.frame.bindings
-is_quiet_inside (Jumps w target) a = true
-is_quiet_inside _ a = false
-
 -- a frame below the innermost one, to which a return goes; the outermost block has none
 abbrev pub has_caller : List Frame → Bool
 has_caller [] = false
 has_caller (caller ∷ rest) = true
 
--- a call that is made of a function or function block, and a return that is made from a block without
--- an instance to its caller
-abbrev pub is_quiet_across : Instr → Activation → Bool
-is_quiet_across (Calls how block instance passings) a =
+-- the peripheral outputs surely stay as they are: an instruction that stays in its block and writes no
+-- peripheral place; a jump but JL; a call that is made of a function or function block; a return that
+-- is made from a block without an instance to its caller
+abbrev pub is_quiet : Instr → Activation → Bool
+is_quiet (Does use_db w o) a = not (moves w) && keeps_outputs w o a.running.frame.bindings
+is_quiet (Jumps w target) a = true
+is_quiet (Calls how block instance passings) a =
     is_called how a.running.regs.status.rlo && not (is_system_function block.kind)
-is_quiet_across (Returns how) a =
+is_quiet (Returns how) a =
     is_ended how a.running.regs.status.rlo && not (is_some a.running.frame.instance)
     && has_caller a.below
-is_quiet_across _ a = false
-
--- inside its block or across blocks: the peripheral outputs surely stay as they are
-abbrev pub is_quiet : Instr → Activation → Bool
-is_quiet i a = is_quiet_inside i a || is_quiet_across i a
+is_quiet _ a = false
 
 -- the statement has an instruction of a kind
 abbrev pub is_of : (Instr → Activation → Bool) → Option Fetched → Activation → Bool
@@ -131,3 +125,13 @@ abbrev pub GoesOrStays : Step → (kind : Bool) → (old new : Activation) (w af
 GoesOrStays step kind old new w after true = GoesQuietly step w new after
 GoesOrStays step kind old new w after false =
     (new ≡ old) × (after ≡ w) × ((kind && goes_on step) ≡ false)
+
+-- what came of a statement that was tried: whether it was executed
+abbrev pub has_passed : Pass → Bool
+has_passed pass.Not = false
+has_passed _ = true
+
+-- and whether its block is surely the running one still
+abbrev pub is_still_inside : Pass → Bool
+is_still_inside pass.Inside = true
+is_still_inside _ = false

@@ -6,21 +6,22 @@ ghost use Rattle.timers_counters.specs.Counter.{Counter};
 ghost use Rattle.frames.specs.Activations.{frames_of};
 ghost use Rattle.flat_code.specs.Instr.{Calls, Passing, Returns};
 ghost use Rattle.flat_code.specs.Ops.{OpData};
+ghost use Rattle.flat_code.specs.declared.operations.Operation.TheVariants as operation;
 ghost use Rattle.machine.specs.Code.{Code};
 ghost use Rattle.machine.specs.Does.{does_with as does_with_of};
 ghost use Rattle.machine.specs.Entering.{call};
 ghost use Rattle.machine.specs.Flat.{code_of, head_of, instr_of, jump_instr, most_ops, run_at, statement_at};
 ghost use Rattle.machine.specs.Lasting.{IsReady};
 ghost use Rattle.machine.specs.Parts.{parts_of};
-ghost use Rattle.machine.specs.Quiet.{GoesOrStays, RunsQuietly, StaysReady, goes_as, has_place_inside as has_place_inside_of, is_bound_inside as is_bound_inside_of, is_inside as is_inside_of, is_named_inside as is_named_inside_of, is_of, is_quiet, is_quiet_across, is_quiet_inside, keeps_outputs as keeps_outputs_of, may_write as may_write_of};
-ghost use Rattle.machine.specs.Statement.{Goes, World, after_call, callee_of, fetched, performed, statement as statement_of, went_on, world};
+ghost use Rattle.machine.specs.Quiet.{GoesOrStays, RunsQuietly, StaysReady, goes_as, has_passed, has_place_inside as has_place_inside_of, is_bound_inside as is_bound_inside_of, is_inside as is_inside_of, is_named_inside as is_named_inside_of, is_of, is_quiet, is_still_inside, keeps_outputs as keeps_outputs_of, may_write as may_write_of};
+ghost use Rattle.machine.specs.Statement.{Goes, World, after_call, callee_of, fetched, performed, went_on, world};
 ghost use Rattle.machine.specs.Walking.{Passes, walk_with};
 
 use crate::entering::{Callee, enter_if_room};
 use crate::performing::jump_to;
 use crate::returning::return_from_block;
 use crate::statements::{instance_named, is_called, is_ended, is_jl};
-use crate::walking::{bind_all, jump_of, opens_after, walk_from, walk_on};
+use crate::walking::{bind_all, jump_of, opens_after, walk_on};
 use crate::whole::does_with;
 use flat_code::{CallOperation, EndOperation, JumpOperation, Operand, Operation, kind_of_code};
 use frames::{Activation, Binding, Bindings, Running};
@@ -28,6 +29,15 @@ use image_file::{Loaded, LoadedCode};
 use plc_base::{Area, BlockId};
 use plc_mem::Memory;
 use timers_counters::{Counters, Timers};
+
+/// What came of a statement that was tried: it was executed, and its block runs on or another one
+/// runs, or nothing was done.
+#[derive(Clone, Copy)]
+pub(crate) enum Pass {
+    Inside,
+    Across,
+    Not,
+}
 
 // Whether an instruction may write to the place of its operand.
 fn may_write(operation: Operation) -> bool
@@ -122,7 +132,7 @@ fn perform_quietly(
 fn jump_quietly(operation: JumpOperation, target: u32, next: u32, a: &mut Activation) -> bool
     ensures goes { (c : Code) (ops : List OpData) (w : World)
         → GoesOrStays (performed c (jump_instr operation target next ops) next a.old w)
-        (is_quiet_inside (jump_instr operation target next ops) a.old)
+        (is_quiet (jump_instr operation target next ops) a.old)
         a.old a.new w w result }
     ensures block { a.new.running.frame.block ≡ a.old.running.frame.block }
 {
@@ -133,140 +143,8 @@ fn jump_quietly(operation: JumpOperation, target: u32, next: u32, a: &mut Activa
     true
 }
 
-// The last op of a statement, unless it leaves the block or may change peripheral outputs.
-#[inline(always)]
-fn pass_op(
-    opens: Option<u16>,
-    operation: Operation,
-    operand: &Operand,
-    next: u32,
-    a: &mut Activation,
-    m: &mut Memory,
-    t: &mut Timers,
-    n: &mut Counters,
-) -> bool
-    ensures goes { (c : Code) (passings : List Passing) (ops : List OpData)
-        → GoesOrStays (performed c (instr_of operation operand.now opens passings next ops) next a.old
-        (world m.old t.old n.old))
-        (is_quiet_inside (instr_of operation operand.now opens passings next ops) a.old)
-        a.old a.new (world m.old t.old n.old) (world m.new t.new n.new) result }
-    ensures block { a.new.running.frame.block ≡ a.old.running.frame.block }
-{
-    match operation {
-        Operation::Jump => match *operand {
-            Operand::Jump { kind, target } => jump_quietly(jump_of(kind), target, next, a),
-            _ => false,
-        },
-        Operation::Call(_) | Operation::End(_) => false,
-        _ => perform_quietly(opens, operation, operand, next, a, m, t, n),
-    }
-}
-
-// The statement of a block at which the innermost frame stands, from its second op on, with what the
-// first one opens, under the same conditions. Nothing is inlined, so that the way of one op stays
-// short.
-#[inline(never)]
-fn pass_ops(
-    code: &LoadedCode<'_>,
-    at: u32,
-    opens: Option<u16>,
-    a: &mut Activation,
-    m: &mut Memory,
-    t: &mut Timers,
-    n: &mut Counters,
-) -> bool
-    requires { option_map (walk_with None)
-        (run_at most_ops code.now.code a.old.running.frame.at)
-        ≡ option_map (walk_with opens) (run_at 63 code.now.code at) }
-    ensures goes { (c : Code)
-        → Goes (fetched c (statement_at code.now a.old.running.frame.at) a.old
-        (world m.old t.old n.old))
-        → GoesOrStays (fetched c (statement_at code.now a.old.running.frame.at) a.old
-        (world m.old t.old n.old))
-        (is_of is_quiet_inside (statement_at code.now a.old.running.frame.at) a.old)
-        a.old a.new (world m.old t.old n.old) (world m.new t.new n.new) result }
-    ensures block { a.new.running.frame.block ≡ a.old.running.frame.block }
-{
-    match walk_on(code, at, opens) {
-        Some(walk) => {
-            let last = &walk.last;
-            pass_op(
-                walk.opens,
-                last.operation(),
-                &last.operand,
-                walk.next,
-                a,
-                m,
-                t,
-                n,
-            )
-        }
-        None => false,
-    }
-}
-
-// The statement of a block at which the innermost frame stands, under the same conditions.
-#[inline(always)]
-fn pass_statement(
-    code: &LoadedCode<'_>,
-    a: &mut Activation,
-    m: &mut Memory,
-    t: &mut Timers,
-    n: &mut Counters,
-) -> bool
-    ensures goes { (c : Code)
-        → Goes (fetched c (statement_at code.now a.old.running.frame.at) a.old
-        (world m.old t.old n.old))
-        → GoesOrStays (fetched c (statement_at code.now a.old.running.frame.at) a.old
-        (world m.old t.old n.old))
-        (is_of is_quiet_inside (statement_at code.now a.old.running.frame.at) a.old)
-        a.old a.new (world m.old t.old n.old) (world m.new t.new n.new) result }
-    ensures block { a.new.running.frame.block ≡ a.old.running.frame.block }
-{
-    match code.op(a.running.frame.at) {
-        Some((op, next)) => {
-            if op.last {
-                pass_op(None, op.operation(), &op.operand, next, a, m, t, n)
-            } else {
-                let opens = opens_after(None, &op.operand);
-                pass_ops(code, next, opens, a, m, t, n)
-            }
-        }
-        None => false,
-    }
-}
-
-// Statements of the running block, one after another.
-fn run_inside(
-    c: &Loaded,
-    m: &mut Memory,
-    t: &mut Timers,
-    n: &mut Counters,
-    a: &mut Activation,
-    most: u64,
-) -> u64
-    requires { StaysReady c.now.program a.old (world m.old t.old n.old) }
-    ensures few { result ≤ most }
-    ensures runs { RunsQuietly (code_of c.now.program) result a.old a.new
-        (world m.old t.old n.old) (world m.new t.new n.new) }
-    ensures stops { result < most
-        → goes_as is_quiet_inside (code_of c.now.program) a.new (world m.new t.new n.new)
-        ≡ false }
-{
-    let Some(code) = c.block(a.running.frame.block) else {
-        return 0;
-    };
-    let mut done = 0;
-    while done < most {
-        if !pass_statement(&code, a, m, t, n) {
-            return done;
-        }
-        done += 1;
-    }
-    done
-}
-
-// A call of a function or function block with these parameters, unless it fails.
+// A call of a function or function block with these parameters, unless it fails. What they stand for
+// is found in `spare`, whatever that held.
 fn enter_quietly(
     called: &Callee<'_>,
     code: &LoadedCode<'_>,
@@ -274,6 +152,7 @@ fn enter_quietly(
     next: u32,
     a: &mut Activation,
     m: &mut Memory,
+    spare: &mut Bindings,
 ) -> bool
     requires depth { length a.old.running.locals.starts ≡ length (frames_of a.old) }
     requires params { length called.now.params ≤ 60 }
@@ -282,10 +161,9 @@ fn enter_quietly(
         → GoesOrStays (after_call (call called.now passings next a.old m.old) next a.old
         (world m.old t n)) true a.old a.new (world m.old t n) (world m.new t n) result }
 {
-    let mut bindings = Bindings::new();
-    match bind_all(code, at, called.params, &a.running, m, &mut bindings) {
+    match bind_all(code, at, called.params, &a.running, m, spare) {
         Err(_) => false,
-        Ok(()) => enter_if_room(called, &bindings, next, a, m).is_ok(),
+        Ok(()) => enter_if_room(called, spare, next, a, m).is_ok(),
     }
 }
 
@@ -299,6 +177,7 @@ fn enter_loaded(
     next: u32,
     a: &mut Activation,
     m: &mut Memory,
+    spare: &mut Bindings,
 ) -> bool
     requires { length a.old.running.locals.starts ≡ length (frames_of a.old) }
     ensures { (passings : List Passing) (t : List Timer) (n : List Counter)
@@ -313,7 +192,7 @@ fn enter_loaded(
         local_len: callee.local_len(),
         params: callee.params(),
     };
-    enter_quietly(&called, code, at, next, a, m)
+    enter_quietly(&called, code, at, next, a, m, spare)
 }
 
 // CALL, UC and CC of a function or function block, where they call and don't fail.
@@ -327,12 +206,13 @@ fn call_quietly(
     next: u32,
     a: &mut Activation,
     m: &mut Memory,
+    spare: &mut Bindings,
 ) -> bool
     requires { length a.old.running.locals.starts ≡ length (frames_of a.old) }
     ensures { (passings : List Passing) (t : List Timer) (n : List Counter)
         → Passes code.now.code at passings
         → GoesOrStays (performed (code_of c.now.program) (Calls how block instance passings) next
-        a.old (world m.old t n)) (is_quiet_across (Calls how block instance passings) a.old)
+        a.old (world m.old t n)) (is_quiet (Calls how block instance passings) a.old)
         a.old a.new (world m.old t n) (world m.new t n) result }
 {
     if !is_called(how, a.running.regs.status.rlo) {
@@ -342,7 +222,7 @@ fn call_quietly(
         return false;
     }
     match c.block(block) {
-        Some(callee) => enter_loaded(&callee, code, at, block, instance, next, a, m),
+        Some(callee) => enter_loaded(&callee, code, at, block, instance, next, a, m, spare),
         None => false,
     }
 }
@@ -358,7 +238,7 @@ fn return_quietly(
     ensures { (c : Code) (next : ℕ) (t : List Timer) (n : List Counter)
         → c.head a.old.running.frame.block ≡ Some (head_of code.now)
         → GoesOrStays (performed c (Returns how) next a.old (world m.old t n))
-        (is_quiet_across (Returns how) a.old)
+        (is_quiet (Returns how) a.old)
         a.old a.new (world m.old t n) (world m.new t n) result }
 {
     if !is_ended(how, a.running.regs.status.rlo) {
@@ -370,95 +250,233 @@ fn return_quietly(
     return_from_block(code.params(), a, m)
 }
 
-// The last op of a statement that leaves the block.
-fn cross_op(
+// CALL, UC and CC by their operand, where they call and don't fail.
+#[inline(never)]
+fn call_named(
     c: &Loaded,
     code: &LoadedCode<'_>,
-    at: u32,
+    how: CallOperation,
+    operand: &Operand,
+    next: u32,
+    a: &mut Activation,
+    m: &mut Memory,
+    spare: &mut Bindings,
+) -> bool
+    requires { length a.old.running.locals.starts ≡ length (frames_of a.old) }
+    ensures { (opens : Option ℕ) (passings : List Passing) (t : List Timer) (n : List Counter)
+        → Passes code.now.code a.old.running.frame.at passings
+        → GoesOrStays (performed (code_of c.now.program)
+        (instr_of (operation.Call how) operand.now opens passings next code.now.code) next a.old (world m.old t n))
+        (is_quiet (instr_of (operation.Call how) operand.now opens passings next code.now.code) a.old)
+        a.old a.new (world m.old t n) (world m.new t n) result }
+{
+    let at = a.running.frame.at;
+    match *operand {
+        Operand::Called {
+            kind,
+            number,
+            instance,
+        } => match kind_of_code(kind) {
+            Some(kind) => {
+                let block = BlockId { kind, number };
+                let instance = instance_named(instance);
+                call_quietly(c, code, at, how, block, instance, next, a, m, spare)
+            }
+            None => false,
+        },
+        _ => false,
+    }
+}
+
+// What came of a statement whose block stays the running one, if it was executed.
+#[inline(always)]
+fn inside(went: bool) -> Pass
+    ensures { has_passed result ≡ went }
+{
+    if went { Pass::Inside } else { Pass::Not }
+}
+
+// The same where another block runs then.
+#[inline(always)]
+fn across(went: bool) -> Pass
+    ensures passed { has_passed result ≡ went }
+    ensures across { is_still_inside result ≡ false }
+{
+    if went { Pass::Across } else { Pass::Not }
+}
+
+// The last op of a statement, unless it leaves the organization block or may change peripheral
+// outputs.
+#[inline(always)]
+fn pass_op(
+    c: &Loaded,
+    code: &LoadedCode<'_>,
+    opens: Option<u16>,
     operation: Operation,
     operand: &Operand,
     next: u32,
     a: &mut Activation,
     m: &mut Memory,
-) -> bool
-    requires stands { a.old.left ≡ false }
-    requires depth { length a.old.running.locals.starts ≡ length (frames_of a.old) }
+    t: &mut Timers,
+    n: &mut Counters,
+    spare: &mut Bindings,
+) -> Pass
+    requires ready { IsReady c.now.program a.old }
     requires block { (code_of c.now.program).head a.old.running.frame.block
         ≡ Some (head_of code.now) }
-    ensures { (opens : Option ℕ) (passings : List Passing) (t : List Timer) (n : List Counter)
-        → Passes code.now.code at passings
+    ensures goes { (passings : List Passing) → Passes code.now.code a.old.running.frame.at passings
         → GoesOrStays (performed (code_of c.now.program)
-        (instr_of operation operand.now opens passings next code.now.code) next a.old (world m.old t n))
-        (is_quiet_across (instr_of operation operand.now opens passings next code.now.code) a.old)
-        a.old a.new (world m.old t n) (world m.new t n) result }
+        (instr_of operation operand.now opens passings next code.now.code) next a.old
+        (world m.old t.old n.old))
+        (is_quiet (instr_of operation operand.now opens passings next code.now.code) a.old)
+        a.old a.new (world m.old t.old n.old) (world m.new t.new n.new) (has_passed result) }
+    ensures block { is_still_inside result ≡ true
+        → a.new.running.frame.block ≡ a.old.running.frame.block }
 {
     match operation {
-        Operation::Call(how) => match *operand {
-            Operand::Called {
-                kind,
-                number,
-                instance,
-            } => match kind_of_code(kind) {
-                Some(kind) => {
-                    let block = BlockId { kind, number };
-                    let instance = instance_named(instance);
-                    call_quietly(c, code, at, how, block, instance, next, a, m)
-                }
-                None => false,
-            },
-            _ => false,
+        Operation::Jump => match *operand {
+            Operand::Jump { kind, target } => {
+                inside(jump_quietly(jump_of(kind), target, next, a))
+            }
+            _ => Pass::Not,
         },
-        Operation::End(how) => return_quietly(code, how, a, m),
-        _ => false,
+        Operation::Call(how) => across(call_named(c, code, how, operand, next, a, m, spare)),
+        Operation::End(how) => across(return_quietly(code, how, a, m)),
+        _ => inside(perform_quietly(opens, operation, operand, next, a, m, t, n)),
     }
 }
 
-// The statement of a block at which the innermost frame stands, where it leaves the block.
-fn cross_at(c: &Loaded, code: &LoadedCode<'_>, a: &mut Activation, m: &mut Memory) -> bool
-    requires stands { a.old.left ≡ false }
-    requires depth { length a.old.running.locals.starts ≡ length (frames_of a.old) }
+// The statement of a block at which the innermost frame stands, from its second op on, with what the
+// first one opens, under the same conditions. Nothing is inlined, so that the way of one op stays
+// short.
+#[inline(never)]
+fn pass_ops(
+    c: &Loaded,
+    code: &LoadedCode<'_>,
+    at: u32,
+    opens: Option<u16>,
+    a: &mut Activation,
+    m: &mut Memory,
+    t: &mut Timers,
+    n: &mut Counters,
+    spare: &mut Bindings,
+) -> Pass
+    requires ready { IsReady c.now.program a.old }
     requires block { (code_of c.now.program).head a.old.running.frame.block
         ≡ Some (head_of code.now) }
-    ensures { (t : List Timer) (n : List Counter)
-        → Goes (fetched (code_of c.now.program) (statement_at code.now a.old.running.frame.at)
-        a.old (world m.old t n))
+    requires walk { option_map (walk_with None)
+        (run_at most_ops code.now.code a.old.running.frame.at)
+        ≡ option_map (walk_with opens) (run_at 63 code.now.code at) }
+    ensures goes { Goes (fetched (code_of c.now.program)
+        (statement_at code.now a.old.running.frame.at) a.old (world m.old t.old n.old))
         → GoesOrStays (fetched (code_of c.now.program)
-        (statement_at code.now a.old.running.frame.at) a.old (world m.old t n))
-        (is_of is_quiet_across (statement_at code.now a.old.running.frame.at) a.old)
-        a.old a.new (world m.old t n) (world m.new t n) result }
+        (statement_at code.now a.old.running.frame.at) a.old (world m.old t.old n.old))
+        (is_of is_quiet (statement_at code.now a.old.running.frame.at) a.old)
+        a.old a.new (world m.old t.old n.old) (world m.new t.new n.new) (has_passed result) }
+    ensures block { is_still_inside result ≡ true
+        → a.new.running.frame.block ≡ a.old.running.frame.block }
 {
-    let at = a.running.frame.at;
-    match walk_from(code, at) {
+    match walk_on(code, at, opens) {
         Some(walk) => {
             let last = &walk.last;
-            cross_op(
+            pass_op(
                 c,
                 code,
-                at,
+                walk.opens,
                 last.operation(),
                 &last.operand,
                 walk.next,
                 a,
                 m,
+                t,
+                n,
+                spare,
             )
         }
-        None => false,
+        None => Pass::Not,
     }
 }
 
-// The same of the running block.
-fn cross(c: &Loaded, a: &mut Activation, m: &mut Memory) -> bool
-    requires { IsReady c.now.program a.old }
-    ensures { (t : List Timer) (n : List Counter)
-        → GoesOrStays (statement_of (code_of c.now.program) a.old (world m.old t n))
-        (is_of is_quiet_across ((code_of c.now.program).fetch a.old.running.frame.block
-        a.old.running.frame.at) a.old)
-        a.old a.new (world m.old t n) (world m.new t n) result }
+// The statement of a block at which the innermost frame stands, under the same conditions.
+#[inline(always)]
+fn pass_statement(
+    c: &Loaded,
+    code: &LoadedCode<'_>,
+    a: &mut Activation,
+    m: &mut Memory,
+    t: &mut Timers,
+    n: &mut Counters,
+    spare: &mut Bindings,
+) -> Pass
+    requires ready { IsReady c.now.program a.old }
+    requires block { (code_of c.now.program).head a.old.running.frame.block
+        ≡ Some (head_of code.now) }
+    ensures goes { Goes (fetched (code_of c.now.program)
+        (statement_at code.now a.old.running.frame.at) a.old (world m.old t.old n.old))
+        → GoesOrStays (fetched (code_of c.now.program)
+        (statement_at code.now a.old.running.frame.at) a.old (world m.old t.old n.old))
+        (is_of is_quiet (statement_at code.now a.old.running.frame.at) a.old)
+        a.old a.new (world m.old t.old n.old) (world m.new t.new n.new) (has_passed result) }
+    ensures block { is_still_inside result ≡ true
+        → a.new.running.frame.block ≡ a.old.running.frame.block }
 {
-    match c.block(a.running.frame.block) {
-        Some(code) => cross_at(c, &code, a, m),
-        None => false,
+    match code.op(a.running.frame.at) {
+        Some((op, next)) => {
+            if op.last {
+                pass_op(
+                    c,
+                    code,
+                    None,
+                    op.operation(),
+                    &op.operand,
+                    next,
+                    a,
+                    m,
+                    t,
+                    n,
+                    spare,
+                )
+            } else {
+                let opens = opens_after(None, &op.operand);
+                pass_ops(c, code, next, opens, a, m, t, n, spare)
+            }
+        }
+        None => Pass::Not,
     }
+}
+
+// Statements of the running block, one after another: how many, and whether the last one led to
+// another block.
+fn run_inside(
+    c: &Loaded,
+    m: &mut Memory,
+    t: &mut Timers,
+    n: &mut Counters,
+    a: &mut Activation,
+    most: u64,
+    spare: &mut Bindings,
+) -> (u64, bool)
+    requires { StaysReady c.now.program a.old (world m.old t.old n.old) }
+    ensures few { result.0 ≤ most }
+    ensures more { result.1 ≡ true → 1 ≤ result.0 }
+    ensures runs { RunsQuietly (code_of c.now.program) result.0 a.old a.new
+        (world m.old t.old n.old) (world m.new t.new n.new) }
+    ensures stops { result.1 ≡ false → result.0 < most
+        → goes_as is_quiet (code_of c.now.program) a.new (world m.new t.new n.new)
+        ≡ false }
+{
+    let Some(code) = c.block(a.running.frame.block) else {
+        return (0, false);
+    };
+    let mut done = 0;
+    while done < most {
+        match pass_statement(c, &code, a, m, t, n, spare) {
+            Pass::Inside => done += 1,
+            Pass::Across => return (done + 1, true),
+            Pass::Not => return (done, false),
+        }
+    }
+    (done, false)
 }
 
 /// Executes statements one after another as long as each lets the activation go on and leaves the
@@ -466,7 +484,8 @@ fn cross(c: &Loaded, a: &mut Activation, m: &mut Memory) -> bool
 /// that isn't of the quiet kind or doesn't go on: what it leaves is for `statement`. Quiet are the
 /// instructions inside a block that don't write to a peripheral place, by their operand or what a
 /// parameter stands for; jumps but JL; a call that is made, but of a system function; and a return
-/// to a caller from a block without an instance.
+/// to a caller from a block without an instance. `spare` is room for what the parameters of a call stand
+/// for; what it holds before and after says nothing.
 pub fn quiet_statements(
     c: &Loaded,
     m: &mut Memory,
@@ -474,6 +493,7 @@ pub fn quiet_statements(
     n: &mut Counters,
     a: &mut Activation,
     most: u64,
+    spare: &mut Bindings,
 ) -> u64
     requires { StaysReady c.now.program a.old (world m.old t.old n.old) }
     ensures few { result ≤ most }
@@ -482,13 +502,13 @@ pub fn quiet_statements(
     ensures stops { result < most
         → goes_as is_quiet (code_of c.now.program) a.new (world m.new t.new n.new) ≡ false }
 {
-    let mut done = run_inside(c, m, t, n, a, most);
+    let mut done = 0;
     while done < most {
-        if !cross(c, a, m) {
+        let (more, crosses) = run_inside(c, m, t, n, a, most - done, spare);
+        done += more;
+        if !crosses {
             return done;
         }
-        done += 1;
-        done += run_inside(c, m, t, n, a, most - done);
     }
     done
 }

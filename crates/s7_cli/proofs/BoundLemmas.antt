@@ -29,7 +29,7 @@ use Rattle.s7_cli.specs.declared.failures.Failure.TheVariants.{WordsRefused, Rea
 use Rattle.s7_cli.specs.Answer.{Answer, Outcome, code_of, done, read_fault, refused, refused_image, says_no, too_deep, too_long}
 use Rattle.s7_cli.specs.BoundSays.{BoundAnswer, BoundSays, CheckedAnswer, HeldAnswer, RecheckAnswer, RecheckSays, StacksSuffice, image_bounded}
 use Rattle.s7_cli.specs.BoundTexts.{IsChainLine, IsHeld, IsToldOf, TellsOf}
-use Rattle.s7_cli.specs.Command.{Command, Go, Check, Compile, Run, Gen, Live, Watch, Upgrade, Bound, Recheck, Input, inputs_of}
+use Rattle.s7_cli.specs.Command.{Command, Go, Check, Compile, Translate, Run, Gen, Live, Watch, Upgrade, Bound, Recheck, Input, inputs_of}
 use Rattle.s7_cli.specs.Ends.{Taking, Answers, IsCut}
 use Rattle.s7_cli.specs.Faults.{failure_of_certificate, failure_of_loading}
 use Rattle.s7_cli.specs.Inner.{Comes, HasRead, RefusedBy, TextWritten}
@@ -89,7 +89,7 @@ bound-outcome image a b p q =
 pub bound-verdict : (v : Result LoadedProgram LoadFault) (a : Answer) → BoundAnswer v a → IsVerdict a
 bound-verdict (Err fault) a said = inr (inr (inl (fault, said)))
 bound-verdict (Ok l) a (inl fits) = inl (ok_line, fits.1)
-bound-verdict (Ok l) a (inr deep) = inr (inr (inr (inr (deep.0, deep.2))))
+bound-verdict (Ok l) a (inr deep) = inr (inr (inr (inr (inl (deep.0, deep.2)))))
 
 checked-verdict : (l : LoadedProgram) (read : Result (List BoundOf) Refusal) (a : Answer) → CheckedAnswer l read a → IsVerdict a
 checked-verdict l (Err refusal) a said = inr (inl (Certificate, refusal, said))
@@ -174,9 +174,10 @@ pub stacks-suffice : CertificatesKeepStacks → (k : Command) (d : Disk) (a : An
     → code_of a.outcome ≡ 0 → StacksSuffice k d
 stacks-suffice keep (Bound image certificate) d a said zero = bound-stacks keep d image certificate a said zero
 stacks-suffice keep (Recheck image certificate) d a said zero = recheck-stacks keep d image certificate a said zero
-stacks-suffice keep (Go s y h) d a said zero = λ name held l is told there loads. absurd (no_name (Go s y h) name refl is)
-stacks-suffice keep (Check s y) d a said zero = λ name held l is told there loads. absurd (no_name (Check s y) name refl is)
-stacks-suffice keep (Compile s y i) d a said zero = λ name held l is told there loads. absurd (no_name (Compile s y i) name refl is)
+stacks-suffice keep (Go s y g h) d a said zero = λ name held l is told there loads. absurd (no_name (Go s y g h) name refl is)
+stacks-suffice keep (Check s y g) d a said zero = λ name held l is told there loads. absurd (no_name (Check s y g) name refl is)
+stacks-suffice keep (Compile s y g i) d a said zero = λ name held l is told there loads. absurd (no_name (Compile s y g i) name refl is)
+stacks-suffice keep (Translate l s t) d a said zero = λ name held m is told there loads. absurd (no_name (Translate l s t) name refl is)
 stacks-suffice keep (Run i h) d a said zero = λ name held l is told there loads. absurd (no_name (Run i h) name refl is)
 stacks-suffice keep (Gen n) d a said zero = λ name held l is told there loads. absurd (no_name (Gen n) name refl is)
 stacks-suffice keep (Live i s o n) d a said zero = λ name held l is told there loads. absurd (no_name (Live i s o n) name refl is)

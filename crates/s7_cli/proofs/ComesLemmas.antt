@@ -13,6 +13,7 @@ use Rattle.s7_cli.specs.Inner.{OnlyReads, FileRead, HasRead, StopsAmong, AllRead
 use Rattle.s7_cli.specs.Reading.{Disk, disk, Holds, HoldAll, StopsAt, Reads}
 use Rattle.s7_cli.specs.Says.{Says}
 use Rattle.s7_cli.proofs.ReadingLemmas.{reads-all}
+use Rattle.s7_cli.proofs.RefusedLemmas.{allowed}
 
 pub unchanged : (at : FilesAt) → Unchanged at at
 unchanged at = record { contents = record { told = refl; at = λ name. refl }; reads = λ name. refl; writes = λ name. refl }
@@ -248,20 +249,15 @@ refuses V c start now at contents TooDeep read said = absurd said
 refuses V c start now at contents NoMemory read said = wanting (Some c) (disk start now) at (only-reads start now read.same)
 refuses V c start now at contents WordsRefused read said = absurd said
 refuses V c start now at contents ReadFault read said = absurd said
-refuses V c start now at contents (TooLong file) read said = absurd said
+refuses V c start now at contents (TooLong file) read said = record {
+  line = (too_long file).text;
+  has_line = refl;
+  answers = reads-all (disk start now) (inputs_of c) contents (Says c) (too_long file) read.hold said;
+  sink = refl;
+  counts = read.same.reads;
+  only_reads = only-reads start now read.same;
+}
 refuses V c start now at contents WriteFault read said = absurd said
-
-allowed : (V : Type 0) (said says : Answer → Type 0) (failure : Failure) → ((a : Answer) → said a → says a)
-    → RefusedBy {V = V} said (Err failure) → RefusedBy {V = V} says (Err failure)
-allowed V said says (Refused file refusal) each told = each (refused file refusal) told
-allowed V said says (ImageRefused fault) each told = each (refused_image fault) told
-allowed V said says SaysNo each told = each says_no told
-allowed V said says TooDeep each told = told
-allowed V said says NoMemory each told = tt
-allowed V said says WordsRefused each told = told
-allowed V said says ReadFault each told = told
-allowed V said says (TooLong file) each told = told
-allowed V said says WriteFault each told = told
 
 pub comes-refused : (V : Type 0) (c : Command) (start now : FilesAt) (at : SinkAt) (contents : List (List ℕ)) (said : Answer → Type 0)
     (failure : Failure) (came : Outcome) → came ≡ Err failure → HasRead start now (inputs_of c) contents
@@ -269,7 +265,7 @@ pub comes-refused : (V : Type 0) (c : Command) (start now : FilesAt) (at : SinkA
     → Comes (Some c) (disk start now) (taking at at) came
 comes-refused V c start now at contents said failure came equal read each told =
     subst (λ (o : Outcome). Comes (Some c) (disk start now) (taking at at) o) (sym equal)
-    (refuses V c start now at contents failure read (allowed V said (Says c contents) failure each told))
+    (refuses V c start now at contents failure read (allowed V V said (Says c contents) failure each told))
 
 -- ---- the result was written, or a front of it
 

@@ -19,11 +19,14 @@ use Rattle.block_layout.specs.Table.{layout_refusals}
 use Rattle.block_layout.specs.declared.blocks.BlockLayout.{BlockLayout}
 use Rattle.stl_types.specs.Table.{statement_refusals, Checks}
 use Rattle.stl_codegen.specs.Generated.{program_of}
-use Rattle.sem_kept.specs.Agreement.{AreFiles, KeepsSource, ProgramsRun}
+use Rattle.sem_kept.specs.Agreement.{AreFiles, KeepsSourceIn, ProgramsRun}
 use Rattle.sem_kept.specs.Stages.{InTurn}
-use Rattle.sem_kept.specs.Meaning.{HasSymbols, HasTokens, HasTree, refusals_of, sound_by, IsSound, IsJudgedWith, IsJudged}
+use Rattle.sem_kept.specs.Meaning.{HasSymbolsIn, HasTokens, HasTree, refusals_of, sound_by, IsSound, IsJudgedWith, IsJudgedIn}
+use Rattle.stl_symbols.specs.declared.languages.Language.{Language}
 use Rattle.s7_cli.specs.declared.compiling.LaidSource.{LaidSource}
-use Rattle.s7_cli.specs.Compiling.{RefusesBy, Finds, fault_in_symbols, fault_in_source, HasProgram, IsLaid, IsRefusedBy}
+use Rattle.s7_cli.specs.declared.faults.CompileFault.{CompileFault}
+use Rattle.s7_cli.specs.declared.faults.CompileFault.TheVariants as compiling
+use Rattle.s7_cli.specs.Compiling.{Finds, HasProgramWith, IsLaid, IsRefusedBy, KeepsWith, RefusesIn, RefusesLaid, RefusesSymbols, RefusesWith, fault_in_symbols, fault_in_source}
 
 -- the lesser of a refusal and another is one
 one_of : (before : Bool) (r s : Refusal)
@@ -93,11 +96,18 @@ tokens_refused source found.NoMemory refused = tt
 
 -- ---- whole
 
-pub symbols_refused : (source symbols : List ℕ) (fault : SourceFault)
-    → Finds (HasSymbols symbols) (Err fault) → RefusesBy source symbols (fault_in_symbols fault)
-unfolding IsJudged
-symbols_refused source symbols (found.Refused refusal) h = inl (refusal, refl, h)
-symbols_refused source symbols found.NoMemory h = tt
+pub symbols_refused : (language : Language) (symbols : List ℕ) (fault : SourceFault)
+    → Finds (HasSymbolsIn language symbols) (Err fault)
+    → RefusesSymbols language symbols (fault_in_symbols fault)
+symbols_refused language symbols (found.Refused refusal) h = h
+symbols_refused language symbols found.NoMemory h = tt
+
+pub by_symbols : (language : Language) (source symbols : List ℕ) (fault : CompileFault)
+    → RefusesSymbols language symbols fault → RefusesIn language source symbols fault
+unfolding IsJudgedIn
+by_symbols language source symbols (compiling.Symbols refusal) h = inl (refusal, refl, h)
+by_symbols language source symbols (compiling.Source refusal) h = absurd h
+by_symbols language source symbols compiling.NoMemory h = tt
 
 with_tree : (source : List ℕ) (symbols : List Symbol) (refusal : Refusal)
     → InTurn HasTokens (HasTree source) source (Err refusal)
@@ -105,25 +115,21 @@ with_tree : (source : List ℕ) (symbols : List Symbol) (refusal : Refusal)
 with_tree source symbols refusal (inl refused) = inl refused
 with_tree source symbols refusal (inr (tokens, are, refused)) = inr (tokens, are, inl refused)
 
-pub tree_fault : (source symbols : List ℕ) (list : List Symbol)
-    (fault : SourceFault)
-    → HasSymbols symbols (Ok list)
+pub tree_fault : (source : List ℕ) (list : List Symbol) (fault : SourceFault)
     → Finds (InTurn HasTokens (HasTree source) source) (Err fault)
-    → RefusesBy source symbols (fault_in_source fault)
-unfolding IsJudged
-tree_fault source symbols list (found.Refused refusal) has h =
+    → RefusesWith source list (fault_in_source fault)
+unfolding IsJudgedIn
+tree_fault source list (found.Refused refusal) h = λ language symbols has.
     inr (list, has, (refusal, refl, with_tree source list refusal h))
-tree_fault source symbols list found.NoMemory has h = tt
+tree_fault source list found.NoMemory h = λ language symbols has. tt
 
-pub program_fault : (source symbols : List ℕ) (list : List Symbol)
-    (tree : Tree) (fault : SourceFault)
-    → HasSymbols symbols (Ok list)
+pub program_fault : (source : List ℕ) (list : List Symbol) (tree : Tree) (fault : SourceFault)
     → InTurn HasTokens (HasTree source) source (Ok tree) → IsRefusedBy list tree fault
-    → RefusesBy source symbols (fault_in_source fault)
-unfolding IsJudged
-program_fault source symbols list tree (found.Refused refusal) has (tokens, are, is) h =
+    → RefusesWith source list (fault_in_source fault)
+unfolding IsJudgedIn
+program_fault source list tree (found.Refused refusal) (tokens, are, is) h = λ language symbols has.
     inr (list, has, (refusal, refl, inr (tokens, are, inr (tree, is, inl h))))
-program_fault source symbols list tree found.NoMemory has at h = tt
+program_fault source list tree found.NoMemory at h = λ language symbols has. tt
 
 pub all_bytes : (bytes : List ℕ) → ((i : ℕ) → get_or bytes i 0 < 256) → AreBytes bytes
 all_bytes [] small = tt
@@ -133,41 +139,56 @@ all_bytes (b ∷ bytes) small =
 
 -- ---- a source that is laid out
 
-pub statements_fault : (source symbols : List ℕ) (laid : LaidSource)
-    (checked : Tree) (fault : SourceFault)
-    → IsLaid source symbols laid
+pub statements_fault : (source : List ℕ) (laid : LaidSource) (checked : Tree) (fault : SourceFault)
+    → IsLaid source laid
     → Checks (least (statement_refusals laid.tree laid.symbols laid.layouts)) checked (Err fault)
-    → RefusesBy source symbols (fault_in_source fault)
-statements_fault source symbols laid checked (found.Refused refusal) is h =
-    program_fault source symbols laid.symbols laid.tree (found.Refused refusal) is.list is.parsed
+    → RefusesWith source laid.symbols (fault_in_source fault)
+statements_fault source laid checked (found.Refused refusal) is h =
+    program_fault source laid.symbols laid.tree (found.Refused refusal) is.parsed
     (refused_by_statements laid.symbols laid.tree laid.layouts refusal is.right is.layout h)
-statements_fault source symbols laid checked found.NoMemory is h = tt
+statements_fault source laid checked found.NoMemory is h = λ language symbols has. tt
+
+-- with the symbols that it was laid out with
+pub refused_laid : (source : List ℕ) (laid : LaidSource) (list : List Symbol) (fault : CompileFault)
+    → laid.symbols ≡ list → IsLaid source laid → RefusesLaid laid fault
+    → RefusesWith source list fault
+refused_laid source laid list fault are is refuses =
+    subst (λ (l : List Symbol). RefusesWith source l fault) are (refuses source is)
 
 -- where its statements break no rule, its program runs
-accepted_runs : ProgramsRun → (source symbols : List ℕ) (laid : LaidSource)
-    → AreFiles source symbols → IsLaid source symbols laid
+accepted_runs : ProgramsRun → (language : Language) (source symbols : List ℕ) (laid : LaidSource)
+    → AreFiles source symbols → HasSymbolsIn language symbols (Ok laid.symbols) → IsLaid source laid
     → least (statement_refusals laid.tree laid.symbols laid.layouts) ≡ None
-    → KeepsSource Large source symbols (program_in laid.symbols laid.tree)
-accepted_runs law source symbols laid are is there =
-    law Large source symbols laid.symbols is.parsed.0 laid.tree are is.list is.parsed.1 is.parsed.2
-    (sound_both laid.symbols laid.tree laid.layouts is.right is.layout there)
+    → KeepsSourceIn language Large source symbols (program_in laid.symbols laid.tree)
+accepted_runs law language source symbols laid are has is there =
+    law language Large source symbols laid.symbols is.parsed.0 laid.tree are has is.parsed.1
+    is.parsed.2 (sound_both laid.symbols laid.tree laid.layouts is.right is.layout there)
 
-pub has_program : ProgramsRun → (source symbols : List ℕ) (laid : LaidSource)
-    → AreFiles source symbols → IsLaid source symbols laid
+same_symbols : (language : Language) (symbols : List ℕ) (list other : List Symbol) → other ≡ list
+    → HasSymbolsIn language symbols (Ok list) → HasSymbolsIn language symbols (Ok other)
+same_symbols language symbols list other are has =
+    subst (λ (l : List Symbol). HasSymbolsIn language symbols (Ok l)) (sym are) has
+
+pub has_program : ProgramsRun → (source : List ℕ) (list : List Symbol) (laid : LaidSource)
+    → laid.symbols ≡ list → IsLaid source laid
     → least (statement_refusals laid.tree laid.symbols laid.layouts) ≡ None
-    → HasProgram source symbols
-has_program law source symbols laid are is there =
-    (program_in laid.symbols laid.tree, accepted_runs law source symbols laid are is there)
+    → HasProgramWith source list
+has_program law source list laid are is there = λ language symbols files has. (
+  program_in laid.symbols laid.tree,
+  accepted_runs law language source symbols laid files
+      (same_symbols language symbols list laid.symbols are has) is there,
+)
 
 -- and it is the one that is generated
-pub generated_runs : ProgramsRun → (source symbols : List ℕ)
-    (laid : LaidSource) (checked : Tree)
-    → AreFiles source symbols → IsLaid source symbols laid → checked ≡ laid.tree
+pub generated_runs : ProgramsRun → (source : List ℕ) (list : List Symbol) (laid : LaidSource)
+    (checked : Tree)
+    → laid.symbols ≡ list → IsLaid source laid → checked ≡ laid.tree
     → least (statement_refusals laid.tree laid.symbols laid.layouts) ≡ None
-    → KeepsSource Large source symbols (program_of checked laid.symbols laid.layouts)
-generated_runs law source symbols laid checked are is same there =
-    subst (KeepsSource Large source symbols) (sym generated)
-    (accepted_runs law source symbols laid are is there)
+    → KeepsWith source list (program_of checked laid.symbols laid.layouts)
+generated_runs law source list laid checked are is same there = λ language symbols files has.
+    subst (KeepsSourceIn language Large source symbols) (sym generated)
+    (accepted_runs law language source symbols laid files
+    (same_symbols language symbols list laid.symbols are has) is there)
   where
     generated : program_of checked laid.symbols laid.layouts ≡ program_in laid.symbols laid.tree
     generated = ap (λ (t : Tree). program_of t laid.symbols laid.layouts) same

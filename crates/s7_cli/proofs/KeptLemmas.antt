@@ -12,8 +12,9 @@ use Rattle.image_file.specs.declared.faults.LoadFault.{LoadFault}
 use Rattle.machine.specs.Code.{Code}
 use Rattle.machine.specs.Flat.{code_of}
 use Rattle.controller.specs.Replay.{ContinuesReplay}
-use Rattle.sem_kept.specs.Agreement.{ImageKeepsSource, KeepsSource, names_in}
-use Rattle.sem_kept.specs.Meaning.{IsMeaningUnique, Refused, MeansCode}
+use Rattle.sem_kept.specs.Agreement.{ImageKeepsSourceIn, KeepsSourceIn, names_read_in}
+use Rattle.sem_kept.specs.Meaning.{IsMeaningUnique, Refused, MeansCodeIn}
+use Rattle.stl_symbols.specs.declared.languages.Language.{Language}
 use Rattle.event_text.specs.Texts.{history_of}
 use Rattle.s7_cli.specs.run_text.RunText.{run_text}
 use Rattle.s7_cli.specs.Answer.{done}
@@ -25,45 +26,45 @@ use Rattle.s7_cli.proofs.RunLemmas.{texts-kept}
 use Rattle.s7_cli.proofs.SaysLemmas.{MeansOne}
 
 -- a program that keeps a source has the texts of the source
-texts-of : ContinuesReplay → IsMeaningUnique → (profile : Profile) (source symbols : List ℕ) (p : Program) (c : Code)
-    → KeepsSource profile source symbols p → MeansCode source symbols c → (entries : List Entry)
+texts-of : ContinuesReplay → IsMeaningUnique → (language : Language) (profile : Profile) (source symbols : List ℕ) (p : Program) (c : Code)
+    → KeepsSourceIn language profile source symbols p → MeansCodeIn language source symbols c → (entries : List Entry)
     → run_text profile (code_of p) entries ≡ run_text profile c entries
-texts-of continues one profile source symbols p c keeps means entries =
+texts-of continues one language profile source symbols p c keeps means entries =
     texts-kept continues profile keeps.runs.0 (code_of p) keeps.runs.2 entries
-    ∙ ap (λ (d : Code). run_text profile d entries) (one source symbols keeps.runs.0 c keeps.runs.1 means)
+    ∙ ap (λ (d : Code). run_text profile d entries) (one language source symbols keeps.runs.0 c keeps.runs.1 means)
 
 -- the image of which bytes are, of whatever version, is the one that is loaded
-pub kept-loaded : ImagesAreOfOne → (image source symbols : List ℕ) (l : LoadedProgram) → ImageKeepsSource image source symbols
-    → LoadsAs image (Ok l) → KeepsSource l.profile source symbols l.program
-kept-loaded images image source symbols l kept loads =
-    subst (λ (f : Profile). KeepsSource f source symbols l.program) (ap profile_of same.0 ∙ sym loads.image.profile)
-    (subst (KeepsSource (profile_of kept.stamp) source symbols) same.1 kept.keeps)
+pub kept-loaded : ImagesAreOfOne → (language : Language) (image source symbols : List ℕ) (l : LoadedProgram) → ImageKeepsSourceIn language image source symbols
+    → LoadsAs image (Ok l) → KeepsSourceIn language l.profile source symbols l.program
+kept-loaded images language image source symbols l kept loads =
+    subst (λ (f : Profile). KeepsSourceIn language f source symbols l.program) (ap profile_of same.0 ∙ sym loads.image.profile)
+    (subst (KeepsSourceIn language (profile_of kept.stamp) source symbols) same.1 kept.keeps)
   where
     same : (kept.stamp ≡ loads.image.stamp) × (kept.program ≡ l.program)
     same = images kept.stamp loads.image.stamp kept.program l.program kept.keeps.runnable.is loads.loadable.program
         (sym kept.spelled ∙ loads.loadable.spelled)
 
 pub run-alike : ContinuesReplay → IsMeaningUnique → ImagesAreOfOne → KeptImagesRunAlike
-run-alike continues one images image source symbols l c kept loads means entries =
-    texts-of continues one l.profile source symbols l.program c (kept-loaded images image source symbols l kept loads) means entries
+run-alike continues one images language image source symbols l c kept loads means entries =
+    texts-of continues one language l.profile source symbols l.program c (kept-loaded images language image source symbols l kept loads) means entries
 
 -- what a program answers that keeps a source, by how the history reads
-ran-so : ContinuesReplay → IsMeaningUnique → (source symbols : List ℕ) (l : LoadedProgram) (c : Code)
-    → KeepsSource l.profile source symbols l.program → MeansCode source symbols c → (read : Result (List Entry) Refusal)
+ran-so : ContinuesReplay → IsMeaningUnique → (language : Language) (source symbols : List ℕ) (l : LoadedProgram) (c : Code)
+    → KeepsSourceIn language l.profile source symbols l.program → MeansCodeIn language source symbols c → (read : Result (List Entry) Refusal)
     → ran l read ≡ go_answer l.profile (Ok c) read
-ran-so continues one source symbols l c keeps means (Err refusal) = refl
-ran-so continues one source symbols l c keeps means (Ok entries) =
-    ap done (texts-of continues one l.profile source symbols l.program c keeps means entries)
+ran-so continues one language source symbols l c keeps means (Err refusal) = refl
+ran-so continues one language source symbols l c keeps means (Ok entries) =
+    ap done (texts-of continues one language l.profile source symbols l.program c keeps means entries)
 
-answers-so : ContinuesReplay → IsMeaningUnique → (source symbols : List ℕ) (l : LoadedProgram) (c : Code)
-    → KeepsSource l.profile source symbols l.program → MeansCode source symbols c → (history : List ℕ)
-    → run_answer (Ok l) history ≡ go_answer l.profile (Ok c) (history_of (names_in symbols) history)
-answers-so continues one source symbols l c keeps means history =
+answers-so : ContinuesReplay → IsMeaningUnique → (language : Language) (source symbols : List ℕ) (l : LoadedProgram) (c : Code)
+    → KeepsSourceIn language l.profile source symbols l.program → MeansCodeIn language source symbols c → (history : List ℕ)
+    → run_answer (Ok l) history ≡ go_answer l.profile (Ok c) (history_of (names_read_in language symbols) history)
+answers-so continues one language source symbols l c keeps means history =
     ap (λ (names : List NameEntry). ran l (history_of names history)) keeps.names
-    ∙ ran-so continues one source symbols l c keeps means (history_of (names_in symbols) history)
+    ∙ ran-so continues one language source symbols l c keeps means (history_of (names_read_in language symbols) history)
 
 pub answer-alike : ContinuesReplay → MeansOne → IsMeaningUnique → GivesExactlyImages → KeptImagesAnswerAlike
-answer-alike continues means_one one gives image source symbols bytes kept history answer = (
+answer-alike continues means_one one gives language image source symbols bytes kept history answer = (
   λ said. (
     Ok c,
     kept.keeps.runs.1,
@@ -72,8 +73,8 @@ answer-alike continues means_one one gives image source symbols bytes kept histo
   λ said. (
     Ok l,
     loads,
-    said.2 ∙ ap (λ (v : Result Code Refused). go_answer l.profile v (history_of (names_in symbols) history))
-        (means_one source symbols said.0 (Ok c) said.1 kept.keeps.runs.1) ∙ sym same,
+    said.2 ∙ ap (λ (v : Result Code Refused). go_answer l.profile v (history_of (names_read_in language symbols) history))
+        (means_one language source symbols said.0 (Ok c) said.1 kept.keeps.runs.1) ∙ sym same,
   ),
 )
   where
@@ -89,5 +90,5 @@ answer-alike continues means_one one gives image source symbols bytes kept histo
         record { spelled = kept.spelled; program = kept.keeps.runnable.is; verifies = kept.keeps.runnable.verifies } in
         record { image = record { stamp = kept.stamp; given = (gives image kept.stamp kept.program bytes).1 is; profile = refl }; loadable = is }
 
-    same : run_answer (Ok l) history ≡ go_answer l.profile (Ok c) (history_of (names_in symbols) history)
-    same = answers-so continues one source symbols l c kept.keeps kept.keeps.runs.1 history
+    same : run_answer (Ok l) history ≡ go_answer l.profile (Ok c) (history_of (names_read_in language symbols) history)
+    same = answers-so continues one language source symbols l c kept.keeps kept.keeps.runs.1 history

@@ -14,12 +14,14 @@ pub mod OutputLemmas
 pub mod PassLemmas
 pub mod PlainLemmas
 pub mod ReadingLemmas
+pub mod RefusedLemmas
 pub mod RegularLemmas
 pub mod RunLemmas
 pub mod SaysLemmas
 pub mod StepperLemmas
 pub mod SummaryLemmas
 pub mod TableLemmas
+pub mod TranslatingLemmas
 pub mod UpgradeLemmas
 pub mod Verdicts
 pub mod WatchingLemmas

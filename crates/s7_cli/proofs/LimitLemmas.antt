@@ -1,5 +1,5 @@
 -- The numbers of a command, and how many scripts it has, are within their limits.
-use Rattle.std.proofs.Common.{◌≡◌, ◌≤◌, sym, subst, ℕ, List, [], ◌∷◌, arith, codes, length, nat_le, nat_lt}
+use Rattle.std.proofs.Common.{◌≡◌, ◌≤◌, sym, subst, ℕ, Bool, List, [], ◌∷◌, arith, codes, length, nat_le, nat_lt}
 use Rattle.std.proofs.lemmas.Bool.{and_parts}
 use Rattle.std.proofs.lemmas.Bool.Decides.{nat_tests}
 use Rattle.std.specs.Prelude.{◌&&◌, not, Option, Some, None, IfSome, bytes_eq, is_some, unwrap_or}
@@ -8,7 +8,7 @@ use Rattle.clap.specs.Words.{all_of, fault_of, first_of, matches_of}
 use Rattle.plc_base.specs.Decimal.{decimal_up_to, decimal_value, is_decimal}
 use Rattle.stl_parser.proofs.OptionLemmas.{both, chained, mapped, none_holds, passed}
 use Rattle.s7_cli.specs.Command.{Command, Gen, Live, Watch}
-use Rattle.s7_cli.specs.Words.{the_line, number_up_to, one_word_command, two_word_command, short_command, live_command, stepped_command, watch_command, asked_for, asked_by, command_of, CommandsKeepLimits, KeepsLimits}
+use Rattle.s7_cli.specs.Words.{the_line, file_command, has_german, number_up_to, one_word_command, takes_no_source, two_word_command, short_command, live_command, stepped_command, watch_command, asked_for, asked_by, command_of, CommandsKeepLimits, KeepsLimits}
 
 decimal-limit : (most : ℕ) (word : List ℕ) → IfSome (decimal_up_to most word) (λ n. n ≤ most)
 unfolding decimal_up_to
@@ -21,26 +21,34 @@ number-limits most word =
     chained (decimal_up_to most word) _ (λ n. n ≤ most) _ (decimal-limit most word)
     (λ n small. passed (nat_lt 0 n) (Some n) _ (λ above. let least : 1 ≤ n = grind (arith, nat_tests) in (least, small)))
 
-one-limits : (command word : List ℕ) (symbols : Option (List ℕ)) → IfSome (one_word_command command word symbols) KeepsLimits
-one-limits command word symbols =
+one-limits : (command word : List ℕ) (symbols : Option (List ℕ)) (german : Bool) → IfSome (one_word_command command word symbols german) KeepsLimits
+one-limits command word symbols german =
     both (bytes_eq command (codes "check")) _ _ KeepsLimits tt
-    (passed (bytes_eq command (codes "gen") && not (is_some symbols)) _ KeepsLimits
+    (passed (bytes_eq command (codes "gen") && takes_no_source symbols german) _ KeepsLimits
     (λ _. mapped (number_up_to 10000 word) Gen _ KeepsLimits (number-limits 10000 word) (λ n h. h)))
 
-two-limits : (command first second : List ℕ) (symbols : Option (List ℕ)) → IfSome (two_word_command command first second symbols) KeepsLimits
-two-limits command first second symbols =
+file-limits : (command first second : List ℕ) → IfSome (file_command command first second) KeepsLimits
+file-limits command first second =
+    both (bytes_eq command (codes "run")) _ _ KeepsLimits tt
+    (both (bytes_eq command (codes "upgrade")) _ _ KeepsLimits tt
+    (both (bytes_eq command (codes "bound")) _ _ KeepsLimits tt
+    (both (bytes_eq command (codes "recheck")) _ _ KeepsLimits tt
+    (both (bytes_eq command (codes "english")) _ _ KeepsLimits tt
+    (passed (bytes_eq command (codes "german")) _ KeepsLimits (λ _. tt))))))
+
+two-limits : (command first second : List ℕ) (symbols : Option (List ℕ)) (german : Bool)
+    → IfSome (two_word_command command first second symbols german) KeepsLimits
+two-limits command first second symbols german =
     both (bytes_eq command (codes "go")) _ _ KeepsLimits tt
     (both (bytes_eq command (codes "compile")) _ _ KeepsLimits tt
-    (both (bytes_eq command (codes "run") && not (is_some symbols)) _ _ KeepsLimits tt
-    (both (bytes_eq command (codes "upgrade") && not (is_some symbols)) _ _ KeepsLimits tt
-    (both (bytes_eq command (codes "bound") && not (is_some symbols)) _ _ KeepsLimits tt
-    (passed (bytes_eq command (codes "recheck") && not (is_some symbols)) _ KeepsLimits (λ _. tt))))))
+    (passed (takes_no_source symbols german) _ KeepsLimits (λ _. file-limits command first second)))
 
-short-limits : (command : List ℕ) (words : List (List ℕ)) (symbols : Option (List ℕ)) → IfSome (short_command command words symbols) KeepsLimits
-short-limits command [] symbols = tt
-short-limits command (word ∷ []) symbols = one-limits command word symbols
-short-limits command (first ∷ second ∷ []) symbols = two-limits command first second symbols
-short-limits command (first ∷ second ∷ third ∷ more) symbols = tt
+short-limits : (command : List ℕ) (words : List (List ℕ)) (symbols : Option (List ℕ)) (german : Bool)
+    → IfSome (short_command command words symbols german) KeepsLimits
+short-limits command [] symbols german = tt
+short-limits command (word ∷ []) symbols german = one-limits command word symbols german
+short-limits command (first ∷ second ∷ []) symbols german = two-limits command first second symbols german
+short-limits command (first ∷ second ∷ third ∷ more) symbols german = tt
 
 live-limits : (command : List ℕ) (words : List (List ℕ)) (steps : List ℕ) → IfSome (live_command command words steps) KeepsLimits
 live-limits command [] steps = tt
@@ -67,14 +75,16 @@ watch-limits (image ∷ stimuli ∷ vars ∷ script ∷ scripts) steps =
 stepped-limits : (command : List ℕ) (words : List (List ℕ)) (steps : List ℕ) → IfSome (stepped_command command words steps) KeepsLimits
 stepped-limits command words steps = both (bytes_eq command (codes "watch")) _ _ KeepsLimits (watch-limits words steps) (live-limits command words steps)
 
-asked-limits : (command : List ℕ) (words : List (List ℕ)) (symbols steps : Option (List ℕ)) → IfSome (asked_for command words symbols steps) KeepsLimits
-asked-limits command words symbols None = short-limits command words symbols
-asked-limits command words symbols (Some steps) = both (is_some symbols) None _ KeepsLimits tt (stepped-limits command words steps)
+asked-limits : (command : List ℕ) (words : List (List ℕ)) (symbols : Option (List ℕ)) (german : Bool) (steps : Option (List ℕ))
+    → IfSome (asked_for command words symbols german steps) KeepsLimits
+asked-limits command words symbols german None = short-limits command words symbols german
+asked-limits command words symbols german (Some steps) =
+    passed (takes_no_source symbols german) _ KeepsLimits (λ _. stepped-limits command words steps)
 
 found-limits : (found : List Row) → IfSome (asked_by found) KeepsLimits
 found-limits found =
     chained (first_of (codes "COMMAND") found) _ (λ command. Unit {0}) KeepsLimits (none_holds (first_of (codes "COMMAND") found))
-    (λ command _. asked-limits command (unwrap_or (all_of (codes "FILES") found) []) (first_of (codes "symbols") found) (first_of (codes "steps") found))
+    (λ command _. asked-limits command (unwrap_or (all_of (codes "FILES") found) []) (first_of (codes "symbols") found) (has_german found) (first_of (codes "steps") found))
 
 pub commands_keep_limits : CommandsKeepLimits
 unfolding command_of

@@ -278,7 +278,7 @@ on V W says TooDeep told = absurd told
 on V W says NoMemory told = tt
 on V W says WordsRefused told = absurd told
 on V W says ReadFault told = absurd told
-on V W says (TooLong file) told = absurd told
+on V W says (TooLong file) told = told
 on V W says WriteFault told = absurd told
 
 -- a refusal is handed on

@@ -1,5 +1,5 @@
 -- What clap found in the words, and the command that they ask for.
-use Rattle.std.proofs.Common.{◌≡◌, ◌≢◌, ℕ, List, [], ◌∷◌, map, false, codes, refl, ap, sym, ◌∙◌, inl, inr, arith, if◌then◌else◌}
+use Rattle.std.proofs.Common.{◌≡◌, ◌≢◌, ℕ, Bool, List, [], ◌∷◌, map, false, codes, refl, ap, sym, ◌∙◌, inl, inr, arith, if◌then◌else◌}
 use Rattle.std.proofs.lemmas.Bool.Decides.{nat_tests}
 use Rattle.std.specs.Prelude.{Option, Some, None, option_map, unwrap_or}
 use Rattle.std.specs.Borrow.{Bor}
@@ -10,14 +10,14 @@ use Rattle.clap.specs.declared.error.Error.{Error}
 use Rattle.clap.specs.declared.error.kind.ErrorKind.{ErrorKind}
 use Rattle.clap.specs.declared.error.kind.ErrorKind.TheVariants.{OutOfMemory}
 use Rattle.s7_cli.specs.Command.{Command}
-use Rattle.s7_cli.specs.Words.{the_line, asked_for, asked_by, command_of}
+use Rattle.s7_cli.specs.Words.{the_line, asked_for, asked_by, command_of, has_german}
 
 -- the words that were found, one by one
-pub asked_by-is : (rows : List Row) (command : List ℕ) (files : List (List ℕ)) (symbols steps : Option (List ℕ))
+pub asked_by-is : (rows : List Row) (command : List ℕ) (files : List (List ℕ)) (symbols : Option (List ℕ)) (german : Bool) (steps : Option (List ℕ))
     → Some command ≡ first_of (codes "COMMAND") rows → files ≡ unwrap_or (all_of (codes "FILES") rows) []
-    → symbols ≡ first_of (codes "symbols") rows → steps ≡ first_of (codes "steps") rows
-    → asked_for command files symbols steps ≡ asked_by rows
-asked_by-is rows command files symbols steps e f g h = rw (← e, f, g, h) refl
+    → symbols ≡ first_of (codes "symbols") rows → german ≡ has_german rows → steps ≡ first_of (codes "steps") rows
+    → asked_for command files symbols german steps ≡ asked_by rows
+asked_by-is rows command files symbols german steps e f g h i = rw (← e, f, g, h, i) refl
 
 pub asked_by-none : (rows : List Row) → None ≡ first_of (codes "COMMAND") rows → None ≡ asked_by rows
 asked_by-none rows e = rw (← e) refl

@@ -13,7 +13,7 @@ use Rattle.clap.specs.Simple.{Shape, built, entered}
 use Rattle.clap.specs.Walk.{Row, Rule, Text, Waiting, Walk, finished, idle, is_empty, option, positional, settled, settled_rows, walked}
 use Rattle.clap.specs.declared.builder.value_parser.ValueParser.TheVariants as parser
 use Rattle.s7_cli.specs.Command.{Command, Watch}
-use Rattle.s7_cli.specs.Words.{the_line, asked_by, command_of, is_plain_word, plain_command, live_command, stepped_command, watch_command, short_command, number_up_to, ReadsPlainWords, ReadsStepsAnywhere, ReadsSymbolsAnywhere, ReadsWordsBehindDashes, RefusesNoValue}
+use Rattle.s7_cli.specs.Words.{the_line, asked_by, command_of, is_plain_word, plain_command, live_command, stepped_command, watch_command, short_command, number_up_to, ReadsGermanAnywhere, ReadsPlainWords, ReadsStepsAnywhere, ReadsSymbolsAnywhere, ReadsWordsBehindDashes, RefusesNoValue}
 
 -- ---- one word
 
@@ -47,33 +47,44 @@ values-behind : (words : List Text) → are_values true words ≡ true
 values-behind [] = refl
 values-behind (word ∷ words) = values-behind words
 
--- ---- an option with its value
+-- ---- an option with its value, or a flag
+
+data Valued : Type 0 where
+  symbols : Text → Valued
+  steps : Text → Valued
 
 data Given : Type 0 where
-  symbols : Text → Given
-  steps : Text → Given
+  with_value : Valued → Given
+  german : Given
 
 abbrev name_of : Given → Text
-name_of (symbols file) = codes "symbols"
-name_of (steps number) = codes "steps"
+name_of (with_value (symbols file)) = codes "symbols"
+name_of (with_value (steps number)) = codes "steps"
+name_of german = codes "german"
 
-abbrev value_of : Given → Text
+abbrev value_of : Valued → Text
 value_of (symbols file) = file
 value_of (steps number) = number
 
+abbrev values_of : Given → List Text
+values_of (with_value given) = value_of given ∷ []
+values_of german = []
+
 abbrev symbols_of : Option Given → Option Text
-symbols_of (Some (symbols file)) = Some file
-symbols_of (Some (steps number)) = None
-symbols_of None = None
+symbols_of (Some (with_value (symbols file))) = Some file
+symbols_of given = None
 
 abbrev steps_of : Option Given → Option Text
-steps_of (Some (symbols file)) = None
-steps_of (Some (steps number)) = Some number
-steps_of None = None
+steps_of (Some (with_value (steps number))) = Some number
+steps_of given = None
+
+abbrev german_of : Option Given → Bool
+german_of (Some german) = true
+german_of given = false
 
 -- the command that words ask for with it
 abbrev asked_with : Option Given → List Text → Option Command
-asked_with given words = plain_command words (symbols_of given) (steps_of given)
+asked_with given words = plain_command words (symbols_of given) (german_of given) (steps_of given)
 
 -- ---- places of the walk
 
@@ -89,7 +100,7 @@ abbrev with_used : Text → List Text → List Row → List Row
 with_used id values rows = settled_rows the_rules (Some (id, values)) rows
 
 abbrev with_given : Given → List Row → List Row
-with_given given rows = with_used (name_of given) (value_of given ∷ []) rows
+with_given given rows = with_used (name_of given) (values_of given) rows
 
 abbrev at : Bool → List Row → Option (Text × List Text) → Waiting → ℕ → Walk
 at behind rows pending waiting position = record {
@@ -162,11 +173,13 @@ no_fault-first false given command h = let p = plain command h in rw (p.no_dashe
 no_fault-second : (behind : Bool) (given : Option Given) (command file : Text) → is_value behind file ≡ true
     → turn_fault the_shape [] (at_command behind given command) file ≡ []
 no_fault-second true None command file h = refl
-no_fault-second true (Some (symbols f)) command file h = refl
-no_fault-second true (Some (steps n)) command file h = refl
+no_fault-second true (Some (with_value (symbols f))) command file h = refl
+no_fault-second true (Some (with_value (steps n))) command file h = refl
+no_fault-second true (Some german) command file h = refl
 no_fault-second false None command file h = let p = plain file h in rw (p.no_dashes, p.no_long, p.no_short) refl
-no_fault-second false (Some (symbols f)) command file h = let p = plain file h in rw (p.no_dashes, p.no_long, p.no_short) refl
-no_fault-second false (Some (steps n)) command file h = let p = plain file h in rw (p.no_dashes, p.no_long, p.no_short) refl
+no_fault-second false (Some (with_value (symbols f))) command file h = let p = plain file h in rw (p.no_dashes, p.no_long, p.no_short) refl
+no_fault-second false (Some (with_value (steps n))) command file h = let p = plain file h in rw (p.no_dashes, p.no_long, p.no_short) refl
+no_fault-second false (Some german) command file h = let p = plain file h in rw (p.no_dashes, p.no_long, p.no_short) refl
 
 no_fault-further : (behind : Bool) (rows : List Row) (file : Text) (files : List Text) (word : Text) → is_value behind word ≡ true
     → turn_fault the_shape [] (at_files behind rows (file ∷ files)) word ≡ []
@@ -193,8 +206,9 @@ no_end_fault : (behind : Bool) (given : Option Given) (command file : Text) (fil
     → end_fault (at_files behind (rows_at_files given command) (file ∷ files)) ≡ []
 unfolding defaults_fault
 no_end_fault behind None command file files few = rw (no_fault-files behind (rows_at_files None command) file files few) refl
-no_end_fault behind (Some (symbols f)) command file files few = rw (no_fault-files behind (rows_at_files (Some (symbols f)) command) file files few) refl
-no_end_fault behind (Some (steps n)) command file files few = rw (no_fault-files behind (rows_at_files (Some (steps n)) command) file files few) refl
+no_end_fault behind (Some (with_value (symbols f))) command file files few = rw (no_fault-files behind (rows_at_files (Some (with_value (symbols f))) command) file files few) refl
+no_end_fault behind (Some (with_value (steps n))) command file files few = rw (no_fault-files behind (rows_at_files (Some (with_value (steps n))) command) file files few) refl
+no_end_fault behind (Some german) command file files few = rw (no_fault-files behind (rows_at_files (Some german) command) file files few) refl
 
 -- ---- what the words ask for
 
@@ -266,16 +280,18 @@ none-stepped command words number h = none-chosen (bytes_eq command (codes "watc
 none-alone : (command number : Text) → stepped_command command [] number ≡ None
 none-alone command number = none-chosen (bytes_eq command (codes "watch")) None None refl refl
 
-none-short : (command : Text) (words : List Text) (given : Option Text) → are_few words ≡ false → short_command command words given ≡ None
-none-short command [] given h = refl
-none-short command (a ∷ []) given h = absurd (true≢false h)
-none-short command (a ∷ b ∷ []) given h = absurd (true≢false h)
-none-short command (a ∷ b ∷ c ∷ more) given h = refl
+none-short : (command : Text) (words : List Text) (given : Option Text) (in_german : Bool) → are_few words ≡ false
+    → short_command command words given in_german ≡ None
+none-short command [] given in_german h = refl
+none-short command (a ∷ []) given in_german h = absurd (true≢false h)
+none-short command (a ∷ b ∷ []) given in_german h = absurd (true≢false h)
+none-short command (a ∷ b ∷ c ∷ more) given in_german h = refl
 
 none-many : (command : Text) (words : List Text) (given : Option Given) → are_few words ≡ false → asked_with given (command ∷ words) ≡ None
-none-many command words None h = none-short command words None h
-none-many command words (Some (symbols file)) h = none-short command words (Some file) h
-none-many command words (Some (steps number)) h = none-stepped command words number h
+none-many command words None h = none-short command words None false h
+none-many command words (Some (with_value (symbols file))) h = none-short command words (Some file) false h
+none-many command words (Some (with_value (steps number))) h = none-stepped command words number h
+none-many command words (Some german) h = none-short command words None true h
 
 -- ---- words that are no options
 
@@ -301,24 +317,28 @@ behind_first (first ∷ rest) = rest
 
 no_words : (given : Option Given) → asked_by (finished the_rules (at_start false given).held) ≡ None
 no_words None = refl
-no_words (Some (symbols file)) = refl
-no_words (Some (steps number)) = refl
+no_words (Some (with_value (symbols file))) = refl
+no_words (Some (with_value (steps number))) = refl
+no_words (Some german) = refl
 
 one_word : (behind : Bool) (given : Option Given) (command : Text) → asked_by (finished the_rules (at_command behind given command).held) ≡ None
 one_word behind None command = refl
-one_word behind (Some (symbols file)) command = refl
-one_word behind (Some (steps number)) command = none-alone command number
+one_word behind (Some (with_value (symbols file))) command = refl
+one_word behind (Some (with_value (steps number))) command = none-alone command number
+one_word behind (Some german) command = refl
 
 one_word-asked : (given : Option Given) (command : Text) → None ≡ asked_with given (command ∷ [])
 one_word-asked None command = refl
-one_word-asked (Some (symbols file)) command = refl
-one_word-asked (Some (steps number)) command = sym (none-alone command number)
+one_word-asked (Some (with_value (symbols file))) command = refl
+one_word-asked (Some (with_value (steps number))) command = sym (none-alone command number)
+one_word-asked (Some german) command = refl
 
 all_words : (behind : Bool) (given : Option Given) (command file : Text) (files : List Text)
     → asked_by (finished the_rules (at_files behind (rows_at_files given command) (file ∷ files)).held) ≡ asked_with given (command ∷ file ∷ files)
 all_words behind None command file files = refl
-all_words behind (Some (symbols f)) command file files = refl
-all_words behind (Some (steps n)) command file files = refl
+all_words behind (Some (with_value (symbols f))) command file files = refl
+all_words behind (Some (with_value (steps n))) command file files = refl
+all_words behind (Some german) command file files = refl
 
 -- the whole call, behind the option if there is one
 asked-start : (few behind : Bool) (given : Option Given) (words : List Text) → are_values behind words ≡ true
@@ -391,16 +411,16 @@ position_at [] = 1
 position_at (command ∷ files) = 2
 
 -- the word of the option
-abbrev word_of : Given → Text
+abbrev word_of : Valued → Text
 word_of (symbols file) = codes "--symbols"
 word_of (steps number) = codes "--steps"
 
 -- behind that word, behind its value, and behind both in one word
-abbrev at_option : Given → List Text → Walk
-at_option given front = at false (rows_at front) (Some (name_of given, [])) (option (name_of given)) (position_at front)
+abbrev at_option : Valued → List Text → Walk
+at_option given front = at false (rows_at front) (Some (name_of (with_value given), [])) (option (name_of (with_value given))) (position_at front)
 
-abbrev at_value : Given → List Text → Walk
-at_value given front = at false (rows_at front) (Some (name_of given, value_of given ∷ [])) idle (position_at front)
+abbrev at_value : Valued → List Text → Walk
+at_value given front = at false (rows_at front) (Some (name_of (with_value given), value_of given ∷ [])) idle (position_at front)
 
 abbrev behind_option : Given → List Text → Walk
 behind_option given front = at false (with_given given (rows_at front)) None idle (position_at front)
@@ -419,7 +439,7 @@ asked-place few (command ∷ file ∷ files) rest h =
     ∙ asked_if-next few _ _ file (files ++ rest) (λ _. no_fault-second false None command file second.0) (walked-second false None command file second.0)
     ∙ asked-further few false (rows_at_files None command) file [] files rest second.1
 
-walked-option : (given : Given) (front : List Text) → walked the_rules [] (place front) (word_of given) ≡ at_option given front
+walked-option : (given : Valued) (front : List Text) → walked the_rules [] (place front) (word_of given) ≡ at_option given front
 unfolding walked
 walked-option (symbols f) [] = refl
 walked-option (symbols f) (command ∷ []) = refl
@@ -428,7 +448,7 @@ walked-option (steps n) [] = refl
 walked-option (steps n) (command ∷ []) = refl
 walked-option (steps n) (command ∷ file ∷ files) = refl
 
-no_fault-option : (given : Given) (front : List Text) → are_few (behind_first front) ≡ true → turn_fault the_shape [] (place front) (word_of given) ≡ []
+no_fault-option : (given : Valued) (front : List Text) → are_few (behind_first front) ≡ true → turn_fault the_shape [] (place front) (word_of given) ≡ []
 no_fault-option (symbols f) [] few = refl
 no_fault-option (symbols f) (command ∷ []) few = refl
 no_fault-option (symbols f) (command ∷ file ∷ files) few = rw (no_fault-files false (rows_at_files None command) file files few) refl
@@ -436,19 +456,19 @@ no_fault-option (steps n) [] few = refl
 no_fault-option (steps n) (command ∷ []) few = refl
 no_fault-option (steps n) (command ∷ file ∷ files) few = rw (no_fault-files false (rows_at_files None command) file files few) refl
 
-walked-value : (given : Given) (front : List Text) → is_plain_word (value_of given) ≡ true
+walked-value : (given : Valued) (front : List Text) → is_plain_word (value_of given) ≡ true
     → walked the_rules [] (at_option given front) (value_of given) ≡ at_value given front
 unfolding walked
 walked-value (symbols f) front h = let p = plain f h in rw (p.no_dashes, p.no_long, p.no_short) refl
 walked-value (steps n) front h = let p = plain n h in rw (p.no_dashes, p.no_long, p.no_short) refl
 
-no_fault-value : (given : Given) (front : List Text) → is_plain_word (value_of given) ≡ true
+no_fault-value : (given : Valued) (front : List Text) → is_plain_word (value_of given) ≡ true
     → turn_fault the_shape [] (at_option given front) (value_of given) ≡ []
 no_fault-value (symbols f) front h = let p = plain f h in rw (p.no_dashes, p.no_long, p.no_short) refl
 no_fault-value (steps n) front h = let p = plain n h in rw (p.no_dashes, p.no_long, p.no_short) refl
 
-walked-joined : (given : Given) (front : List Text)
-    → walked the_rules [] (place front) (word_of given ++ codes "=" ++ value_of given) ≡ behind_option given front
+walked-joined : (given : Valued) (front : List Text)
+    → walked the_rules [] (place front) (word_of given ++ codes "=" ++ value_of given) ≡ behind_option (with_value given) front
 unfolding walked
 walked-joined (symbols f) [] = refl
 walked-joined (symbols f) (command ∷ []) = refl
@@ -457,7 +477,7 @@ walked-joined (steps n) [] = refl
 walked-joined (steps n) (command ∷ []) = refl
 walked-joined (steps n) (command ∷ file ∷ files) = refl
 
-no_fault-joined : (given : Given) (front : List Text) → are_few (behind_first front) ≡ true
+no_fault-joined : (given : Valued) (front : List Text) → are_few (behind_first front) ≡ true
     → turn_fault the_shape [] (place front) (word_of given ++ codes "=" ++ value_of given) ≡ []
 no_fault-joined (symbols f) [] few = refl
 no_fault-joined (symbols f) (command ∷ []) few = refl
@@ -467,7 +487,7 @@ no_fault-joined (steps n) (command ∷ []) few = refl
 no_fault-joined (steps n) (command ∷ file ∷ files) few = rw (no_fault-files false (rows_at_files None command) file files few) refl
 
 -- the option is used once
-no_fault-used : (given : Given) (front : List Text) → settle_fault the_rules false (at_value given front).held ≡ []
+no_fault-used : (given : Valued) (front : List Text) → settle_fault the_rules false (at_value given front).held ≡ []
 no_fault-used (symbols f) [] = refl
 no_fault-used (symbols f) (command ∷ []) = refl
 no_fault-used (symbols f) (command ∷ file ∷ files) = refl
@@ -481,26 +501,44 @@ at_next given [] word = at_command false (Some given) word
 at_next given (command ∷ files) word = at_files false (with_given given (rows_at (command ∷ files))) (word ∷ [])
 
 walked-next : (given : Given) (front : List Text) (word : Text) → is_plain_word word ≡ true
-    → (walked the_rules [] (at_value given front) word ≡ at_next given front word) × (walked the_rules [] (behind_option given front) word ≡ at_next given front word)
+    → walked the_rules [] (behind_option given front) word ≡ at_next given front word
 unfolding walked
-walked-next (symbols f) [] word h = let p = plain word h in (rw (p.no_dashes, p.no_long, p.no_short) refl, rw (p.no_dashes, p.no_long, p.no_short) refl)
-walked-next (symbols f) (command ∷ files) word h = let p = plain word h in (rw (p.no_dashes, p.no_long, p.no_short) refl, rw (p.no_dashes, p.no_long, p.no_short) refl)
-walked-next (steps n) [] word h = let p = plain word h in (rw (p.no_dashes, p.no_long, p.no_short) refl, rw (p.no_dashes, p.no_long, p.no_short) refl)
-walked-next (steps n) (command ∷ files) word h = let p = plain word h in (rw (p.no_dashes, p.no_long, p.no_short) refl, rw (p.no_dashes, p.no_long, p.no_short) refl)
+walked-next (with_value (symbols f)) [] word h = let p = plain word h in rw (p.no_dashes, p.no_long, p.no_short) refl
+walked-next (with_value (symbols f)) (command ∷ files) word h = let p = plain word h in rw (p.no_dashes, p.no_long, p.no_short) refl
+walked-next (with_value (steps n)) [] word h = let p = plain word h in rw (p.no_dashes, p.no_long, p.no_short) refl
+walked-next (with_value (steps n)) (command ∷ files) word h = let p = plain word h in rw (p.no_dashes, p.no_long, p.no_short) refl
+walked-next german [] word h = let p = plain word h in rw (p.no_dashes, p.no_long, p.no_short) refl
+walked-next german (command ∷ files) word h = let p = plain word h in rw (p.no_dashes, p.no_long, p.no_short) refl
 
 no_fault-next : (given : Given) (front : List Text) (word : Text) → is_plain_word word ≡ true
-    → (turn_fault the_shape [] (at_value given front) word ≡ []) × (turn_fault the_shape [] (behind_option given front) word ≡ [])
-no_fault-next (symbols f) [] word h = let p = plain word h in (rw (p.no_dashes, p.no_long, p.no_short) refl, rw (p.no_dashes, p.no_long, p.no_short) refl)
-no_fault-next (symbols f) (command ∷ files) word h =
-    let p = plain word h in
-    (rw (p.no_dashes, p.no_long, p.no_short) (no_fault-used (symbols f) (command ∷ files)), rw (p.no_dashes, p.no_long, p.no_short) refl)
-no_fault-next (steps n) [] word h = let p = plain word h in (rw (p.no_dashes, p.no_long, p.no_short) refl, rw (p.no_dashes, p.no_long, p.no_short) refl)
-no_fault-next (steps n) (command ∷ files) word h =
-    let p = plain word h in
-    (rw (p.no_dashes, p.no_long, p.no_short) (no_fault-used (steps n) (command ∷ files)), rw (p.no_dashes, p.no_long, p.no_short) refl)
+    → turn_fault the_shape [] (behind_option given front) word ≡ []
+no_fault-next (with_value (symbols f)) [] word h = let p = plain word h in rw (p.no_dashes, p.no_long, p.no_short) refl
+no_fault-next (with_value (symbols f)) (command ∷ files) word h = let p = plain word h in rw (p.no_dashes, p.no_long, p.no_short) refl
+no_fault-next (with_value (steps n)) [] word h = let p = plain word h in rw (p.no_dashes, p.no_long, p.no_short) refl
+no_fault-next (with_value (steps n)) (command ∷ files) word h = let p = plain word h in rw (p.no_dashes, p.no_long, p.no_short) refl
+no_fault-next german [] word h = let p = plain word h in rw (p.no_dashes, p.no_long, p.no_short) refl
+no_fault-next german (command ∷ files) word h = let p = plain word h in rw (p.no_dashes, p.no_long, p.no_short) refl
+
+-- and from behind its value
+walked-used : (given : Valued) (front : List Text) (word : Text) → is_plain_word word ≡ true
+    → walked the_rules [] (at_value given front) word ≡ at_next (with_value given) front word
+unfolding walked
+walked-used (symbols f) [] word h = let p = plain word h in rw (p.no_dashes, p.no_long, p.no_short) refl
+walked-used (symbols f) (command ∷ files) word h = let p = plain word h in rw (p.no_dashes, p.no_long, p.no_short) refl
+walked-used (steps n) [] word h = let p = plain word h in rw (p.no_dashes, p.no_long, p.no_short) refl
+walked-used (steps n) (command ∷ files) word h = let p = plain word h in rw (p.no_dashes, p.no_long, p.no_short) refl
+
+no_fault-value_used : (given : Valued) (front : List Text) (word : Text) → is_plain_word word ≡ true
+    → turn_fault the_shape [] (at_value given front) word ≡ []
+no_fault-value_used (symbols f) [] word h = let p = plain word h in rw (p.no_dashes, p.no_long, p.no_short) refl
+no_fault-value_used (symbols f) (command ∷ files) word h =
+    let p = plain word h in rw (p.no_dashes, p.no_long, p.no_short) (no_fault-used (symbols f) (command ∷ files))
+no_fault-value_used (steps n) [] word h = let p = plain word h in rw (p.no_dashes, p.no_long, p.no_short) refl
+no_fault-value_used (steps n) (command ∷ files) word h =
+    let p = plain word h in rw (p.no_dashes, p.no_long, p.no_short) (no_fault-used (steps n) (command ∷ files))
 
 -- at the end of the words the value is used too
-end-value : (few : Bool) (given : Given) (front : List Text) → asked_if few (at_value given front) [] ≡ asked_if few (behind_option given front) []
+end-value : (few : Bool) (given : Valued) (front : List Text) → asked_if few (at_value given front) [] ≡ asked_if few (behind_option (with_value given) front) []
 unfolding walk_fault
 end-value true (symbols f) front = rw (no_fault-used (symbols f) front) refl
 end-value true (steps n) front = rw (no_fault-used (steps n) front) refl
@@ -508,45 +546,56 @@ end-value false (symbols f) front = refl
 end-value false (steps n) front = refl
 
 -- the two forms lead to the same
-asked-value : (few : Bool) (given : Given) (front back : List Text) → are_values false back ≡ true
-    → asked_if few (at_value given front) back ≡ asked_if few (behind_option given front) back
+asked-value : (few : Bool) (given : Valued) (front back : List Text) → are_values false back ≡ true
+    → asked_if few (at_value given front) back ≡ asked_if few (behind_option (with_value given) front) back
 asked-value few given front [] h = end-value few given front
 asked-value few given front (word ∷ words) h =
     let first = and_parts (is_value false word) _ h in
-    let none = no_fault-next given front word first.0 in
-    let to = walked-next given front word first.0 in
-    asked_if-next few _ _ word words (λ _. none.0) to.0 ∙ sym (asked_if-next few _ _ word words (λ _. none.1) to.1)
+    asked_if-next few _ _ word words (λ _. no_fault-value_used given front word first.0) (walked-used given front word first.0)
+    ∙ sym (asked_if-next few _ _ word words (λ _. no_fault-next (with_value given) front word first.0) (walked-next (with_value given) front word first.0))
 
 -- from behind the option, with a command in front
 no_end_fault-option : (given : Given) (command file : Text) (files : List Text) → end_fault (behind_option given (command ∷ file ∷ files)) ≡ []
 unfolding defaults_fault
-no_end_fault-option (symbols f) command file files = refl
-no_end_fault-option (steps n) command file files = refl
+no_end_fault-option (with_value (symbols f)) command file files = refl
+no_end_fault-option (with_value (steps n)) command file files = refl
+no_end_fault-option german command file files = refl
 
 no_end_fault-behind : (given : Given) (command : Text) (front : List Text) (file : Text) (files : List Text) → are_few (file ∷ files) ≡ true
     → end_fault (at_files false (with_given given (rows_at (command ∷ front))) (file ∷ files)) ≡ []
 unfolding defaults_fault
-no_end_fault-behind (symbols f) command [] file files few = rw (no_fault-files false (with_given (symbols f) (rows_at (command ∷ []))) file files few) refl
-no_end_fault-behind (symbols f) command (a ∷ front) file files few = rw (no_fault-files false (with_given (symbols f) (rows_at (command ∷ a ∷ front))) file files few) refl
-no_end_fault-behind (steps n) command [] file files few = rw (no_fault-files false (with_given (steps n) (rows_at (command ∷ []))) file files few) refl
-no_end_fault-behind (steps n) command (a ∷ front) file files few = rw (no_fault-files false (with_given (steps n) (rows_at (command ∷ a ∷ front))) file files few) refl
+no_end_fault-behind (with_value (symbols f)) command [] file files few =
+    rw (no_fault-files false (with_given (with_value (symbols f)) (rows_at (command ∷ []))) file files few) refl
+no_end_fault-behind (with_value (symbols f)) command (a ∷ front) file files few =
+    rw (no_fault-files false (with_given (with_value (symbols f)) (rows_at (command ∷ a ∷ front))) file files few) refl
+no_end_fault-behind (with_value (steps n)) command [] file files few =
+    rw (no_fault-files false (with_given (with_value (steps n)) (rows_at (command ∷ []))) file files few) refl
+no_end_fault-behind (with_value (steps n)) command (a ∷ front) file files few =
+    rw (no_fault-files false (with_given (with_value (steps n)) (rows_at (command ∷ a ∷ front))) file files few) refl
+no_end_fault-behind german command [] file files few = rw (no_fault-files false (with_given german (rows_at (command ∷ []))) file files few) refl
+no_end_fault-behind german command (a ∷ front) file files few =
+    rw (no_fault-files false (with_given german (rows_at (command ∷ a ∷ front))) file files few) refl
 
 words-option : (given : Given) (command file : Text) (files : List Text)
     → asked_by (finished the_rules (behind_option given (command ∷ file ∷ files)).held) ≡ asked_with (Some given) (command ∷ file ∷ files)
-words-option (symbols f) command file files = refl
-words-option (steps n) command file files = refl
+words-option (with_value (symbols f)) command file files = refl
+words-option (with_value (steps n)) command file files = refl
+words-option german command file files = refl
 
 words-behind : (given : Given) (command : Text) (front : List Text) (file : Text) (files : List Text)
     → asked_by (finished the_rules (at_files false (with_given given (rows_at (command ∷ front))) (file ∷ files)).held)
     ≡ asked_with (Some given) (command ∷ (front ++ file ∷ files))
-words-behind (symbols f) command [] file files = refl
-words-behind (symbols f) command (a ∷ front) file files = refl
-words-behind (steps n) command [] file files = refl
-words-behind (steps n) command (a ∷ front) file files = refl
+words-behind (with_value (symbols f)) command [] file files = refl
+words-behind (with_value (symbols f)) command (a ∷ front) file files = refl
+words-behind (with_value (steps n)) command [] file files = refl
+words-behind (with_value (steps n)) command (a ∷ front) file files = refl
+words-behind german command [] file files = refl
+words-behind german command (a ∷ front) file files = refl
 
 one_word-option : (given : Given) (command : Text) → asked_by (finished the_rules (behind_option given (command ∷ [])).held) ≡ None
-one_word-option (symbols f) command = refl
-one_word-option (steps n) command = none-alone command n
+one_word-option (with_value (symbols f)) command = refl
+one_word-option (with_value (steps n)) command = none-alone command n
+one_word-option german command = refl
 
 few-back : (front back : List Text) → are_few (front ++ back) ≡ true → are_few back ≡ true
 few-back front back few = let sum = length-append front back in grind (arith, nat_tests)
@@ -564,7 +613,7 @@ asked-behind few given (command ∷ file ∷ files) [] h short =
     ∙ ap (λ fs. asked_with (Some given) (command ∷ file ∷ fs)) (sym (append-nil files))
 asked-behind few given (command ∷ front) (word ∷ words) h short =
     let first = and_parts (is_value false word) _ h in
-    asked_if-next few _ _ word words (λ _. (no_fault-next given (command ∷ front) word first.0).1) (walked-next given (command ∷ front) word first.0).1
+    asked_if-next few _ _ word words (λ _. no_fault-next given (command ∷ front) word first.0) (walked-next given (command ∷ front) word first.0)
     ∙ asked-rest few false (with_given given (rows_at (command ∷ front))) word words first.1
     ∙ asked_if-end few _ (λ f. no_end_fault-behind given command front word words (few-back front (word ∷ words) (short f)))
     ∙ words-behind given command front word words
@@ -578,8 +627,8 @@ few-place (command ∷ front) back few = few-front front back few
 values-parts : (front back : List Text) → are_values false (front ++ back) ≡ true → (are_values false front ≡ true) × (are_values false back ≡ true)
 values-parts front back h = and_parts (are_values false front) _ (sym (list_all-append (is_value false) front back) ∙ h)
 
-reads_apart : (given : Given) (front back : List Text) → list_all is_plain_word (front ++ back) ≡ true → is_plain_word (value_of given) ≡ true
-    → command_of (front ++ word_of given ∷ value_of given ∷ back) ≡ asked_with (Some given) (front ++ back)
+reads_apart : (given : Valued) (front back : List Text) → list_all is_plain_word (front ++ back) ≡ true → is_plain_word (value_of given) ≡ true
+    → command_of (front ++ word_of given ∷ value_of given ∷ back) ≡ asked_with (Some (with_value given)) (front ++ back)
 reads_apart given front back h value =
     let few = are_few (behind_first (front ++ back)) in
     let parts = values-parts front back h in
@@ -588,11 +637,11 @@ reads_apart given front back h value =
     ∙ asked_if-next few _ _ (word_of given) (value_of given ∷ back) (λ f. no_fault-option given front (few-place front back f)) (walked-option given front)
     ∙ asked_if-next few _ _ (value_of given) back (λ _. no_fault-value given front value) (walked-value given front value)
     ∙ asked-value few given front back parts.1
-    ∙ asked-behind few given front back parts.1 (λ f. f))
-    (many (front ++ back) (Some given))
+    ∙ asked-behind few (with_value given) front back parts.1 (λ f. f))
+    (many (front ++ back) (Some (with_value given)))
 
-reads_joined : (given : Given) (front back : List Text) → list_all is_plain_word (front ++ back) ≡ true
-    → command_of (front ++ (word_of given ++ codes "=" ++ value_of given) ∷ back) ≡ asked_with (Some given) (front ++ back)
+reads_joined : (given : Valued) (front back : List Text) → list_all is_plain_word (front ++ back) ≡ true
+    → command_of (front ++ (word_of given ++ codes "=" ++ value_of given) ∷ back) ≡ asked_with (Some (with_value given)) (front ++ back)
 reads_joined given front back h =
     let few = are_few (behind_first (front ++ back)) in
     let parts = values-parts front back h in
@@ -600,8 +649,29 @@ reads_joined given front back h =
     command_of-asked few (front ++ word ∷ back) _
     (asked-place few front (word ∷ back) parts.0
     ∙ asked_if-next few _ _ word back (λ f. no_fault-joined given front (few-place front back f)) (walked-joined given front)
-    ∙ asked-behind few given front back parts.1 (λ f. f))
-    (many (front ++ back) (Some given))
+    ∙ asked-behind few (with_value given) front back parts.1 (λ f. f))
+    (many (front ++ back) (Some (with_value given)))
+
+walked-german : (front : List Text) → walked the_rules [] (place front) (codes "--german") ≡ behind_option german front
+unfolding walked
+walked-german [] = refl
+walked-german (command ∷ []) = refl
+walked-german (command ∷ file ∷ files) = refl
+
+no_fault-german : (front : List Text) → are_few (behind_first front) ≡ true → turn_fault the_shape [] (place front) (codes "--german") ≡ []
+no_fault-german [] few = refl
+no_fault-german (command ∷ []) few = refl
+no_fault-german (command ∷ file ∷ files) few = rw (no_fault-files false (rows_at_files None command) file files few) refl
+
+pub reads_german_anywhere : ReadsGermanAnywhere
+reads_german_anywhere front back h =
+    let few = are_few (behind_first (front ++ back)) in
+    let parts = values-parts front back h in
+    command_of-asked few (front ++ codes "--german" ∷ back) _
+    (asked-place few front (codes "--german" ∷ back) parts.0
+    ∙ asked_if-next few _ _ (codes "--german") back (λ f. no_fault-german front (few-place front back f)) (walked-german front)
+    ∙ asked-behind few german front back parts.1 (λ f. f))
+    (many (front ++ back) (Some german))
 
 pub reads_symbols_anywhere : ReadsSymbolsAnywhere
 reads_symbols_anywhere front back file h = (reads_apart (symbols file) front back h, reads_joined (symbols file) front back h)
@@ -641,18 +711,18 @@ walked-place (command ∷ file ∷ files) h =
     ∙ ap (λ w. walk_on w files) (walked-second false None command file second.0)
     ∙ walked-all false (rows_at_files None command) file [] files second.1
 
-broken-end : (given : Given) (front : List Text) → is_empty (fault_from (at_option given front) []) ≡ false
+broken-end : (given : Valued) (front : List Text) → is_empty (fault_from (at_option given front) []) ≡ false
 unfolding walk_fault
 broken-end (symbols f) front = refl
 broken-end (steps n) front = refl
 
-broken-option : (given : Given) (front : List Text) → are_values false front ≡ true → is_empty (fault_from (at_start false None) (front ++ word_of given ∷ [])) ≡ false
+broken-option : (given : Valued) (front : List Text) → are_values false front ≡ true → is_empty (fault_from (at_start false None) (front ++ word_of given ∷ [])) ≡ false
 broken-option given front h =
     broken-behind (at_start false None) front (word_of given ∷ [])
     (ap (λ w. is_empty (fault_from w (word_of given ∷ []))) (walked-place front h)
     ∙ broken-behind (place front) (word_of given ∷ []) [] (ap (λ w. is_empty (fault_from w [])) (walked-option given front) ∙ broken-end given front))
 
-refuses_last : (given : Given) (front : List Text) → list_all is_plain_word front ≡ true → command_of (front ++ word_of given ∷ []) ≡ None
+refuses_last : (given : Valued) (front : List Text) → list_all is_plain_word front ≡ true → command_of (front ++ word_of given ∷ []) ≡ None
 refuses_last given front h = command_of-start (front ++ word_of given ∷ []) ∙ rw (broken-option given front h) refl
 
 pub refuses_no_value : RefusesNoValue

@@ -1,5 +1,5 @@
 -- What commands say of the contents of their files.
-use Rattle.std.proofs.Common.{◌≡◌, ◌≤◌, ◌⊎◌, inl, inr, refl, sym, ◌∙◌, ap, subst, ℕ, List, [], ◌∷◌, ◌++◌, length, Option, Some, None, Ok, Err, Result, arith}
+use Rattle.std.proofs.Common.{◌≡◌, ◌≤◌, ◌⊎◌, inl, inr, refl, sym, ◌∙◌, ap, subst, ℕ, Bool, true, false, List, [], ◌∷◌, ◌++◌, length, Option, Some, None, Ok, Err, Result, arith}
 use Rattle.std.specs.Prelude.{option_to_list, unwrap_or}
 use Rattle.plc_base.specs.declared.Profile.{Profile}
 use Rattle.plc_base.specs.declared.Profile.TheVariants.{Large}
@@ -17,14 +17,18 @@ use Rattle.machine.specs.Code.{Code}
 use Rattle.machine.specs.Flat.{code_of}
 use Rattle.generator.specs.History.{history}
 use Rattle.generator.specs.Source.{source_text}
-use Rattle.sem_kept.specs.Agreement.{KeepsSource, names_in}
-use Rattle.sem_kept.specs.Meaning.{IsJudged, IsMeaningUnique, ExcludesRefusal, IsRefusalUnique, Refused, InSymbols, InSource, MeansCode}
+use Rattle.sem_kept.specs.Agreement.{names_read_in}
+use Rattle.sem_kept.specs.Meaning.{HasSymbolsIn, IsJudgedIn, IsMeaningUnique, ExcludesRefusal, IsRefusalUnique, Refused, InSymbols, InSource, MeansCodeIn}
+use Rattle.stl_symbols.specs.Symbol.{Symbol}
+use Rattle.stl_symbols.specs.Symbols.{symbols_in}
+use Rattle.stl_symbols.specs.declared.languages.Language.{Language}
+use Rattle.stl_symbols.specs.declared.languages.Language.TheVariants.{English, German}
 use Rattle.event_text.specs.TextFault.{IsTextFault}
 use Rattle.event_text.specs.Texts.{history_of, stimuli_of}
 use Rattle.event_text.specs.declared.TextFault.{TextFault}
 use Rattle.event_text.specs.declared.TextFault.TheVariants as text
 use Rattle.s7_cli.specs.run_text.RunText.{run_text}
-use Rattle.s7_cli.specs.Compiling.{IsCompiled, RefusesBy}
+use Rattle.s7_cli.specs.Compiling.{RefusesBy, RefusesIn, RefusesSymbols, RefusesWith}
 use Rattle.s7_cli.specs.declared.faults.CompileFault.{CompileFault}
 use Rattle.s7_cli.specs.declared.faults.CompileFault.TheVariants as compiling
 use Rattle.s7_cli.specs.declared.failures.File.{File}
@@ -33,7 +37,7 @@ use Rattle.s7_cli.specs.declared.failures.Failure.{Failure}
 use Rattle.s7_cli.specs.declared.files.ProgramText.{ProgramText}
 use Rattle.s7_cli.specs.Answer.{Answer, done, refused, refused_image}
 use Rattle.s7_cli.specs.BoundSays.{BoundSays, RecheckSays}
-use Rattle.s7_cli.specs.Command.{Command, Go, Check, Compile, Run, Gen, Live, Watch, Upgrade, Bound, Recheck, symbols_inputs, program_inputs}
+use Rattle.s7_cli.specs.Command.{Command, Go, Check, Compile, Translate, Run, Gen, Live, Watch, Upgrade, Bound, Recheck, symbols_inputs, program_inputs}
 use Rattle.s7_cli.specs.Faults.{failure_of_compiling, failure_of_history, failure_of_loading}
 use Rattle.s7_cli.specs.GenText.{summary_text}
 use Rattle.s7_cli.specs.Inner.{RefusedBy}
@@ -41,12 +45,15 @@ use Rattle.s7_cli.specs.Lines.{ok_line}
 use Rattle.s7_cli.specs.LiveSays.{LiveAnswer, LiveSays, LoadedLive, RefusedScript, live_text, scripts_from}
 use Rattle.s7_cli.specs.Loads.{LoadsAs}
 use Rattle.s7_cli.specs.Reading.{HoldAll}
-use Rattle.s7_cli.specs.Says.{GoSays, CheckSays, RunSays, GenSays, UpgradeSays, refused_program, go_answer, check_answer, run_answer, ran, gen_answer, upgrade_answer, Says, Writes}
+use Rattle.s7_cli.specs.Says.{GoSays, CheckSays, RefusedProgram, RefusedText, RunSays, SourceSays, TextSays, TranslateSays, GenSays, UpgradeSays, refused_program, go_answer, check_answer, run_answer, ran, gen_answer, upgrade_answer, Says, Writes}
 use Rattle.s7_cli.specs.StatusTable.{HasOneText}
 use Rattle.s7_cli.specs.Texts.{IsWithin, contents_of, symbols_file}
+use Rattle.s7_cli.specs.Translating.{IsEnglish, IsSourceImage, KeepsText, NotInEnglish, NotTranslated, OfSymbols, language_of}
 use Rattle.s7_cli.proofs.BoundLemmas.{bound-outcome, bound-verdict, recheck-one, recheck-verdict}
 use Rattle.s7_cli.proofs.LoadLemmas.{loads-one}
+use Rattle.s7_cli.proofs.RefusedLemmas.{refused-more}
 use Rattle.s7_cli.proofs.ReadingLemmas.{AnswersAlike}
+use Rattle.s7_cli.proofs.TranslatingLemmas.{SaysOne, SaysVerdict, TranslatesOne, english-one, english-verdict, english-weaker, german-so, in-english, translated-one, translated-verdict}
 use Rattle.s7_cli.proofs.Verdicts.{IsVerdict}
 use Rattle.s7_cli.proofs.WatchSaysLemmas.{watch-one, watch-verdict}
 
@@ -55,21 +62,42 @@ use Rattle.s7_cli.proofs.WatchSaysLemmas.{watch-one, watch-verdict}
 -- a source with its symbols means one code, or is refused in one way
 abbrev pub MeansOne : Type 0
 MeansOne =
-    (source symbols : List ℕ) (v w : Result Code Refused) → IsJudged source symbols v → IsJudged source symbols w → v ≡ w
+    (language : Language) (source symbols : List ℕ) (v w : Result Code Refused) → IsJudgedIn language source symbols v
+    → IsJudgedIn language source symbols w → v ≡ w
 
 pub means-one : IsMeaningUnique → ExcludesRefusal → IsRefusalUnique → MeansOne
-means-one meaning excludes refusal source symbols (Ok c) (Ok d) p q = ap Ok (meaning source symbols c d p q)
-means-one meaning excludes refusal source symbols (Ok c) (Err r) p q = absurd (excludes source symbols c r p q)
-means-one meaning excludes refusal source symbols (Err r) (Ok c) p q = absurd (excludes source symbols c r q p)
-means-one meaning excludes refusal source symbols (Err r) (Err s) p q = ap Err (refusal source symbols r s p q)
+means-one meaning excludes refusal language source symbols (Ok c) (Ok d) p q = ap Ok (meaning language source symbols c d p q)
+means-one meaning excludes refusal language source symbols (Ok c) (Err r) p q = absurd (excludes language source symbols c r p q)
+means-one meaning excludes refusal language source symbols (Err r) (Ok c) p q = absurd (excludes language source symbols c r q p)
+means-one meaning excludes refusal language source symbols (Err r) (Err s) p q = ap Err (refusal language source symbols r s p q)
 
-go-one : MeansOne → (source symbols history : List ℕ) (a b : Answer) → GoSays source symbols history a
-    → GoSays source symbols history b → a ≡ b
-go-one one source symbols history a b p q =
-    p.2 ∙ ap (λ v. go_answer Large v (history_of (names_in symbols) history)) (one source symbols p.0 q.0 p.1 q.1) ∙ sym q.2
+-- the laws that leave each command one answer
+pub record OneEach : Type 0 where
+  pub means : MeansOne
+  pub translates : TranslatesOne
 
-check-one : MeansOne → (source symbols : List ℕ) (a b : Answer) → CheckSays source symbols a → CheckSays source symbols b → a ≡ b
-check-one one source symbols a b p q = p.2 ∙ ap check_answer (one source symbols p.0 q.0 p.1 q.1) ∙ sym q.2
+go-one : MeansOne → (language : Language) (symbols history : List ℕ) → SaysOne (λ text. SourceSays language Large text symbols history)
+go-one one language symbols history text a b p q =
+    p.2 ∙ ap (λ v. go_answer Large v (history_of (names_read_in language symbols) history)) (one language text symbols p.0 q.0 p.1 q.1) ∙ sym q.2
+
+go-german-one : OneEach → (german : Bool) (source symbols history : List ℕ) (a b : Answer) → GoSays german source symbols history a
+    → GoSays german source symbols history b → a ≡ b
+go-german-one one german source symbols history a b p q =
+    english-one one.translates german source symbols (λ text. SourceSays (language_of german) Large text symbols history)
+    (go-one one.means (language_of german) symbols history) a b p q
+
+text-one : MeansOne → (language : Language) (symbols : List ℕ) → SaysOne (TextSays language symbols)
+text-one one language symbols text a b p q = p.2 ∙ ap check_answer (one language text symbols p.0 q.0 p.1 q.1) ∙ sym q.2
+
+check-one : OneEach → (german : Bool) (source symbols : List ℕ) (a b : Answer) → CheckSays german source symbols a
+    → CheckSays german source symbols b → a ≡ b
+check-one one german source symbols a b p q =
+    english-one one.translates german source symbols (TextSays (language_of german) symbols) (text-one one.means (language_of german) symbols) a b p q
+
+translate-one : OneEach → (language : Language) (source : List ℕ) (a b : Answer) → TranslateSays language source a
+    → TranslateSays language source b → a ≡ b
+translate-one one language source a b p q =
+    translated-one one.translates language source (λ text answer. answer ≡ done ok_line) (λ text x y m n. m ∙ sym n) a b p q
 
 run-one : (image history : List ℕ) (a b : Answer) → RunSays image history a → RunSays image history b → a ≡ b
 run-one image history a b p q =
@@ -78,34 +106,37 @@ run-one image history a b p q =
 upgrade-one : (image : List ℕ) (a b : Answer) → UpgradeSays image a → UpgradeSays image b → a ≡ b
 upgrade-one image a b p q = p.2 ∙ ap upgrade_answer (loads-one image p.0 q.0 p.1 q.1) ∙ sym q.2
 
-gen-one : MeansOne → (number : ℕ) (a b : Answer) → GenSays number a → GenSays number b → a ≡ b
-gen-one one number a b p q = p.2 ∙ ap (gen_answer number) (one (source_text number) [] p.0 q.0 p.1 q.1) ∙ sym q.2
+gen-one : OneEach → (number : ℕ) (a b : Answer) → GenSays number a → GenSays number b → a ≡ b
+gen-one one number a b p q = p.2 ∙ ap (gen_answer number) (one.means English (source_text number) [] p.0 q.0 p.1 q.1) ∙ sym q.2
 
 -- a command with one text says one thing of any contents
-says-one : MeansOne → (k : Command) → HasOneText k → (contents : List (List ℕ)) (a b : Answer) → Says k contents a → Says k contents b → a ≡ b
-says-one one (Go _ None _) text [] a b p q = absurd p
-says-one one (Go _ None _) text (x ∷ []) a b p q = absurd p
-says-one one (Go _ None _) text (source ∷ history ∷ []) a b p q = go-one one source [] history a b p q
-says-one one (Go _ None _) text (x ∷ y ∷ more ∷ rest) a b p q = absurd p
-says-one one (Go _ (Some _) _) text [] a b p q = absurd p
-says-one one (Go _ (Some _) _) text (x ∷ []) a b p q = absurd p
-says-one one (Go _ (Some _) _) text (x ∷ y ∷ []) a b p q = absurd p
-says-one one (Go _ (Some _) _) text (source ∷ symbols ∷ history ∷ []) a b p q = go-one one source symbols history a b p q
-says-one one (Go _ (Some _) _) text (x ∷ y ∷ z ∷ more ∷ rest) a b p q = absurd p
-says-one one (Check _ None) text [] a b p q = absurd p
-says-one one (Check _ None) text (source ∷ []) a b p q = check-one one source [] a b p q
-says-one one (Check _ None) text (x ∷ more ∷ rest) a b p q = absurd p
-says-one one (Check _ (Some _)) text [] a b p q = absurd p
-says-one one (Check _ (Some _)) text (x ∷ []) a b p q = absurd p
-says-one one (Check _ (Some _)) text (source ∷ symbols ∷ []) a b p q = check-one one source symbols a b p q
-says-one one (Check _ (Some _)) text (x ∷ y ∷ more ∷ rest) a b p q = absurd p
-says-one one (Compile _ None _) text [] a b p q = absurd p
-says-one one (Compile _ None _) text (source ∷ []) a b p q = check-one one source [] a b p q
-says-one one (Compile _ None _) text (x ∷ more ∷ rest) a b p q = absurd p
-says-one one (Compile _ (Some _) _) text [] a b p q = absurd p
-says-one one (Compile _ (Some _) _) text (x ∷ []) a b p q = absurd p
-says-one one (Compile _ (Some _) _) text (source ∷ symbols ∷ []) a b p q = check-one one source symbols a b p q
-says-one one (Compile _ (Some _) _) text (x ∷ y ∷ more ∷ rest) a b p q = absurd p
+says-one : OneEach → (k : Command) → HasOneText k → (contents : List (List ℕ)) (a b : Answer) → Says k contents a → Says k contents b → a ≡ b
+says-one one (Go _ None german _) text [] a b p q = absurd p
+says-one one (Go _ None german _) text (x ∷ []) a b p q = absurd p
+says-one one (Go _ None german _) text (source ∷ history ∷ []) a b p q = go-german-one one german source [] history a b p q
+says-one one (Go _ None german _) text (x ∷ y ∷ more ∷ rest) a b p q = absurd p
+says-one one (Go _ (Some _) german _) text [] a b p q = absurd p
+says-one one (Go _ (Some _) german _) text (x ∷ []) a b p q = absurd p
+says-one one (Go _ (Some _) german _) text (x ∷ y ∷ []) a b p q = absurd p
+says-one one (Go _ (Some _) german _) text (source ∷ symbols ∷ history ∷ []) a b p q = go-german-one one german source symbols history a b p q
+says-one one (Go _ (Some _) german _) text (x ∷ y ∷ z ∷ more ∷ rest) a b p q = absurd p
+says-one one (Check _ None german) text [] a b p q = absurd p
+says-one one (Check _ None german) text (source ∷ []) a b p q = check-one one german source [] a b p q
+says-one one (Check _ None german) text (x ∷ more ∷ rest) a b p q = absurd p
+says-one one (Check _ (Some _) german) text [] a b p q = absurd p
+says-one one (Check _ (Some _) german) text (x ∷ []) a b p q = absurd p
+says-one one (Check _ (Some _) german) text (source ∷ symbols ∷ []) a b p q = check-one one german source symbols a b p q
+says-one one (Check _ (Some _) german) text (x ∷ y ∷ more ∷ rest) a b p q = absurd p
+says-one one (Compile _ None german _) text [] a b p q = absurd p
+says-one one (Compile _ None german _) text (source ∷ []) a b p q = check-one one german source [] a b p q
+says-one one (Compile _ None german _) text (x ∷ more ∷ rest) a b p q = absurd p
+says-one one (Compile _ (Some _) german _) text [] a b p q = absurd p
+says-one one (Compile _ (Some _) german _) text (x ∷ []) a b p q = absurd p
+says-one one (Compile _ (Some _) german _) text (source ∷ symbols ∷ []) a b p q = check-one one german source symbols a b p q
+says-one one (Compile _ (Some _) german _) text (x ∷ y ∷ more ∷ rest) a b p q = absurd p
+says-one one (Translate language _ _) text [] a b p q = absurd p
+says-one one (Translate language _ _) text (source ∷ []) a b p q = translate-one one language source a b p q
+says-one one (Translate language _ _) text (x ∷ more ∷ rest) a b p q = absurd p
 says-one one (Run _ _) text [] a b p q = absurd p
 says-one one (Run _ _) text (x ∷ []) a b p q = absurd p
 says-one one (Run _ _) text (image ∷ history ∷ []) a b p q = run-one image history a b p q
@@ -142,10 +173,11 @@ live-one steps image stimuli scripts a b p q =
     loaded-one p.0 steps stimuli scripts a b p.2
     (subst (λ (v : Result LoadedProgram LoadFault). LoadedLive v steps stimuli scripts b) (loads-one image q.0 p.0 q.1 p.1) q.2)
 
-says-outcome : MeansOne → (k : Command) (contents : List (List ℕ)) (a b : Answer) → Says k contents a → Says k contents b → a.outcome ≡ b.outcome
-says-outcome one (Go s y h) contents a b p q = ap (λ (x : Answer). x.outcome) (says-one one (Go s y h) tt contents a b p q)
-says-outcome one (Check s y) contents a b p q = ap (λ (x : Answer). x.outcome) (says-one one (Check s y) tt contents a b p q)
-says-outcome one (Compile s y i) contents a b p q = ap (λ (x : Answer). x.outcome) (says-one one (Compile s y i) tt contents a b p q)
+says-outcome : OneEach → (k : Command) (contents : List (List ℕ)) (a b : Answer) → Says k contents a → Says k contents b → a.outcome ≡ b.outcome
+says-outcome one (Go s y g h) contents a b p q = ap (λ (x : Answer). x.outcome) (says-one one (Go s y g h) tt contents a b p q)
+says-outcome one (Check s y g) contents a b p q = ap (λ (x : Answer). x.outcome) (says-one one (Check s y g) tt contents a b p q)
+says-outcome one (Compile s y g i) contents a b p q = ap (λ (x : Answer). x.outcome) (says-one one (Compile s y g i) tt contents a b p q)
+says-outcome one (Translate d s t) contents a b p q = ap (λ (x : Answer). x.outcome) (says-one one (Translate d s t) tt contents a b p q)
 says-outcome one (Run i h) contents a b p q = ap (λ (x : Answer). x.outcome) (says-one one (Run i h) tt contents a b p q)
 says-outcome one (Upgrade i u) contents a b p q = ap (λ (x : Answer). x.outcome) (says-one one (Upgrade i u) tt contents a b p q)
 says-outcome one (Recheck i k) contents a b p q = ap (λ (x : Answer). x.outcome) (says-one one (Recheck i k) tt contents a b p q)
@@ -168,7 +200,7 @@ Alike k a b = (a.outcome ≡ b.outcome) × (HasOneText k → a ≡ b)
 pub same-alike : (k : Command) (a b : Answer) → a ≡ b → Alike k a b
 same-alike k a b same = (ap (λ (x : Answer). x.outcome) same, λ text. same)
 
-pub says-alike : MeansOne → (k : Command) → AnswersAlike (Alike k) (Says k)
+pub says-alike : OneEach → (k : Command) → AnswersAlike (Alike k) (Says k)
 says-alike one k contents a b p q = (says-outcome one k contents a b p q, λ text. says-one one k text contents a b p q)
 
 -- ---- which answers there are
@@ -177,14 +209,27 @@ refused-verdict : (a : Answer) (why : Refused) → a ≡ refused_program why →
 refused-verdict a (InSymbols refusal) gives = inr (inl (Symbols, refusal, gives))
 refused-verdict a (InSource refusal) gives = inr (inl (Source, refusal, gives))
 
-go-verdict : (a : Answer) (v : Result Code Refused) (h : Result (List Entry) Refusal) → a ≡ go_answer Large v h → IsVerdict a
-go-verdict a (Err why) h gives = refused-verdict a why gives
-go-verdict a (Ok code) (Err refusal) gives = inr (inl (History, refusal, gives))
-go-verdict a (Ok code) (Ok entries) gives = inl (run_text Large code entries, gives)
+told-verdict : (a : Answer) (v : Result Code Refused) (h : Result (List Entry) Refusal) → a ≡ go_answer Large v h → IsVerdict a
+told-verdict a (Err why) h gives = refused-verdict a why gives
+told-verdict a (Ok code) (Err refusal) gives = inr (inl (History, refusal, gives))
+told-verdict a (Ok code) (Ok entries) gives = inl (run_text Large code entries, gives)
 
-check-verdict : (a : Answer) (v : Result Code Refused) → a ≡ check_answer v → IsVerdict a
-check-verdict a (Err why) gives = refused-verdict a why gives
-check-verdict a (Ok code) gives = inl (ok_line, gives)
+go-verdict : (german : Bool) (source symbols history : List ℕ) (a : Answer) → GoSays german source symbols history a → IsVerdict a
+go-verdict german source symbols history a said =
+    english-verdict german source symbols (λ text. SourceSays (language_of german) Large text symbols history)
+    (λ text b says. told-verdict b says.0 (history_of (names_read_in (language_of german) symbols) history) says.2) a said
+
+judged-verdict : (a : Answer) (v : Result Code Refused) → a ≡ check_answer v → IsVerdict a
+judged-verdict a (Err why) gives = refused-verdict a why gives
+judged-verdict a (Ok code) gives = inl (ok_line, gives)
+
+check-verdict : (german : Bool) (source symbols : List ℕ) (a : Answer) → CheckSays german source symbols a → IsVerdict a
+check-verdict german source symbols a said =
+    english-verdict german source symbols (TextSays (language_of german) symbols) (λ text b says. judged-verdict b says.0 says.2) a said
+
+translate-verdict : (language : Language) (source : List ℕ) (a : Answer) → TranslateSays language source a → IsVerdict a
+translate-verdict language source a said =
+    translated-verdict language source (λ text answer. answer ≡ done ok_line) (λ text b gives. inl (ok_line, gives)) a said
 
 ran-verdict : (a : Answer) (l : LoadedProgram) (h : Result (List Entry) Refusal) → a ≡ ran l h → IsVerdict a
 ran-verdict a l (Err refusal) gives = inr (inl (History, refusal, gives))
@@ -215,29 +260,32 @@ live-verdict (Ok p) steps stimuli scripts a said =
     stimulated-verdict p steps (stimuli_of stimuli) (scripts_from p.program.names 1 scripts) a said
 
 pub says-verdict : (k : Command) (contents : List (List ℕ)) (a : Answer) → Says k contents a → IsVerdict a
-says-verdict (Go _ None _) [] a said = absurd said
-says-verdict (Go _ None _) (x ∷ []) a said = absurd said
-says-verdict (Go _ None _) (source ∷ history ∷ []) a said = go-verdict a said.0 (history_of (names_in []) history) said.2
-says-verdict (Go _ None _) (x ∷ y ∷ more ∷ rest) a said = absurd said
-says-verdict (Go _ (Some _) _) [] a said = absurd said
-says-verdict (Go _ (Some _) _) (x ∷ []) a said = absurd said
-says-verdict (Go _ (Some _) _) (x ∷ y ∷ []) a said = absurd said
-says-verdict (Go _ (Some _) _) (source ∷ symbols ∷ history ∷ []) a said = go-verdict a said.0 (history_of (names_in symbols) history) said.2
-says-verdict (Go _ (Some _) _) (x ∷ y ∷ z ∷ more ∷ rest) a said = absurd said
-says-verdict (Check _ None) [] a said = absurd said
-says-verdict (Check _ None) (source ∷ []) a said = check-verdict a said.0 said.2
-says-verdict (Check _ None) (x ∷ more ∷ rest) a said = absurd said
-says-verdict (Check _ (Some _)) [] a said = absurd said
-says-verdict (Check _ (Some _)) (x ∷ []) a said = absurd said
-says-verdict (Check _ (Some _)) (source ∷ symbols ∷ []) a said = check-verdict a said.0 said.2
-says-verdict (Check _ (Some _)) (x ∷ y ∷ more ∷ rest) a said = absurd said
-says-verdict (Compile _ None _) [] a said = absurd said
-says-verdict (Compile _ None _) (source ∷ []) a said = check-verdict a said.0 said.2
-says-verdict (Compile _ None _) (x ∷ more ∷ rest) a said = absurd said
-says-verdict (Compile _ (Some _) _) [] a said = absurd said
-says-verdict (Compile _ (Some _) _) (x ∷ []) a said = absurd said
-says-verdict (Compile _ (Some _) _) (source ∷ symbols ∷ []) a said = check-verdict a said.0 said.2
-says-verdict (Compile _ (Some _) _) (x ∷ y ∷ more ∷ rest) a said = absurd said
+says-verdict (Go _ None german _) [] a said = absurd said
+says-verdict (Go _ None german _) (x ∷ []) a said = absurd said
+says-verdict (Go _ None german _) (source ∷ history ∷ []) a said = go-verdict german source [] history a said
+says-verdict (Go _ None german _) (x ∷ y ∷ more ∷ rest) a said = absurd said
+says-verdict (Go _ (Some _) german _) [] a said = absurd said
+says-verdict (Go _ (Some _) german _) (x ∷ []) a said = absurd said
+says-verdict (Go _ (Some _) german _) (x ∷ y ∷ []) a said = absurd said
+says-verdict (Go _ (Some _) german _) (source ∷ symbols ∷ history ∷ []) a said = go-verdict german source symbols history a said
+says-verdict (Go _ (Some _) german _) (x ∷ y ∷ z ∷ more ∷ rest) a said = absurd said
+says-verdict (Check _ None german) [] a said = absurd said
+says-verdict (Check _ None german) (source ∷ []) a said = check-verdict german source [] a said
+says-verdict (Check _ None german) (x ∷ more ∷ rest) a said = absurd said
+says-verdict (Check _ (Some _) german) [] a said = absurd said
+says-verdict (Check _ (Some _) german) (x ∷ []) a said = absurd said
+says-verdict (Check _ (Some _) german) (source ∷ symbols ∷ []) a said = check-verdict german source symbols a said
+says-verdict (Check _ (Some _) german) (x ∷ y ∷ more ∷ rest) a said = absurd said
+says-verdict (Compile _ None german _) [] a said = absurd said
+says-verdict (Compile _ None german _) (source ∷ []) a said = check-verdict german source [] a said
+says-verdict (Compile _ None german _) (x ∷ more ∷ rest) a said = absurd said
+says-verdict (Compile _ (Some _) german _) [] a said = absurd said
+says-verdict (Compile _ (Some _) german _) (x ∷ []) a said = absurd said
+says-verdict (Compile _ (Some _) german _) (source ∷ symbols ∷ []) a said = check-verdict german source symbols a said
+says-verdict (Compile _ (Some _) german _) (x ∷ y ∷ more ∷ rest) a said = absurd said
+says-verdict (Translate language _ _) [] a said = absurd said
+says-verdict (Translate language _ _) (source ∷ []) a said = translate-verdict language source a said
+says-verdict (Translate language _ _) (x ∷ more ∷ rest) a said = absurd said
 says-verdict (Run _ _) [] a said = absurd said
 says-verdict (Run _ _) (x ∷ []) a said = absurd said
 says-verdict (Run _ _) (image ∷ history ∷ []) a said = run-verdict a said.0 history said.2
@@ -277,89 +325,140 @@ pub within : (c : Contents) (source : List ℕ) (symbols : Option (List ℕ)) (t
 within c source symbols text hold =
     record { source = hold.0.within; symbols = symbols-within c symbols (symbols_file text) hold.1 }
 
-pub go-said : (c : Contents) (src : List ℕ) (symbols : Option (List ℕ)) (hist source : List ℕ) (bytes : Option (List ℕ)) (history : List ℕ)
-    (a : Answer) → HoldAll c (symbols_inputs symbols) (option_to_list bytes) → GoSays source (unwrap_or bytes []) history a
-    → Says (Go src symbols hist) ((source ∷ option_to_list bytes) ++ history ∷ []) a
-go-said c src None hist source None history a hold said = said
-go-said c src None hist source (Some bytes) history a hold said = absurd hold
-go-said c src (Some name) hist source None history a hold said = absurd hold
-go-said c src (Some name) hist source (Some bytes) history a hold said = said
+pub go-said : (c : Contents) (src : List ℕ) (symbols : Option (List ℕ)) (german : Bool) (hist source : List ℕ) (bytes : Option (List ℕ))
+    (history : List ℕ) (a : Answer) → HoldAll c (symbols_inputs symbols) (option_to_list bytes)
+    → GoSays german source (unwrap_or bytes []) history a
+    → Says (Go src symbols german hist) ((source ∷ option_to_list bytes) ++ history ∷ []) a
+go-said c src None german hist source None history a hold said = said
+go-said c src None german hist source (Some bytes) history a hold said = absurd hold
+go-said c src (Some name) german hist source None history a hold said = absurd hold
+go-said c src (Some name) german hist source (Some bytes) history a hold said = said
 
-pub check-said : (c : Contents) (src : List ℕ) (symbols : Option (List ℕ)) (source : List ℕ) (bytes : Option (List ℕ)) (a : Answer)
-    → HoldAll c (symbols_inputs symbols) (option_to_list bytes) → CheckSays source (unwrap_or bytes []) a
-    → Says (Check src symbols) (source ∷ option_to_list bytes) a
-check-said c src None source None a hold said = said
-check-said c src None source (Some bytes) a hold said = absurd hold
-check-said c src (Some name) source None a hold said = absurd hold
-check-said c src (Some name) source (Some bytes) a hold said = said
+pub check-said : (c : Contents) (src : List ℕ) (symbols : Option (List ℕ)) (german : Bool) (source : List ℕ) (bytes : Option (List ℕ))
+    (a : Answer) → HoldAll c (symbols_inputs symbols) (option_to_list bytes) → CheckSays german source (unwrap_or bytes []) a
+    → Says (Check src symbols german) (source ∷ option_to_list bytes) a
+check-said c src None german source None a hold said = said
+check-said c src None german source (Some bytes) a hold said = absurd hold
+check-said c src (Some name) german source None a hold said = absurd hold
+check-said c src (Some name) german source (Some bytes) a hold said = said
 
-pub compile-said : (c : Contents) (src : List ℕ) (symbols : Option (List ℕ)) (img source : List ℕ) (bytes : Option (List ℕ)) (a : Answer)
-    → HoldAll c (symbols_inputs symbols) (option_to_list bytes) → CheckSays source (unwrap_or bytes []) a
-    → Says (Compile src symbols img) (source ∷ option_to_list bytes) a
-compile-said c src None img source None a hold said = said
-compile-said c src None img source (Some bytes) a hold said = absurd hold
-compile-said c src (Some name) img source None a hold said = absurd hold
-compile-said c src (Some name) img source (Some bytes) a hold said = said
+pub compile-said : (c : Contents) (src : List ℕ) (symbols : Option (List ℕ)) (german : Bool) (img source : List ℕ) (bytes : Option (List ℕ))
+    (a : Answer) → HoldAll c (symbols_inputs symbols) (option_to_list bytes) → CheckSays german source (unwrap_or bytes []) a
+    → Says (Compile src symbols german img) (source ∷ option_to_list bytes) a
+compile-said c src None german img source None a hold said = said
+compile-said c src None german img source (Some bytes) a hold said = absurd hold
+compile-said c src (Some name) german img source None a hold said = absurd hold
+compile-said c src (Some name) german img source (Some bytes) a hold said = said
 
-pub compile-writes : (c : Contents) (src : List ℕ) (symbols : Option (List ℕ)) (img source : List ℕ) (bytes : Option (List ℕ)) (image : List ℕ)
-    → HoldAll c (symbols_inputs symbols) (option_to_list bytes) → IsCompiled image source (unwrap_or bytes [])
-    → Writes (Compile src symbols img) (source ∷ option_to_list bytes) img image
-compile-writes c src None img source None image hold keeps = (refl, keeps)
-compile-writes c src None img source (Some bytes) image hold keeps = absurd hold
-compile-writes c src (Some name) img source None image hold keeps = absurd hold
-compile-writes c src (Some name) img source (Some bytes) image hold keeps = (refl, keeps)
+pub compile-writes : (c : Contents) (src : List ℕ) (symbols : Option (List ℕ)) (german : Bool) (img source : List ℕ) (bytes : Option (List ℕ))
+    (image : List ℕ) → HoldAll c (symbols_inputs symbols) (option_to_list bytes) → IsSourceImage german image source (unwrap_or bytes [])
+    → Writes (Compile src symbols german img) (source ∷ option_to_list bytes) img image
+compile-writes c src None german img source None image hold keeps = (refl, keeps)
+compile-writes c src None german img source (Some bytes) image hold keeps = absurd hold
+compile-writes c src (Some name) german img source None image hold keeps = absurd hold
+compile-writes c src (Some name) german img source (Some bytes) image hold keeps = (refl, keeps)
 
 -- ---- a source that isn't compiled
+
+-- what refuses it is what `check` and `go` say
+pub refused-checks : (german : Bool) (source symbols : List ℕ) (a : Answer) → RefusedProgram german source symbols a → CheckSays german source symbols a
+refused-checks german source symbols a told =
+    english-weaker german source symbols (RefusedText (language_of german) symbols) (TextSays (language_of german) symbols)
+    (λ text b refused. (Err refused.0, refused.1, refused.2)) a told
+
+pub refused-goes : (german : Bool) (source symbols history : List ℕ) (a : Answer) → RefusedProgram german source symbols a
+    → GoSays german source symbols history a
+refused-goes german source symbols history a told =
+    english-weaker german source symbols (RefusedText (language_of german) symbols)
+    (λ text. SourceSays (language_of german) Large text symbols history) (λ text b refused. (Err refused.0, refused.1, refused.2)) a told
+
+pub text-refuses : (V : Type 0) (language : Language) (symbols text : List ℕ) (fault : CompileFault) → RefusesIn language text symbols fault
+    → RefusedBy {V = V} (RefusedText language symbols text) (Err (failure_of_compiling fault))
+text-refuses V language symbols text (compiling.Symbols refusal) breaks = (InSymbols refusal, breaks, refl)
+text-refuses V language symbols text (compiling.Source refusal) breaks = (InSource refusal, breaks, refl)
+text-refuses V language symbols text compiling.NoMemory breaks = tt
 
 refused-so : (source source' symbols symbols' : List ℕ) (fault : CompileFault) → source' ≡ source → symbols' ≡ symbols
     → RefusesBy source' symbols' fault → RefusesBy source symbols fault
 refused-so source source' symbols symbols' fault is are breaks =
     subst (λ (s : List ℕ). RefusesBy s symbols fault) is (subst (λ (y : List ℕ). RefusesBy source' y fault) are breaks)
 
-go-refuses : (V : Type 0) (source symbols history : List ℕ) (fault : CompileFault) → RefusesBy source symbols fault
-    → RefusedBy {V = V} (GoSays source symbols history) (Err (failure_of_compiling fault))
-go-refuses V source symbols history (compiling.Symbols refusal) breaks = (Err (InSymbols refusal), breaks, refl)
-go-refuses V source symbols history (compiling.Source refusal) breaks = (Err (InSource refusal), breaks, refl)
-go-refuses V source symbols history compiling.NoMemory breaks = tt
-
-check-refuses : (V : Type 0) (source symbols : List ℕ) (fault : CompileFault) → RefusesBy source symbols fault
-    → RefusedBy {V = V} (CheckSays source symbols) (Err (failure_of_compiling fault))
-check-refuses V source symbols (compiling.Symbols refusal) breaks = (Err (InSymbols refusal), breaks, refl)
-check-refuses V source symbols (compiling.Source refusal) breaks = (Err (InSource refusal), breaks, refl)
-check-refuses V source symbols compiling.NoMemory breaks = tt
-
-pub go-refused : (V : Type 0) (source source' symbols symbols' : List ℕ) (history : List ℕ) (fault : CompileFault) (r : Result V Failure)
+-- an English one
+pub program-refused : (V : Type 0) (source source' symbols symbols' : List ℕ) (fault : CompileFault) (r : Result V Failure)
     → source' ≡ source → symbols' ≡ symbols → r ≡ Err (failure_of_compiling fault) → RefusesBy source' symbols' fault
-    → RefusedBy (GoSays source symbols history) r
-go-refused V source source' symbols symbols' history fault r is are fails breaks =
-    subst (λ (q : Result V Failure). RefusedBy (GoSays source symbols history) q) (sym fails)
-    (go-refuses V source symbols history fault (refused-so source source' symbols symbols' fault is are breaks))
+    → RefusedBy (RefusedProgram false source symbols) r
+program-refused V source source' symbols symbols' fault r is are fails breaks =
+    subst (λ (q : Result V Failure). RefusedBy (RefusedProgram false source symbols) q) (sym fails)
+    (text-refuses V English symbols source fault (refused-so source source' symbols symbols' fault is are breaks))
 
-pub check-refused : (V : Type 0) (source source' symbols symbols' : List ℕ) (fault : CompileFault) (r : Result V Failure)
-    → source' ≡ source → symbols' ≡ symbols → r ≡ Err (failure_of_compiling fault) → RefusesBy source' symbols' fault
-    → RefusedBy (CheckSays source symbols) r
-check-refused V source source' symbols symbols' fault r is are fails breaks =
-    subst (λ (q : Result V Failure). RefusedBy (CheckSays source symbols) q) (sym fails)
-    (check-refuses V source symbols fault (refused-so source source' symbols symbols' fault is are breaks))
+-- a German one: by its symbols, by its words or its length, or by what its translation breaks
+pub symbols-refused : (V : Type 0) (source symbols : List ℕ) (fault : CompileFault) (r : Result V Failure) → r ≡ Err (failure_of_compiling fault)
+    → RefusesSymbols German symbols fault → RefusedBy (NotInEnglish source symbols) r
+symbols-refused V source symbols (compiling.Symbols refusal) r fails has =
+    subst (λ (q : Result V Failure). RefusedBy (NotInEnglish source symbols) q) (sym fails)
+    (subst (λ (read : Result (List Symbol) Refusal). OfSymbols read source (λ text a. ⊥) (refused Symbols refusal)) has refl)
+symbols-refused V source symbols (compiling.Source refusal) r fails has = absurd has
+symbols-refused V source symbols compiling.NoMemory r fails has =
+    subst (λ (q : Result V Failure). RefusedBy (NotInEnglish source symbols) q) (sym fails) tt
+
+pub translation-refused : (V W : Type 0) (source source' symbols : List ℕ) (list : List Symbol) (failure : Failure) (r : Result V Failure)
+    → r ≡ Err failure → source' ≡ source → HasSymbolsIn German symbols (Ok list)
+    → RefusedBy {V = W} (NotTranslated English source') (Err failure) → RefusedBy (NotInEnglish source symbols) r
+translation-refused V W source source' symbols list failure r fails is has told =
+    refused-more W V (NotTranslated English source') (NotInEnglish source symbols) failure r fails
+    (λ (a : Answer) no. german-so (symbols_in German symbols) list source (λ text b. ⊥) a has
+    (subst (λ (s : List ℕ). NotTranslated English s a) is no))
+    told
+
+pub english-refused : (V W : Type 0) (source symbols : List ℕ) (failure : Failure) (r : Result V Failure) → r ≡ Err failure
+    → RefusedBy {V = W} (NotInEnglish source symbols) (Err failure) → RefusedBy (RefusedProgram true source symbols) r
+english-refused V W source symbols failure r fails told =
+    refused-more W V (NotInEnglish source symbols) (RefusedProgram true source symbols) failure r fails
+    (λ (a : Answer) no. english-weaker true source symbols (λ text b. ⊥) (RefusedText German symbols) (λ text b none. absurd none) a no)
+    told
+
+pub text-refused : (V : Type 0) (source symbols text : List ℕ) (list : List Symbol) (fault : CompileFault) (r : Result V Failure)
+    → r ≡ Err (failure_of_compiling fault) → HasSymbolsIn German symbols (Ok list) → IsEnglish true source text
+    → RefusesWith text list fault → RefusedBy (RefusedProgram true source symbols) r
+text-refused V source symbols text list fault r fails has is refuses =
+    refused-more V V (RefusedText German symbols text) (RefusedProgram true source symbols) (failure_of_compiling fault) r fails
+    (λ (a : Answer) told. in-english true source symbols text list (RefusedText German symbols) a has is told)
+    (text-refuses V German symbols text fault (refuses German symbols has))
+
+-- ---- what a source with a program says
+
+-- the symbols that were read
+pub means-symbols : (language : Language) (source symbols : List ℕ) (code : Code) → MeansCodeIn language source symbols code
+    → (list : List Symbol) × HasSymbolsIn language symbols (Ok list)
+unfolding IsJudgedIn
+means-symbols language source symbols code means = (means.0, means.1)
+
+pub checks-ok : (german : Bool) (source symbols text : List ℕ) (code : Code) → MeansCodeIn (language_of german) text symbols code
+    → IsEnglish german source text → CheckSays german source symbols (done ok_line)
+checks-ok german source symbols text code means is =
+    let read = means-symbols (language_of german) text symbols code means in
+    in-english german source symbols text read.0 (TextSays (language_of german) symbols) (done ok_line) read.1 is (Ok code, means, refl)
 
 -- ---- a history that isn't read, behind a source that is compiled
 
-history-refuses : (V : Type 0) (source symbols : List ℕ) (code : Code) (history : List ℕ) (fault : TextFault)
-    → MeansCode source symbols code → IsTextFault (history_of (names_in symbols) history) fault
-    → RefusedBy {V = V} (GoSays source symbols history) (Err (failure_of_history fault))
-history-refuses V source symbols code history (text.BadLine line rule) means is =
+history-refuses : (V : Type 0) (german : Bool) (source symbols english : List ℕ) (code : Code) (history : List ℕ) (fault : TextFault)
+    → MeansCodeIn (language_of german) english symbols code → IsEnglish german source english
+    → IsTextFault (history_of (names_read_in (language_of german) symbols) history) fault
+    → RefusedBy {V = V} (GoSays german source symbols history) (Err (failure_of_history fault))
+history-refuses V german source symbols english code history (text.BadLine line rule) means within is =
+    let read = means-symbols (language_of german) english symbols code means in
+    in-english german source symbols english read.0 (λ t. SourceSays (language_of german) Large t symbols history)
+    (refused History (record { line = line; rule = rule })) read.1 within
     (Ok code, means, ap (go_answer Large (Ok code)) (sym is))
-history-refuses V source symbols code history text.NoMemory means is = tt
+history-refuses V german source symbols english code history text.NoMemory means within is = tt
 
-pub history-refused : (V : Type 0) (source source' symbols symbols' : List ℕ) (p : Program) (history : List ℕ)
-    (fault : TextFault) (r : Result V Failure) → source' ≡ source → symbols' ≡ symbols → r ≡ Err (failure_of_history fault)
-    → KeepsSource Large source' symbols' p → IsTextFault (history_of p.names history) fault
-    → RefusedBy (GoSays source symbols history) r
-history-refused V source source' symbols symbols' p history fault r is are fails keeps breaks =
-    let kept : KeepsSource Large source symbols p =
-    subst (λ (s : List ℕ). KeepsSource Large s symbols p) is (subst (λ (y : List ℕ). KeepsSource Large source' y p) are keeps) in
-    subst (λ (q : Result V Failure). RefusedBy (GoSays source symbols history) q) (sym fails)
-    (history-refuses V source symbols kept.runs.0 history fault kept.runs.1
+pub history-refused : (V : Type 0) (german : Bool) (source symbols : List ℕ) (p : Program) (history : List ℕ)
+    (fault : TextFault) (r : Result V Failure) → r ≡ Err (failure_of_history fault)
+    → KeepsText german source symbols p → IsTextFault (history_of p.names history) fault
+    → RefusedBy (GoSays german source symbols history) r
+history-refused V german source symbols p history fault r fails (english, is, kept) breaks =
+    subst (λ (q : Result V Failure). RefusedBy (GoSays german source symbols history) q) (sym fails)
+    (history-refuses V german source symbols english kept.runs.0 history fault kept.runs.1 is
     (subst (λ (names : List NameEntry). IsTextFault (history_of names history) fault) kept.names breaks))
 
 -- ---- an image that isn't loaded, and a history that isn't read behind one that is

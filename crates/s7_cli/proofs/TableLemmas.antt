@@ -5,7 +5,7 @@ use Rattle.plc_io.specs.Contents.{SameFiles}
 use Rattle.plc_io.specs.Counts.{Rose}
 use Rattle.plc_io.specs.Taken.{Took}
 use Rattle.s7_cli.specs.declared.failures.File.{File}
-use Rattle.s7_cli.specs.declared.failures.File.TheVariants.{Source, Symbols, Image, History, Stimuli, Vars, Script, Certificate}
+use Rattle.s7_cli.specs.declared.failures.File.TheVariants.{Source, Translation, Symbols, Image, History, Stimuli, Vars, Script, Certificate}
 use Rattle.s7_cli.specs.declared.failures.Failure.{Failure}
 use Rattle.s7_cli.specs.declared.failures.Failure.TheVariants.{WordsRefused, ReadFault, TooLong, Refused, ImageRefused, SaysNo, TooDeep, WriteFault, NoMemory}
 use Rattle.s7_cli.specs.Answer.{Answer, Outcome, refused, refused_image, says_no, too_deep, read_fault, too_long, words_refused, code_of}
@@ -20,7 +20,7 @@ use Rattle.s7_cli.specs.StatusTable.{IsDecided, IsCutOff, IsStatus, StatusTable}
 use Rattle.s7_cli.proofs.BoundLemmas.{stacks-suffice}
 use Rattle.s7_cli.proofs.ComesLemmas.{same-files}
 use Rattle.s7_cli.proofs.ReadingLemmas.{reads-told, reads-kinds, allows-alike, fails-rose}
-use Rattle.s7_cli.proofs.SaysLemmas.{Alike, MeansOne, same-alike, says-alike, says-verdict}
+use Rattle.s7_cli.proofs.SaysLemmas.{Alike, OneEach, same-alike, says-alike, says-verdict}
 use Rattle.s7_cli.proofs.Verdicts.{IsVerdict}
 
 -- ---- the rows that go by the answer alone
@@ -117,6 +117,7 @@ rows-done c d s k is = record {
 
 file-status : (file : File) (refusal : Refusal) → IsFileStatus (code_of (Err (Refused file refusal)))
 file-status Source refusal = refused-status 2 (omega arith) (omega arith)
+file-status Translation refusal = refused-status 2 (omega arith) (omega arith)
 file-status Symbols refusal = refused-status 2 (omega arith) (omega arith)
 file-status Image refusal = refused-status 3 (omega arith) (omega arith)
 file-status History refusal = refused-status 4 (omega arith) (omega arith)
@@ -141,10 +142,14 @@ rows-verdict c d s k a is (inr (inr (inr (inl gives)))) took =
     subst (λ (b : Answer). Rows c d s (code_of b.outcome)) (sym gives)
     (rows-file c d s k SaysNo says_no.text 10 is refl refl
     (subst (λ (b : Answer). Took s.before s.after b.text) gives took) certificate-status)
-rows-verdict c d s k a is (inr (inr (inr (inr (chain, gives))))) took =
+rows-verdict c d s k a is (inr (inr (inr (inr (inl (chain, gives)))))) took =
     subst (λ (b : Answer). Rows c d s (code_of b.outcome)) (sym gives)
     (rows-file c d s k TooDeep (too_deep chain).text 10 is refl (chain, refl)
     (subst (λ (b : Answer). Took s.before s.after b.text) gives took) certificate-status)
+rows-verdict c d s k a is (inr (inr (inr (inr (inr gives))))) took =
+    subst (λ (b : Answer). Rows c d s (code_of b.outcome)) (sym gives)
+    (rows-file c d s k (TooLong Translation) (too_long Translation).text 8 is refl refl
+    (subst (λ (b : Answer). Took s.before s.after b.text) gives took) too-long-status)
 
 rows-command : (k : Command) (d : Disk) (s : Taking) (a : Answer) → Reads d (inputs_of k) (Says k) a
     → Took s.before s.after a.text → Rows (Some k) d s (code_of a.outcome)
@@ -172,7 +177,7 @@ rows (Some k) d s a reads took = rows-command k d s a reads took
 abbrev Decided : Command → Disk → Taking → ℕ → Type 0
 Decided k d s code = ((code ≡ 5) × FailsOnTheWay d (inputs_of k)) ⊎ IsCutOff code ⊎ IsDecided k d s code
 
-decided-command : MeansOne → (k : Command) (d : Disk) (s : Taking) (a : Answer) → d.before.contents.told ≡ true
+decided-command : OneEach → (k : Command) (d : Disk) (s : Taking) (a : Answer) → d.before.contents.told ≡ true
     → Reads d (inputs_of k) (Says k) a → Took s.before s.after a.text → Decided k d s (code_of a.outcome)
 decided-command one k d s a told reads took =
     elim (reads-told d (inputs_of k) (Says k) a told reads) [
@@ -186,7 +191,7 @@ decided-command one k d s a told reads took =
       }))
     ]
 
-decided : MeansOne → (c : Option Command) (d : Disk) (s : Taking) (a : Answer) → Answers c d a → Took s.before s.after a.text
+decided : OneEach → (c : Option Command) (d : Disk) (s : Taking) (a : Answer) → Answers c d a → Took s.before s.after a.text
     → (k : Command) → c ≡ Some k → d.before.contents.told ≡ true → Decided k d s (code_of a.outcome)
 decided one c d s a answers took k is told =
     decided-command one k d s a told (subst (λ (o : Option Command). Answers o d a) is answers) took
@@ -243,7 +248,7 @@ stacks-said keep c d a answers zero k is =
 
 -- ---- the table
 
-table-said : MeansOne → CertificatesKeepStacks → (c : Option Command) (d : Disk) (s : Taking) (a : Answer) → IsSaid c d s a → StatusTable c d s (code_of a.outcome)
+table-said : OneEach → CertificatesKeepStacks → (c : Option Command) (d : Disk) (s : Taking) (a : Answer) → IsSaid c d s a → StatusTable c d s (code_of a.outcome)
 table-said one keep c d s a said =
     let r : Rows c d s (code_of a.outcome) = rows c d s a said.answers said.took in
     let six : code_of a.outcome ≡ 6 → Rose s.before.faults s.after.faults ⊎ OutputRose c d = λ e. absurd (r.whole (inl e)) in record {
@@ -301,7 +306,7 @@ table-memory c d s wanting =
     table-cut c d s 7 (inr refl) wanting.cut (λ e. absurd (omega arith)) (λ name more. absurd (omega (arith, wanting.writes name)))
     (λ more. absurd (omega (arith, wanting.faults)))
 
-table-ends : MeansOne → CertificatesKeepStacks → (c : Option Command) (d : Disk) (s : Taking) (outcome : Outcome) → Ends c d s outcome
+table-ends : OneEach → CertificatesKeepStacks → (c : Option Command) (d : Disk) (s : Taking) (outcome : Outcome) → Ends c d s outcome
     → StatusTable c d s (code_of outcome)
 table-ends one keep c d s (Err WriteFault) ends = table-write c d s ends
 table-ends one keep c d s (Err NoMemory) ends = table-memory c d s ends
@@ -315,6 +320,6 @@ table-ends one keep c d s (Err SaysNo) ends = table-said one keep c d s _ ends.1
 table-ends one keep c d s (Err TooDeep) ends = table-said one keep c d s _ ends.1
 
 -- the rows of the table; that a source has one meaning makes its rows exact, that certificates keep stacks is its last one
-pub table : MeansOne → CertificatesKeepStacks → (c : Option Command) (d : Disk) (s : Taking) (code : ℕ) → Ended c d s code → StatusTable c d s code
+pub table : OneEach → CertificatesKeepStacks → (c : Option Command) (d : Disk) (s : Taking) (code : ℕ) → Ended c d s code → StatusTable c d s code
 table one keep c d s code ended =
     subst (λ (n : ℕ). StatusTable c d s n) (sym ended.1) (table-ends one keep c d s ended.0 ended.2)

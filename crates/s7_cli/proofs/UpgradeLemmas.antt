@@ -50,11 +50,11 @@ lives-alike gives upgraded image bytes is steps stimuli scripts answer = (
 )
 
 pub keeps-alike : ImagesAreOfOne → UpgradesKeepSources
-keeps-alike images upgraded image source symbols (l, loads, spelled) kept = record {
+keeps-alike images language upgraded image source symbols (l, loads, spelled) kept = record {
   stamp = Two l.profile;
   program = l.program;
   spelled = spelled;
-  keeps = kept-loaded images image source symbols l kept loads;
+  keeps = kept-loaded images language image source symbols l kept loads;
 }
 
 -- an image that isn't loaded

@@ -5,7 +5,7 @@ use Rattle.plc_base.specs.declared.refusals.Refusal.{Refusal}
 use Rattle.image_file.specs.declared.faults.LoadFault.{LoadFault}
 use Rattle.stack_bound.specs.ChainText.{chain_text}
 use Rattle.s7_cli.specs.declared.failures.File.{File}
-use Rattle.s7_cli.specs.declared.failures.File.TheVariants.{Source, Symbols, Image, History, Stimuli, Vars, Script, Certificate}
+use Rattle.s7_cli.specs.declared.failures.File.TheVariants.{Source, Translation, Symbols, Image, History, Stimuli, Vars, Script, Certificate}
 use Rattle.s7_cli.specs.declared.failures.Failure.{Failure}
 use Rattle.s7_cli.specs.declared.failures.Failure.TheVariants.{WordsRefused, ReadFault, TooLong, Refused, ImageRefused, SaysNo, TooDeep, WriteFault, NoMemory}
 use Rattle.s7_cli.specs.Lines.{words_refused_text, read_fault_text, too_long_text, refusal_text, image_refused_text, says_no_text}
@@ -32,7 +32,7 @@ abbrev pub refused_image : LoadFault → Answer
 refused_image fault =
     record { outcome = Err (ImageRefused fault); text = image_refused_text fault }
 
--- a file holds a byte past its limit
+-- a file holds a byte past its limit, or a translation would
 abbrev pub too_long : File → Answer
 too_long file = record { outcome = Err (TooLong file); text = too_long_text file }
 
@@ -55,6 +55,7 @@ words_refused = record { outcome = Err WordsRefused; text = words_refused_text }
 -- the status of a refused file
 abbrev pub refused_code : File → ℕ
 refused_code Source = 2
+refused_code Translation = 2
 refused_code Symbols = 2
 refused_code Image = 3
 refused_code History = 4

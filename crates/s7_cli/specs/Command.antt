@@ -1,18 +1,21 @@
 -- What the words of a call ask for, and which files that reads and writes.
-use Rattle.std.specs.Prelude.{ℕ, ◌+◌, List, [], ◌∷◌, ◌++◌, Option, Some, None}
+use Rattle.std.specs.Prelude.{ℕ, ◌+◌, Bool, List, [], ◌∷◌, ◌++◌, Option, Some, None}
+use Rattle.stl_symbols.specs.declared.languages.Language.{Language}
 use Rattle.s7_cli.specs.declared.failures.File.{File}
-use Rattle.s7_cli.specs.declared.failures.File.TheVariants.{Source, Symbols, Image, History, Stimuli, Vars, Script, Certificate}
+use Rattle.s7_cli.specs.declared.failures.File.TheVariants.{Source, Translation, Symbols, Image, History, Stimuli, Vars, Script, Certificate}
 
 -- `go SRC HIST` runs a source along a history, `check SRC` checks a source, `compile SRC IMG` writes
--- its image; each with a file of symbols where `--symbols FILE` names one. `run IMG HIST` runs an
--- image along a history, `gen NUMBER` a program and a history that are made of a number.
+-- its image; each with a file of symbols where `--symbols FILE` names one, and with both in German where
+-- `--german` says so. `english SRC OUT` and `german SRC OUT` write a source in the other language.
+-- `run IMG HIST` runs an image along a history, `gen NUMBER` a program and a history that are made of a number.
 -- `live IMG STIM OPS.. --steps N` has several workers run an image, `watch IMG STIM VARS OPS.. --steps N`
 -- besides watches variables of it, `upgrade IMG IMG2` writes an image
 -- once more, in version 2. `bound IMG CERT` writes the certificate of an image, `recheck IMG CERT` checks one
 pub data Command : Type 0 where
-  Go : (source : List ℕ) (symbols : Option (List ℕ)) (history : List ℕ) → Command
-  Check : (source : List ℕ) (symbols : Option (List ℕ)) → Command
-  Compile : (source : List ℕ) (symbols : Option (List ℕ)) (image : List ℕ) → Command
+  Go : (source : List ℕ) (symbols : Option (List ℕ)) (german : Bool) (history : List ℕ) → Command
+  Check : (source : List ℕ) (symbols : Option (List ℕ)) (german : Bool) → Command
+  Compile : (source : List ℕ) (symbols : Option (List ℕ)) (german : Bool) (image : List ℕ) → Command
+  Translate : (language : Language) (source translation : List ℕ) → Command
   Run : (image history : List ℕ) → Command
   Gen : (number : ℕ) → Command
   Live : (image stimuli : List ℕ) (scripts : List (List ℕ)) (steps : ℕ) → Command
@@ -55,10 +58,11 @@ watch_inputs image stimuli vars scripts =
 
 -- in the order in which they are read
 abbrev pub inputs_of : Command → List Input
-inputs_of (Go source symbols history) =
+inputs_of (Go source symbols german history) =
     program_inputs source symbols ++ record { file = History; name = history } ∷ []
-inputs_of (Check source symbols) = program_inputs source symbols
-inputs_of (Compile source symbols image) = program_inputs source symbols
+inputs_of (Check source symbols german) = program_inputs source symbols
+inputs_of (Compile source symbols german image) = program_inputs source symbols
+inputs_of (Translate language source translation) = record { file = Source; name = source } ∷ []
 inputs_of (Run image history) =
     record { file = Image; name = image } ∷ record { file = History; name = history } ∷ []
 inputs_of (Gen number) = []
@@ -71,9 +75,10 @@ inputs_of (Recheck image certificate) =
 
 -- the files that a command writes
 abbrev pub outputs_of : Command → List (List ℕ)
-outputs_of (Go source symbols history) = []
-outputs_of (Check source symbols) = []
-outputs_of (Compile source symbols image) = image ∷ []
+outputs_of (Go source symbols german history) = []
+outputs_of (Check source symbols german) = []
+outputs_of (Compile source symbols german image) = image ∷ []
+outputs_of (Translate language source translation) = translation ∷ []
 outputs_of (Run image history) = []
 outputs_of (Gen number) = []
 outputs_of (Live image stimuli scripts steps) = []
@@ -82,9 +87,10 @@ outputs_of (Upgrade image upgraded) = upgraded ∷ []
 outputs_of (Bound image certificate) = certificate ∷ []
 outputs_of (Recheck image certificate) = []
 
--- the most bytes that each file may hold
+-- the most bytes that each file may hold, and a translation
 abbrev pub limit_of : File → ℕ
 limit_of Source = 1048576
+limit_of Translation = 1048576
 limit_of Symbols = 1048576
 limit_of Image = 8388608
 limit_of History = 4194304

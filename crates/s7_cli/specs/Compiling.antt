@@ -9,23 +9,42 @@ use Rattle.plc_base.specs.declared.refusals.SourceFault.TheVariants as found
 use Rattle.stl_ast.specs.declared.blocks.Tree.{Tree}
 use Rattle.plc_base.specs.Least.{least}
 use Rattle.stl_symbols.specs.Symbol.{Symbol}
+use Rattle.stl_symbols.specs.declared.languages.Language.{Language}
+use Rattle.stl_symbols.specs.declared.languages.Language.TheVariants.{English}
 use Rattle.block_layout.specs.Layouts.{layouts_of}
 use Rattle.block_layout.specs.Table.{layout_refusals}
 use Rattle.block_layout.specs.declared.blocks.BlockLayout.{BlockLayout}
-use Rattle.sem_kept.specs.Agreement.{ImageKeepsSource, KeepsSource}
-use Rattle.sem_kept.specs.Meaning.{HasSymbols, HasTokens, HasTree, IsSound, InSymbols, InSource, IsRefusedSource}
+use Rattle.sem_kept.specs.Agreement.{AreFiles, ImageKeepsSourceIn, KeepsSourceIn}
+use Rattle.sem_kept.specs.Meaning.{HasSymbolsIn, HasTokens, HasTree, IsSound, InSymbols, InSource, IsRefusedSourceIn}
 use Rattle.sem_kept.specs.Stages.{InTurn}
 use Rattle.s7_cli.specs.declared.compiling.LaidSource.{LaidSource}
 use Rattle.s7_cli.specs.declared.faults.CompileFault.{CompileFault}
 use Rattle.s7_cli.specs.declared.faults.CompileFault.TheVariants as fault
 
--- a source with its symbols is refused so; nothing is said where memory is wanting
+-- a source with its symbols, whose addresses are those of a language, is refused so; nothing is said
+-- where memory is wanting
+abbrev pub RefusesIn : Language → (source symbols : List ℕ) → CompileFault → Type 0
+RefusesIn language source symbols (fault.Symbols refusal) =
+    IsRefusedSourceIn language source symbols (InSymbols refusal)
+RefusesIn language source symbols (fault.Source refusal) =
+    IsRefusedSourceIn language source symbols (InSource refusal)
+RefusesIn language source symbols fault.NoMemory = Unit {0}
+
+-- the same in English
 abbrev pub RefusesBy : (source symbols : List ℕ) → CompileFault → Type 0
-RefusesBy source symbols (fault.Symbols refusal) =
-    IsRefusedSource source symbols (InSymbols refusal)
-RefusesBy source symbols (fault.Source refusal) =
-    IsRefusedSource source symbols (InSource refusal)
-RefusesBy source symbols fault.NoMemory = Unit {0}
+RefusesBy source symbols fault = RefusesIn English source symbols fault
+
+-- a symbols file is refused so, whatever the source is
+abbrev pub RefusesSymbols : Language → (symbols : List ℕ) → CompileFault → Type 0
+RefusesSymbols language symbols (fault.Symbols refusal) = HasSymbolsIn language symbols (Err refusal)
+RefusesSymbols language symbols (fault.Source refusal) = ⊥
+RefusesSymbols language symbols fault.NoMemory = Unit {0}
+
+-- a source is refused so with each symbols file, in whichever language, that has these symbols
+abbrev pub RefusesWith : (source : List ℕ) → List Symbol → CompileFault → Type 0
+RefusesWith source list fault =
+    (language : Language) (symbols : List ℕ) → HasSymbolsIn language symbols (Ok list)
+    → RefusesIn language source symbols fault
 
 -- a refusal of the symbols file, or want of memory
 abbrev pub fault_in_symbols : SourceFault → CompileFault
@@ -55,25 +74,50 @@ Lays symbols tree (Ok layouts) =
     (least (layout_refusals tree symbols) ≡ None) × (layouts ≡ layouts_of tree symbols)
 Lays symbols tree (Err fault) = IsRefusedBy symbols tree fault
 
--- a source with its symbols is laid out so, and breaks no rule on its symbols, tokens, clauses and
--- layout
-pub record IsLaid (source symbols : List ℕ) (laid : LaidSource) : Type 0 where
-  pub list : HasSymbols symbols (Ok laid.symbols)
+-- a source is laid out so with its symbols, and breaks no rule on its tokens, clauses and layout
+pub record IsLaid (source : List ℕ) (laid : LaidSource) : Type 0 where
   pub parsed : InTurn HasTokens (HasTree source) source (Ok laid.tree)
   pub right : least (layout_refusals laid.tree laid.symbols) ≡ None
   pub layout : laid.layouts ≡ layouts_of laid.tree laid.symbols
 
--- each source with its symbols that is laid out so is refused so
+-- each source that is laid out so is refused so
 abbrev pub RefusesLaid : LaidSource → CompileFault → Type 0
 RefusesLaid laid fault =
-    (source symbols : List ℕ)
-    → IsLaid source symbols laid → RefusesBy source symbols fault
+    (source : List ℕ) → IsLaid source laid → RefusesWith source laid.symbols fault
 
 -- a source with its symbols has a program that keeps it, at the large profile
-abbrev pub HasProgram : (source symbols : List ℕ) → Type 0
-HasProgram source symbols = (p : Program) × KeepsSource profile.Large source symbols p
+abbrev pub HasProgramIn : Language → (source symbols : List ℕ) → Type 0
+HasProgramIn language source symbols =
+    (p : Program) × KeepsSourceIn language profile.Large source symbols p
 
 -- bytes are an image of version 2 for the large profile, and keep a source with its symbols
+abbrev pub IsCompiledIn : Language → (bytes source symbols : List ℕ) → Type 0
+IsCompiledIn language bytes source symbols =
+    (kept : ImageKeepsSourceIn language bytes source symbols)
+    × (kept.stamp ≡ stamp.Two profile.Large)
+
+-- the same in English
+abbrev pub HasProgram : (source symbols : List ℕ) → Type 0
+HasProgram source symbols = HasProgramIn English source symbols
+
 abbrev pub IsCompiled : (bytes source symbols : List ℕ) → Type 0
-IsCompiled bytes source symbols =
-    (kept : ImageKeepsSource bytes source symbols) × (kept.stamp ≡ stamp.Two profile.Large)
+IsCompiled bytes source symbols = IsCompiledIn English bytes source symbols
+
+-- some files are a source and have these symbols
+abbrev pub AreRead : (source : List ℕ) → List Symbol → Type 0
+AreRead source list =
+    (language : Language) × (symbols : List ℕ) × AreFiles source symbols
+    × HasSymbolsIn language symbols (Ok list)
+
+-- a source has a program with each symbols file that has these symbols
+abbrev pub HasProgramWith : (source : List ℕ) → List Symbol → Type 0
+HasProgramWith source list =
+    (language : Language) (symbols : List ℕ) → AreFiles source symbols
+    → HasSymbolsIn language symbols (Ok list) → HasProgramIn language source symbols
+
+-- this is such a program
+abbrev pub KeepsWith : (source : List ℕ) → List Symbol → Program → Type 0
+KeepsWith source list p =
+    (language : Language) (symbols : List ℕ) → AreFiles source symbols
+    → HasSymbolsIn language symbols (Ok list)
+    → KeepsSourceIn language profile.Large source symbols p

@@ -50,11 +50,12 @@ AllRead view d is (Err (TooLong file)) =
 AllRead view d is (Err NoMemory) = OnlyReads d
 AllRead view d is (Err failure) = ⊥
 
--- what files hold was refused, or a certificate doesn't hold of it: this is said of it
+-- what files hold was refused, or a certificate doesn't hold of it, or its translation is too long: this is said of it
 abbrev pub RefusedBy : {V : Type 0} → (Answer → Type 0) → Result V Failure → Type 0
 RefusedBy says (Ok v) = Unit {0}
 RefusedBy says (Err (Refused file refusal)) = says (refused file refusal)
 RefusedBy says (Err (ImageRefused fault)) = says (refused_image fault)
+RefusedBy says (Err (TooLong file)) = says (too_long file)
 RefusedBy says (Err SaysNo) = says says_no
 RefusedBy says (Err NoMemory) = Unit {0}
 RefusedBy says (Err failure) = ⊥

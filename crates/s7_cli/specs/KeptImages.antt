@@ -1,12 +1,14 @@
--- An image that keeps a source, beside the source: their runs.
+-- An image that keeps a source, beside the source: their runs. The addresses of the symbols are those of a
+-- language, and where this is German, the source is the English text of what was compiled.
 use Rattle.std.specs.Prelude.{◌≡◌, ◌<◌, ℕ, List, get_or, Ok}
 use Rattle.var_access.specs.declared.Entry.{Entry}
 use Rattle.flat_code.specs.Stamps.{profile_of}
 use Rattle.image_file.specs.Loaded.{LoadedProgram}
 use Rattle.machine.specs.Code.{Code}
 use Rattle.machine.specs.Flat.{code_of}
-use Rattle.sem_kept.specs.Agreement.{ImageKeepsSource}
-use Rattle.sem_kept.specs.Meaning.{MeansCode}
+use Rattle.sem_kept.specs.Agreement.{ImageKeepsSourceIn}
+use Rattle.sem_kept.specs.Meaning.{MeansCodeIn}
+use Rattle.stl_symbols.specs.declared.languages.Language.{Language}
 use Rattle.s7_cli.specs.run_text.RunText.{run_text}
 use Rattle.s7_cli.specs.Answer.{Answer}
 use Rattle.s7_cli.specs.Loads.{LoadsAs}
@@ -15,17 +17,17 @@ use Rattle.s7_cli.specs.Says.{SourceSays, RunSays}
 -- the program of the image runs as the source means, along each list of entries, at the image's profile
 abbrev pub KeptImagesRunAlike : Type 0
 KeptImagesRunAlike =
-    (image source symbols : List ℕ) (loaded : LoadedProgram) (c : Code)
-    → ImageKeepsSource image source symbols
-    → LoadsAs image (Ok loaded) → MeansCode source symbols c → (entries : List Entry)
+    (language : Language) (image source symbols : List ℕ) (loaded : LoadedProgram) (c : Code)
+    → ImageKeepsSourceIn language image source symbols
+    → LoadsAs image (Ok loaded) → MeansCodeIn language source symbols c → (entries : List Entry)
     → run_text loaded.profile (code_of loaded.program) entries ≡ run_text loaded.profile c entries
 
 -- so `run` with the image answers what the source says at the profile of the image: where that is the large one, as of an image
 -- that `compile` wrote, what `go` answers with the source
 abbrev pub KeptImagesAnswerAlike : Type 0
 KeptImagesAnswerAlike =
-    (image source symbols : List ℕ)
-    → ((i : ℕ) → get_or image i 0 < 256) → (kept : ImageKeepsSource image source symbols)
+    (language : Language) (image source symbols : List ℕ)
+    → ((i : ℕ) → get_or image i 0 < 256) → (kept : ImageKeepsSourceIn language image source symbols)
     → (history : List ℕ) (answer : Answer)
-    → (RunSays image history answer → SourceSays (profile_of kept.stamp) source symbols history answer)
-    × (SourceSays (profile_of kept.stamp) source symbols history answer → RunSays image history answer)
+    → (RunSays image history answer → SourceSays language (profile_of kept.stamp) source symbols history answer)
+    × (SourceSays language (profile_of kept.stamp) source symbols history answer → RunSays image history answer)

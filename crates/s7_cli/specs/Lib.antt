@@ -19,6 +19,7 @@ pub mod run_text
 pub mod Says
 pub mod StatusTable
 pub mod Texts
+pub mod Translating
 pub mod Upgrades
 pub mod Watching
 pub mod WatchSays

@@ -5,13 +5,14 @@ use Rattle.plc_base.specs.declared.refusals.Refusal.{Refusal}
 use Rattle.image_file.specs.declared.faults.LoadFault.{LoadFault}
 use Rattle.stack_bound.specs.ChainText.{chain_text}
 use Rattle.s7_cli.specs.declared.failures.File.{File}
-use Rattle.s7_cli.specs.declared.failures.File.TheVariants.{Source, Symbols, Image, History, Stimuli, Vars, Script, Certificate}
+use Rattle.s7_cli.specs.declared.failures.File.TheVariants.{Source, Translation, Symbols, Image, History, Stimuli, Vars, Script, Certificate}
 use Rattle.s7_cli.specs.declared.failures.Failure.{Failure}
 use Rattle.s7_cli.specs.declared.failures.Failure.TheVariants.{WordsRefused, ReadFault, TooLong, Refused, ImageRefused, SaysNo, TooDeep, WriteFault, NoMemory}
 
--- the word for a file
+-- the word for a file, and for a translation
 unfoldable pub file_text : File → List ℕ
 file_text Source = codes "source"
+file_text Translation = codes "result"
 file_text Symbols = codes "symbols"
 file_text Image = codes "image"
 file_text History = codes "history"

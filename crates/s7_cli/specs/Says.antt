@@ -1,5 +1,5 @@
 -- What a command answers for what its input files hold, and what it writes to its output files.
-use Rattle.std.specs.Prelude.{◌≡◌, ℕ, List, [], ◌∷◌, Some, None, Result, Ok, Err}
+use Rattle.std.specs.Prelude.{◌≡◌, ℕ, Bool, List, [], ◌∷◌, Some, None, Result, Ok, Err}
 use Rattle.plc_base.specs.declared.Refusal.{Refusal}
 use Rattle.plc_base.specs.declared.Profile.{Profile}
 use Rattle.plc_base.specs.declared.Profile.TheVariants.{Large}
@@ -12,19 +12,21 @@ use Rattle.machine.specs.Code.{Code}
 use Rattle.machine.specs.Flat.{code_of}
 use Rattle.generator.specs.History.{history as generated_history}
 use Rattle.generator.specs.Source.{source_text}
-use Rattle.sem_kept.specs.Agreement.{names_in}
-use Rattle.sem_kept.specs.Meaning.{IsJudged, Refused, InSymbols, InSource}
+use Rattle.de_mnemonics.specs.Translation.{IsTranslation}
+use Rattle.stl_symbols.specs.declared.languages.Language.{Language}
+use Rattle.sem_kept.specs.Agreement.{names_read_in}
+use Rattle.sem_kept.specs.Meaning.{IsJudged, IsJudgedIn, IsRefusedSourceIn, Refused, InSymbols, InSource}
 use Rattle.event_text.specs.Texts.{history_of}
 use Rattle.s7_cli.specs.run_text.RunText.{run_text}
 use Rattle.s7_cli.specs.declared.failures.File.TheVariants.{Source, Symbols, History}
 use Rattle.s7_cli.specs.Answer.{Answer, done, refused, refused_image}
 use Rattle.s7_cli.specs.BoundSays.{BoundSays, IsCertificate, RecheckSays}
-use Rattle.s7_cli.specs.Command.{Command, Go, Check, Compile, Run, Gen, Live, Watch, Upgrade, Bound, Recheck}
-use Rattle.s7_cli.specs.Compiling.{IsCompiled}
+use Rattle.s7_cli.specs.Command.{Command, Go, Check, Compile, Translate, Run, Gen, Live, Watch, Upgrade, Bound, Recheck}
 use Rattle.s7_cli.specs.GenText.{summary_text}
 use Rattle.s7_cli.specs.Lines.{ok_line}
 use Rattle.s7_cli.specs.LiveSays.{LiveSays}
 use Rattle.s7_cli.specs.Loads.{LoadsAs}
+use Rattle.s7_cli.specs.Translating.{InEnglish, IsSourceImage, SaysTranslated, language_of}
 use Rattle.s7_cli.specs.WatchSays.{WatchSays}
 
 -- a source is refused by what its symbols break, or by what it breaks itself
@@ -44,15 +46,18 @@ abbrev pub check_answer : Result Code Refused → Answer
 check_answer (Err why) = refused_program why
 check_answer (Ok code) = done ok_line
 
--- over the contents of its files; a history may name the variables of the symbols
-abbrev pub SourceSays : Profile → (source symbols history : List ℕ) → Answer → Type 0
-SourceSays profile source symbols history answer =
-    (judged : Result Code Refused) × IsJudged source symbols judged
-    × (answer ≡ go_answer profile judged (history_of (names_in symbols) history))
+-- over the contents of its files, with symbols in a language; a history may name the variables of the
+-- symbols
+abbrev pub SourceSays : Language → Profile → (source symbols history : List ℕ) → Answer → Type 0
+SourceSays language profile source symbols history answer =
+    (judged : Result Code Refused) × IsJudgedIn language source symbols judged
+    × (answer ≡ go_answer profile judged (history_of (names_read_in language symbols) history))
 
--- what `go` answers: it has the sizes of the large profile
-abbrev pub GoSays : (source symbols history : List ℕ) → Answer → Type 0
-GoSays source symbols history answer = SourceSays Large source symbols history answer
+-- what `go` answers, of the English text of the source: it has the sizes of the large profile
+abbrev pub GoSays : (german : Bool) → (source symbols history : List ℕ) → Answer → Type 0
+GoSays german source symbols history answer =
+    InEnglish german source symbols
+    (λ text. SourceSays (language_of german) Large text symbols history) answer
 
 -- `run`: the image is loaded first, and then the history is checked; else the text of the run is told, at the image's profile
 abbrev pub ran : LoadedProgram → Result (List Entry) Refusal → Answer
@@ -96,21 +101,45 @@ GenSays number answer =
     (judged : Result Code Refused) × IsJudged (source_text number) [] judged
     × (answer ≡ gen_answer number judged)
 
+-- what is said of an English text with symbols in a language
+abbrev pub TextSays : Language → (symbols text : List ℕ) → Answer → Type 0
+TextSays language symbols text answer =
+    (judged : Result Code Refused) × IsJudgedIn language text symbols judged
+    × (answer ≡ check_answer judged)
+
 -- what `check` and `compile` answer, over the contents of their files
-abbrev pub CheckSays : (source symbols : List ℕ) → Answer → Type 0
-CheckSays source symbols answer =
-    (judged : Result Code Refused) × IsJudged source symbols judged × (answer ≡ check_answer judged)
+abbrev pub CheckSays : (german : Bool) → (source symbols : List ℕ) → Answer → Type 0
+CheckSays german source symbols answer =
+    InEnglish german source symbols (TextSays (language_of german) symbols) answer
+
+-- an English text with symbols in a language is refused so
+abbrev pub RefusedText : Language → (symbols text : List ℕ) → Answer → Type 0
+RefusedText language symbols text answer =
+    (why : Refused) × IsRefusedSourceIn language text symbols why × (answer ≡ refused_program why)
+
+-- a source with its symbols is refused so, or its translation is too long
+abbrev pub RefusedProgram : (german : Bool) → (source symbols : List ℕ) → Answer → Type 0
+RefusedProgram german source symbols answer =
+    InEnglish german source symbols (RefusedText (language_of german) symbols) answer
+
+-- what `english` and `german` answer
+abbrev pub TranslateSays : Language → (source : List ℕ) → Answer → Type 0
+TranslateSays language source answer =
+    SaysTranslated language source (λ text a. a ≡ done ok_line) answer
 
 -- over the contents of the command's input files, in the order of reading; without a symbols file the
 -- symbols are no bytes
 abbrev pub Says : Command → List (List ℕ) → Answer → Type 0
-Says (Go _ None _) (source ∷ history ∷ []) answer = GoSays source [] history answer
-Says (Go _ (Some _) _) (source ∷ symbols ∷ history ∷ []) answer =
-    GoSays source symbols history answer
-Says (Check _ None) (source ∷ []) answer = CheckSays source [] answer
-Says (Check _ (Some _)) (source ∷ symbols ∷ []) answer = CheckSays source symbols answer
-Says (Compile _ None _) (source ∷ []) answer = CheckSays source [] answer
-Says (Compile _ (Some _) _) (source ∷ symbols ∷ []) answer = CheckSays source symbols answer
+Says (Go _ None german _) (source ∷ history ∷ []) answer = GoSays german source [] history answer
+Says (Go _ (Some _) german _) (source ∷ symbols ∷ history ∷ []) answer =
+    GoSays german source symbols history answer
+Says (Check _ None german) (source ∷ []) answer = CheckSays german source [] answer
+Says (Check _ (Some _) german) (source ∷ symbols ∷ []) answer =
+    CheckSays german source symbols answer
+Says (Compile _ None german _) (source ∷ []) answer = CheckSays german source [] answer
+Says (Compile _ (Some _) german _) (source ∷ symbols ∷ []) answer =
+    CheckSays german source symbols answer
+Says (Translate language _ _) (source ∷ []) answer = TranslateSays language source answer
 Says (Run _ _) (image ∷ history ∷ []) answer = RunSays image history answer
 Says (Gen number) [] answer = GenSays number answer
 Says (Live _ _ _ steps) (image ∷ stimuli ∷ scripts) answer =
@@ -124,13 +153,16 @@ Says _ contents answer = ⊥
 
 -- what the command writes to an output file, over the same contents
 abbrev pub Writes : Command → List (List ℕ) → (name bytes : List ℕ) → Type 0
-Writes (Compile _ None image) (source ∷ []) name bytes =
-    (name ≡ image) × IsCompiled bytes source []
-Writes (Compile _ (Some _) image) (source ∷ symbols ∷ []) name bytes =
-    (name ≡ image) × IsCompiled bytes source symbols
-Writes (Compile _ _ _) contents name bytes = ⊥
-Writes (Go _ _ _) contents name bytes = ⊥
-Writes (Check _ _) contents name bytes = ⊥
+Writes (Compile _ None german image) (source ∷ []) name bytes =
+    (name ≡ image) × IsSourceImage german bytes source []
+Writes (Compile _ (Some _) german image) (source ∷ symbols ∷ []) name bytes =
+    (name ≡ image) × IsSourceImage german bytes source symbols
+Writes (Compile _ _ _ _) contents name bytes = ⊥
+Writes (Translate language _ translation) (source ∷ []) name bytes =
+    (name ≡ translation) × IsTranslation language source bytes
+Writes (Translate _ _ _) contents name bytes = ⊥
+Writes (Go _ _ _ _) contents name bytes = ⊥
+Writes (Check _ _ _) contents name bytes = ⊥
 Writes (Run _ _) contents name bytes = ⊥
 Writes (Gen _) contents name bytes = ⊥
 Writes (Live _ _ _ _) contents name bytes = ⊥

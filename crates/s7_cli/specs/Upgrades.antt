@@ -2,7 +2,8 @@
 use Rattle.std.specs.Prelude.{◌≡◌, ◌<◌, ℕ, List, get_or, Result}
 use Rattle.image_file.specs.Loaded.{LoadedProgram}
 use Rattle.image_file.specs.declared.faults.LoadFault.{LoadFault}
-use Rattle.sem_kept.specs.Agreement.{ImageKeepsSource}
+use Rattle.sem_kept.specs.Agreement.{ImageKeepsSourceIn}
+use Rattle.stl_symbols.specs.declared.languages.Language.{Language}
 use Rattle.s7_cli.specs.Answer.{Answer}
 use Rattle.s7_cli.specs.LiveSays.{LiveSays}
 use Rattle.s7_cli.specs.Loads.{LoadsAs}
@@ -34,5 +35,5 @@ UpgradesLiveAlike =
 -- a source that the one keeps is kept by the other
 abbrev pub UpgradesKeepSources : Type 0
 UpgradesKeepSources =
-    (upgraded image source symbols : List ℕ) → IsUpgraded upgraded image
-    → ImageKeepsSource image source symbols → ImageKeepsSource upgraded source symbols
+    (language : Language) (upgraded image source symbols : List ℕ) → IsUpgraded upgraded image
+    → ImageKeepsSourceIn language image source symbols → ImageKeepsSourceIn language upgraded source symbols

@@ -1,16 +1,18 @@
 -- The words of a call, and the command that they ask for. How a command line is read is clap's: its `fault_of` has what is wrong with
 -- the words (also a request for help), and its `matches_of` what each argument found, of which `first_of` and `all_of` give the words.
-use Rattle.std.specs.Prelude.{◌≡◌, ◌==◌, ◌&&◌, ℕ, ◌≤◌, nat_le, nat_lt, Bool, true, not, List, [], ◌∷◌, ◌++◌, length, map, Option, Some, None, codes, bytes_eq, is_some, IfSome, option_and_then, option_map, unwrap_or, if◌then◌else◌}
+use Rattle.std.specs.Prelude.{◌≡◌, ◌==◌, ◌&&◌, ℕ, ◌≤◌, nat_le, nat_lt, Bool, true, false, not, List, [], ◌∷◌, ◌++◌, length, map, Option, Some, None, codes, bytes_eq, is_some, IfSome, option_and_then, option_map, unwrap_or, if◌then◌else◌}
 use Rattle.std.specs.List.{list_all}
+use Rattle.std.specs.Option.{option_map_or}
 use Rattle.clap.specs.Lexer.{usize_max}
 use Rattle.clap.specs.Simple.{on_top}
 use Rattle.clap.specs.Walk.{is_empty}
 use Rattle.clap.specs.Words.{App, Row, Rule, all_of, fault_of, first_of, matches_of, new_app, new_rule, with_rule}
-use Rattle.clap.specs.declared.builder.action.ArgAction.TheVariants.{Set, Append}
+use Rattle.clap.specs.declared.builder.action.ArgAction.TheVariants.{Set, SetTrue, Append}
+use Rattle.stl_symbols.specs.declared.languages.Language.TheVariants.{English, German}
 use Rattle.plc_base.specs.Decimal.{decimal_up_to}
 use Rattle.s7_cli.specs.declared.words.Asked.{Asked}
 use Rattle.s7_cli.specs.declared.words.Asked.TheVariants as asked
-use Rattle.s7_cli.specs.Command.{Command, Go, Check, Compile, Run, Gen, Live, Watch, Upgrade, Bound, Recheck}
+use Rattle.s7_cli.specs.Command.{Command, Go, Check, Compile, Translate, Run, Gen, Live, Watch, Upgrade, Bound, Recheck}
 
 -- COMMAND: a word that has to be there
 abbrev pub command_rule : Rule
@@ -28,42 +30,57 @@ symbols_rule = record (new_rule (codes "symbols")) { long = Some (codes "symbols
 abbrev pub steps_rule : Rule
 steps_rule = record (new_rule (codes "steps")) { long = Some (codes "steps"); action = Some Set }
 
+-- `--german`, a flag, at most once
+abbrev pub german_rule : Rule
+german_rule = record (new_rule (codes "german")) { long = Some (codes "german"); action = Some SetTrue }
+
 -- the command `s7`, whose words are those without the program's name
 abbrev pub s7_alone : App
 s7_alone = on_top (λ s. record s { no_binary_name = true }) (new_app (codes "s7"))
 
--- with its four arguments
+-- with its five arguments
 abbrev pub the_line : App
-the_line = with_rule (with_rule (with_rule (with_rule s7_alone command_rule) files_rule) symbols_rule) steps_rule
+the_line = with_rule (with_rule (with_rule (with_rule (with_rule s7_alone command_rule) files_rule) symbols_rule) steps_rule) german_rule
 
 -- the number that a word writes in decimal digits without a sign, from 1 to the most; none for another word
 abbrev pub number_up_to : (most : ℕ) (word : List ℕ) → Option ℕ
 number_up_to most word = option_and_then (λ number. if nat_lt 0 number then Some number else None) (decimal_up_to most word)
 
--- `check SRC`, with `--symbols FILE` or without, and `gen NUMBER`
-abbrev pub one_word_command : (command word : List ℕ) (symbols : Option (List ℕ)) → Option Command
-one_word_command command word symbols =
-    if bytes_eq command (codes "check") then Some (Check word symbols)
-    else (if bytes_eq command (codes "gen") && not (is_some symbols) then option_map Gen (number_up_to 10000 word)
+-- no option of a command that compiles a source is given
+abbrev pub takes_no_source : (symbols : Option (List ℕ)) (german : Bool) → Bool
+takes_no_source symbols german = not (is_some symbols) && not german
+
+-- `check SRC`, with `--symbols FILE` or without, with `--german` or without, and `gen NUMBER`
+abbrev pub one_word_command : (command word : List ℕ) (symbols : Option (List ℕ)) (german : Bool) → Option Command
+one_word_command command word symbols german =
+    if bytes_eq command (codes "check") then Some (Check word symbols german)
+    else (if bytes_eq command (codes "gen") && takes_no_source symbols german then option_map Gen (number_up_to 10000 word)
     else None)
 
--- `go SRC HIST` and `compile SRC IMG`, with `--symbols FILE` or without, `run IMG HIST`, `upgrade IMG IMG2`,
--- `bound IMG CERT` and `recheck IMG CERT`
-abbrev pub two_word_command : (command first second : List ℕ) (symbols : Option (List ℕ)) → Option Command
-two_word_command command first second symbols =
-    if bytes_eq command (codes "go") then Some (Go first symbols second)
-    else (if bytes_eq command (codes "compile") then Some (Compile first symbols second)
-    else (if bytes_eq command (codes "run") && not (is_some symbols) then Some (Run first second)
-    else (if bytes_eq command (codes "upgrade") && not (is_some symbols) then Some (Upgrade first second)
-    else (if bytes_eq command (codes "bound") && not (is_some symbols) then Some (Bound first second)
-    else (if bytes_eq command (codes "recheck") && not (is_some symbols) then Some (Recheck first second)
+-- `run IMG HIST`, `upgrade IMG IMG2`, `bound IMG CERT`, `recheck IMG CERT`, `english SRC OUT` and `german SRC OUT`
+abbrev pub file_command : (command first second : List ℕ) → Option Command
+file_command command first second =
+    if bytes_eq command (codes "run") then Some (Run first second)
+    else (if bytes_eq command (codes "upgrade") then Some (Upgrade first second)
+    else (if bytes_eq command (codes "bound") then Some (Bound first second)
+    else (if bytes_eq command (codes "recheck") then Some (Recheck first second)
+    else (if bytes_eq command (codes "english") then Some (Translate English first second)
+    else (if bytes_eq command (codes "german") then Some (Translate German first second)
     else None)))))
 
+-- these, and `go SRC HIST` and `compile SRC IMG`, with `--symbols FILE` or without, with `--german` or without
+abbrev pub two_word_command : (command first second : List ℕ) (symbols : Option (List ℕ)) (german : Bool) → Option Command
+two_word_command command first second symbols german =
+    if bytes_eq command (codes "go") then Some (Go first symbols german second)
+    else (if bytes_eq command (codes "compile") then Some (Compile first symbols german second)
+    else (if takes_no_source symbols german then file_command command first second
+    else None))
+
 -- a command with one word or two behind it
-abbrev pub short_command : (command : List ℕ) (words : List (List ℕ)) (symbols : Option (List ℕ)) → Option Command
-short_command command (word ∷ []) symbols = one_word_command command word symbols
-short_command command (first ∷ second ∷ []) symbols = two_word_command command first second symbols
-short_command command words symbols = None
+abbrev pub short_command : (command : List ℕ) (words : List (List ℕ)) (symbols : Option (List ℕ)) (german : Bool) → Option Command
+short_command command (word ∷ []) symbols german = one_word_command command word symbols german
+short_command command (first ∷ second ∷ []) symbols german = two_word_command command first second symbols german
+short_command command words symbols german = None
 
 -- `live IMG STIM OPS.. --steps N`, with one script to four
 abbrev pub live_command : (command : List ℕ) (words : List (List ℕ)) (steps : List ℕ) → Option Command
@@ -84,15 +101,19 @@ stepped_command command words steps =
     if bytes_eq command (codes "watch") then watch_command words steps else live_command command words steps
 
 -- the command that its word, the words behind it and the options ask for; `--steps N` goes with `live` and `watch`, and with nothing else
-abbrev pub asked_for : (command : List ℕ) (words : List (List ℕ)) (symbols steps : Option (List ℕ)) → Option Command
-asked_for command words symbols None = short_command command words symbols
-asked_for command words symbols (Some steps) = if is_some symbols then None else stepped_command command words steps
+abbrev pub asked_for : (command : List ℕ) (words : List (List ℕ)) (symbols : Option (List ℕ)) (german : Bool) (steps : Option (List ℕ)) → Option Command
+asked_for command words symbols german None = short_command command words symbols german
+asked_for command words symbols german (Some steps) = if takes_no_source symbols german then stepped_command command words steps else None
 
--- the command that what was found of the four asks for
+-- whether `--german` was found, whose value is `false` where it wasn't
+abbrev pub has_german : List Row → Bool
+has_german found = option_map_or (λ value. bytes_eq value (codes "true")) (first_of (codes "german") found) false
+
+-- the command that what was found of the five asks for
 abbrev pub asked_by : List Row → Option Command
 asked_by found =
     option_and_then
-    (λ command. asked_for command (unwrap_or (all_of (codes "FILES") found) []) (first_of (codes "symbols") found) (first_of (codes "steps") found))
+    (λ command. asked_for command (unwrap_or (all_of (codes "FILES") found) []) (first_of (codes "symbols") found) (has_german found) (first_of (codes "steps") found))
     (first_of (codes "COMMAND") found)
 
 -- the words, without the program's name: refused where clap refuses them, or where they ask for no command
@@ -108,9 +129,10 @@ KeepsLimits command = Unit {0}
 
 -- the command that was read
 abbrev pub command_value : Asked → Command
-command_value (asked.Go source symbols history) = Go source.now (option_map (λ s. s.now) symbols) history.now
-command_value (asked.Check source symbols) = Check source.now (option_map (λ s. s.now) symbols)
-command_value (asked.Compile source symbols image) = Compile source.now (option_map (λ s. s.now) symbols) image.now
+command_value (asked.Go source symbols german history) = Go source.now (option_map (λ s. s.now) symbols) german history.now
+command_value (asked.Check source symbols german) = Check source.now (option_map (λ s. s.now) symbols) german
+command_value (asked.Compile source symbols german image) = Compile source.now (option_map (λ s. s.now) symbols) german image.now
+command_value (asked.Translate language source translation) = Translate language source.now translation.now
 command_value (asked.Run image history) = Run image.now history.now
 command_value (asked.Gen number) = Gen number
 command_value (asked.Upgrade image upgraded) = Upgrade image.now upgraded.now
@@ -126,17 +148,17 @@ is_plain_word (first ∷ []) = true
 is_plain_word (first ∷ second ∷ rest) = not (first == 45)
 
 -- the command that such words ask for with these options, the first of them as its word
-abbrev pub plain_command : (words : List (List ℕ)) (symbols steps : Option (List ℕ)) → Option Command
-plain_command [] symbols steps = None
-plain_command (command ∷ words) symbols steps = asked_for command words symbols steps
+abbrev pub plain_command : (words : List (List ℕ)) (symbols : Option (List ℕ)) (german : Bool) (steps : Option (List ℕ)) → Option Command
+plain_command [] symbols german steps = None
+plain_command (command ∷ words) symbols german steps = asked_for command words symbols german steps
 
 -- words that can be no options are read so
 abbrev pub ReadsPlainWords : Type 0
-ReadsPlainWords = (words : List (List ℕ)) → list_all is_plain_word words ≡ true → command_of words ≡ plain_command words None None
+ReadsPlainWords = (words : List (List ℕ)) → list_all is_plain_word words ≡ true → command_of words ≡ plain_command words None false None
 
 -- and so are words behind `--`, whatever they begin with
 abbrev pub ReadsWordsBehindDashes : Type 0
-ReadsWordsBehindDashes = (words : List (List ℕ)) → command_of (codes "--" ∷ words) ≡ plain_command words None None
+ReadsWordsBehindDashes = (words : List (List ℕ)) → command_of (codes "--" ∷ words) ≡ plain_command words None false None
 
 -- an option with its value may stand anywhere among words that can be no options, and asks for the same: as two words, of which the second can be none
 -- either, or as a single word with `=` between them, where the value may be anything
@@ -147,13 +169,18 @@ ReadsAnywhere option asked = (front back : List (List ℕ)) (value : List ℕ) �
 
 -- `--symbols FILE` gives the command of the other words its symbols
 abbrev pub ReadsSymbolsAnywhere : Type 0
-ReadsSymbolsAnywhere = ReadsAnywhere (codes "--symbols") (λ words file. plain_command words (Some file) None)
+ReadsSymbolsAnywhere = ReadsAnywhere (codes "--symbols") (λ words file. plain_command words (Some file) false None)
 
 -- `--steps N` gives it its steps
 abbrev pub ReadsStepsAnywhere : Type 0
-ReadsStepsAnywhere = ReadsAnywhere (codes "--steps") (λ words number. plain_command words None (Some number))
+ReadsStepsAnywhere = ReadsAnywhere (codes "--steps") (λ words number. plain_command words None false (Some number))
 
--- where such an option is the last word, it has no value, and the words are refused
+-- `--german` may stand anywhere among them too
+abbrev pub ReadsGermanAnywhere : Type 0
+ReadsGermanAnywhere = (front back : List (List ℕ)) → list_all is_plain_word (front ++ back) ≡ true
+    → command_of (front ++ codes "--german" ∷ back) ≡ plain_command (front ++ back) None true None
+
+-- where an option with a value is the last word, it has no value, and the words are refused
 abbrev pub RefusesNoValue : Type 0
 RefusesNoValue = (front : List (List ℕ)) → list_all is_plain_word front ≡ true
     → (command_of (front ++ codes "--symbols" ∷ []) ≡ None) × (command_of (front ++ codes "--steps" ∷ []) ≡ None)

@@ -18,35 +18,37 @@ fn check<F: Files, K: Sink>(
     alloc: Global,
     src: &str,
     symbols: Option<&str>,
+    german: bool,
     files: &mut F,
     out: &mut K,
 ) -> Result<(), Failure>
     ensures { let files_went = disk (F.shown files.old) (F.shown files.new) in
-        Comes (Some (Check src.now (option_map (λ s. s.now) symbols.entry))) files_went
+        Comes (Some (Check src.now (option_map (λ s. s.now) symbols.entry) german)) files_went
         (taking (K.shown out.old) (K.shown out.new)) result }
 {
     let text = read_program(alloc, files, src, symbols)?;
-    judge_program(alloc, &text)?;
+    judge_program(alloc, &text, german)?;
     write_text(out, OK_LINE)
 }
 
-/// Checks the source in the file `src`, with the symbols in the file `symbols` if there is one, and
-/// writes `OK`, or the line of a refusal.
+/// Checks the source in the file `src`, with the symbols in the file `symbols` if there is one, both
+/// of which are German where `german` says so, and writes `OK`, or the line of a refusal.
 pub fn cmd_check<F: Files, K: Sink>(
     alloc: Global,
     src: &str,
     symbols: Option<&str>,
+    german: bool,
     files: &mut F,
     out: &mut K,
 ) -> Status
     ensures ends { let went = disk (F.shown files.old) (F.shown files.new) in
-        Ended (Some (Check src.now (option_map (λ s. s.now) symbols.entry))) went
+        Ended (Some (Check src.now (option_map (λ s. s.now) symbols.entry) german)) went
         (taking (K.shown out.old) (K.shown out.new)) result.code }
     ensures table { let went = disk (F.shown files.old) (F.shown files.new) in
         let took = taking (K.shown out.old) (K.shown out.new) in
-        StatusTable (Some (Check src.now (option_map (λ s. s.now) symbols.entry))) went took
+        StatusTable (Some (Check src.now (option_map (λ s. s.now) symbols.entry) german)) went took
         result.code }
 {
-    let came = check(alloc, src, symbols, files, out);
+    let came = check(alloc, src, symbols, german, files, out);
     end_command(out, came)
 }

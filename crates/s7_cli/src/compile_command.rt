@@ -17,42 +17,45 @@ use std::alloc::Global;
 fn compile<F: Files, K: Sink>(
     alloc: Global,
     src: &str,
-    symbols: Option<&str>,
     img: &str,
+    symbols: Option<&str>,
+    german: bool,
     files: &mut F,
     out: &mut K,
 ) -> Result<(), Failure>
     ensures { let went = disk (F.shown files.old) (F.shown files.new) in
         let took = taking (K.shown out.old) (K.shown out.new) in
-        Comes (Some (Compile src.now (option_map (λ s. s.now) symbols.entry) img.now)) went took
-        result }
+        Comes (Some (Compile src.now (option_map (λ s. s.now) symbols.entry) german img.now)) went
+        took result }
 {
     let text = read_program(alloc, files, src, symbols)?;
-    let image = judge_image(alloc, &text)?;
+    let image = judge_image(alloc, &text, german)?;
     write_file(files, img, &image)?;
     write_text(out, OK_LINE)
 }
 
 /// Compiles the source in the file `src`, with the symbols in the file `symbols` if there is one,
+/// both of which are German where `german` says so,
 /// makes its image the whole of the file `img`, and then writes `OK`; or writes the line of a
 /// refusal, and no file.
 pub fn cmd_compile<F: Files, K: Sink>(
     alloc: Global,
     src: &str,
-    symbols: Option<&str>,
     img: &str,
+    symbols: Option<&str>,
+    german: bool,
     files: &mut F,
     out: &mut K,
 ) -> Status
     ensures ends { let went = disk (F.shown files.old) (F.shown files.new) in
         let took = taking (K.shown out.old) (K.shown out.new) in
-        Ended (Some (Compile src.now (option_map (λ s. s.now) symbols.entry) img.now)) went took
-        result.code }
+        Ended (Some (Compile src.now (option_map (λ s. s.now) symbols.entry) german img.now)) went
+        took result.code }
     ensures table { let went = disk (F.shown files.old) (F.shown files.new) in
         let took = taking (K.shown out.old) (K.shown out.new) in
-        StatusTable (Some (Compile src.now (option_map (λ s. s.now) symbols.entry) img.now)) went
-        took result.code }
+        StatusTable (Some (Compile src.now (option_map (λ s. s.now) symbols.entry) german img.now))
+        went took result.code }
 {
-    let came = compile(alloc, src, symbols, img, files, out);
+    let came = compile(alloc, src, img, symbols, german, files, out);
     end_command(out, came)
 }

@@ -9,17 +9,22 @@ ghost use Rattle.stl_lexer.specs.Limits.{source_limit};
 ghost use Rattle.stl_types.specs.Table.{statement_refusals};
 ghost use Rattle.block_layout.specs.Table.{layout_refusals};
 ghost use Rattle.sem_kept.specs.Agreement.{AreFiles, IsRunnable, KeepsSource};
-ghost use Rattle.sem_kept.specs.Meaning.{HasSymbols, HasTokens, HasTree, IsSound};
+ghost use Rattle.sem_kept.specs.Meaning.{HasSymbolsIn, HasTokens, HasTree, IsSound};
 ghost use Rattle.plc_base.specs.declared.refusals.SourceFault.TheVariants.{NoMemory};
 ghost use Rattle.sem_kept.specs.Stages.{InTurn};
 ghost use Rattle.s7_cli.specs.Compiling.{
-  RefusesBy,
-  RefusesLaid,
+  AreRead,
   Finds,
   HasProgram,
+  HasProgramWith,
   IsCompiled,
   IsLaid,
+  KeepsWith,
   Lays,
+  RefusesBy,
+  RefusesLaid,
+  RefusesSymbols,
+  RefusesWith,
 };
 
 use crate::faults::{CompileFault, in_source, in_symbols};
@@ -32,7 +37,7 @@ use stl_ast::Tree;
 use stl_codegen::generate;
 use stl_lexer::lex;
 use stl_parser::parse;
-use stl_symbols::{Symbols, read_symbols};
+use stl_symbols::{Language, Symbols, read_symbols, read_symbols_german};
 use stl_types::{Checked, check};
 
 /// A source that breaks no rule on its symbols, tokens, clauses and layout.
@@ -43,13 +48,36 @@ struct LaidSource {
     layouts: Layouts,
 }
 
-/// The symbols of a symbols file.
-fn symbols_of(alloc: Global, symbols: &[u8]) -> Result<Symbols, SourceFault>
+/// The symbols of a symbols file with addresses in a language.
+fn read_symbols_in(
+    alloc: Global,
+    language: Language,
+    symbols: &[u8],
+) -> Result<Symbols, SourceFault>
     requires { length symbols.now ≤ symbols_limit }
-    ensures { Finds (HasSymbols symbols.now) result }
+    ensures { Finds (HasSymbolsIn language symbols.now) result }
 {
-    let list = read_symbols(alloc, symbols)?;
+    let list = match language {
+        Language::English => read_symbols(alloc, symbols)?,
+        Language::German => read_symbols_german(alloc, symbols)?,
+    };
     Ok(list)
+}
+
+/// The same, for a source whose symbols they are.
+pub(crate) fn symbols_in(
+    alloc: Global,
+    language: Language,
+    symbols: &[u8],
+) -> Result<Symbols, CompileFault>
+    requires { length symbols.now ≤ symbols_limit }
+    ensures ok { IfOk result (λ list. HasSymbolsIn language symbols.now (Ok list)) }
+    ensures refused { IfErr result (RefusesSymbols language symbols.now) }
+{
+    match read_symbols_in(alloc, language, symbols) {
+        Ok(list) => Ok(list),
+        Err(fault) => Err(in_symbols(fault)),
+    }
 }
 
 /// The tree of a source.
@@ -111,27 +139,22 @@ fn layouts_of(alloc: Global, tree: &Tree, symbols: &Symbols) -> Result<Layouts, 
     }
 }
 
-/// Lays out a source with its symbols file. The symbols are checked first, then the tokens of the
-/// source, its clauses, and its layout. Where a rule on the layout is broken, the refusal is the
-/// least one of these rules and of those on statements.
-fn laid_out(alloc: Global, source: &[u8], symbols: &[u8]) -> Result<LaidSource, CompileFault>
-    requires source { length source.now ≤ source_limit }
-    requires symbols { length symbols.now ≤ symbols_limit }
-    ensures laid { IfOk result (IsLaid source.now symbols.now) }
-    ensures refused { IfErr result
-        (RefusesBy source.now symbols.now) }
+/// Lays out a source with these symbols. The tokens of the source are checked first, then its clauses,
+/// and its layout. Where a rule on the layout is broken, the refusal is the least one of these rules
+/// and of those on statements.
+fn laid_out(alloc: Global, source: &[u8], symbols: Symbols) -> Result<LaidSource, CompileFault>
+    requires { length source.now ≤ source_limit }
+    ensures laid { IfOk result (IsLaid source.now) }
+    ensures symbols { IfOk result (λ laid. laid.symbols ≡ symbols) }
+    ensures refused { IfErr result (RefusesWith source.now symbols) }
 {
-    let list = match symbols_of(alloc, symbols) {
-        Ok(list) => list,
-        Err(fault) => return Err(in_symbols(fault)),
-    };
     let tree = match tree_of(alloc, source) {
         Ok(tree) => tree,
         Err(fault) => return Err(in_source(fault)),
     };
-    match layouts_of(alloc, &tree, &list) {
+    match layouts_of(alloc, &tree, &symbols) {
         Ok(layouts) => Ok(LaidSource {
-            symbols: list,
+            symbols,
             tree,
             layouts,
         }),
@@ -153,7 +176,7 @@ fn checked_of<'a>(alloc: Global, laid: &'a LaidSource) -> Result<Checked<'a>, Co
 }
 
 /// A program that runs, verified, with the large profile.
-fn loaded(alloc: Global, program: Program) -> Result<Loaded, AllocError>
+pub(crate) fn loaded_large(alloc: Global, program: Program) -> Result<Loaded, AllocError>
     requires { IsRunnable program }
     ensures program { IfOk result (λ l. l.program ≡ program) }
     ensures large { IfOk result (λ l. l.profile ≡ Large) }
@@ -172,7 +195,7 @@ fn law_of_bytes(bytes: &[u8])
 {}
 
 /// A law: what is known of a source and a symbols file that are read.
-fn law_of_files(source: &[u8], symbols: &[u8])
+pub(crate) fn law_of_files(source: &[u8], symbols: &[u8])
     requires source { length source.now ≤ source_limit }
     requires symbols { length symbols.now ≤ symbols_limit }
     ensures { AreFiles source.now symbols.now }
@@ -181,9 +204,42 @@ fn law_of_files(source: &[u8], symbols: &[u8])
     law_of_bytes(symbols);
 }
 
+/// Checks a source with symbols that were read, in either language. No program is made: that a source
+/// which breaks no rule has one that verifies and runs as it means is proved.
+pub(crate) fn judged_with(
+    alloc: Global,
+    source: &[u8],
+    symbols: Symbols,
+) -> Result<(), CompileFault>
+    requires { length source.now ≤ source_limit }
+    ensures ok { IfOk result (λ done. HasProgramWith source.now symbols) }
+    ensures refused { IfErr result (RefusesWith source.now symbols) }
+{
+    sem_kept::laws::programs_run();
+    let laid = laid_out(alloc, source, symbols)?;
+    let _checked = checked_of(alloc, &laid)?;
+    Ok(())
+}
+
+/// The program of a source with symbols that were read, in either language.
+pub(crate) fn program_with(
+    alloc: Global,
+    source: &[u8],
+    symbols: Symbols,
+) -> Result<Program, CompileFault>
+    requires source { length source.now ≤ source_limit }
+    requires read { AreRead source.now symbols }
+    ensures ok { IfOk result (KeepsWith source.now symbols) }
+    ensures refused { IfErr result (RefusesWith source.now symbols) }
+{
+    sem_kept::laws::programs_run();
+    let laid = laid_out(alloc, source, symbols)?;
+    let checked = checked_of(alloc, &laid)?;
+    Ok(generate(alloc, &checked, &laid.layouts, &laid.symbols)?)
+}
+
 /// Checks a source of at most 1,048,576 bytes with its symbols file, which has at most as many (no
-/// file: no bytes), by the rules of `compiled`. No program is made: that a source which breaks no rule has one that
-/// verifies and runs as it means is proved.
+/// file: no bytes), by the rules of `compiled`.
 ///
 /// # Errors
 ///
@@ -197,11 +253,9 @@ pub fn judged(alloc: Global, source: &[u8], symbols: &[u8]) -> Result<(), Compil
     ensures refused { IfErr result
         (RefusesBy source.now symbols.now) }
 {
-    sem_kept::laws::programs_run();
     law_of_files(source, symbols);
-    let laid = laid_out(alloc, source, symbols)?;
-    let _checked = checked_of(alloc, &laid)?;
-    Ok(())
+    let list = symbols_in(alloc, Language::English, symbols)?;
+    judged_with(alloc, source, list)
 }
 
 /// The program of a source with its symbols.
@@ -212,11 +266,9 @@ fn program_of(alloc: Global, source: &[u8], symbols: &[u8]) -> Result<Program, C
     ensures refused { IfErr result
         (RefusesBy source.now symbols.now) }
 {
-    sem_kept::laws::programs_run();
     law_of_files(source, symbols);
-    let laid = laid_out(alloc, source, symbols)?;
-    let checked = checked_of(alloc, &laid)?;
-    Ok(generate(alloc, &checked, &laid.layouts, &laid.symbols)?)
+    let list = symbols_in(alloc, Language::English, symbols)?;
+    program_with(alloc, source, list)
 }
 
 /// Compiles a source of at most 1,048,576 bytes with its symbols file, which has at most as many (no
@@ -240,7 +292,7 @@ pub fn compiled(alloc: Global, source: &[u8], symbols: &[u8]) -> Result<Loaded, 
         (RefusesBy source.now symbols.now) }
 {
     let program = program_of(alloc, source, symbols)?;
-    Ok(loaded(alloc, program)?)
+    Ok(loaded_large(alloc, program)?)
 }
 
 /// Compiles a source with its symbols file, by the rules of `compiled`, into the image of its

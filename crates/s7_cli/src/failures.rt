@@ -9,10 +9,12 @@ use plc_base::Refusal;
 use stack_bound::CertificateFault;
 use std::alloc::AllocError;
 
-/// A file that a command reads.
+/// A file that a command reads, or a text that it makes of one.
 #[derive(Clone, Copy, Debug, PartialEq, Eq)]
 pub enum File {
     Source,
+    /// The translation of a source.
+    Translation,
     Symbols,
     Image,
     History,
@@ -31,7 +33,7 @@ pub enum Failure {
     WordsRefused,
     /// A file can't be read.
     ReadFault,
-    /// A file holds a byte past its limit.
+    /// A file holds a byte past its limit, or a translation would.
     TooLong { file: File },
     /// A file breaks a rule.
     Refused { file: File, refusal: Refusal },
@@ -132,7 +134,7 @@ fn refused_code(file: File) -> u8
     ensures { result ≡ refused_code file }
 {
     match file {
-        File::Source | File::Symbols => 2,
+        File::Source | File::Translation | File::Symbols => 2,
         File::Image => 3,
         File::History | File::Stimuli | File::Vars | File::Script { .. } | File::Certificate => 4,
     }

@@ -13,7 +13,7 @@ use crate::texts::failure_line;
 use plc_io::{IoFault, Sink, push_all};
 
 /// What `check` writes for a source that is accepted, `recheck` for a certificate that holds, and
-/// `compile`, `upgrade` and `bound` behind their file.
+/// `compile`, `english`, `german`, `upgrade` and `bound` behind their file.
 pub const OK_LINE: &[u8] = b"OK\n";
 
 /// How a command came out whose text was written so.
@@ -70,8 +70,9 @@ pub fn end_command<K: Sink>(out: &mut K, came: Result<(), Failure>) -> Status
         → Comes c d (taking start (K.shown out.old)) came
         → StatusTable c d (taking start (K.shown out.new)) result.code }
 {
-    // a source has one meaning or one refusal
+    // a source has one meaning or one refusal, and one translation or one violation
     sem_kept::laws::law_of_sources();
+    de_mnemonics::law_of_translations();
     stack_bound::laws::certificates_keep_stacks();
     Status::of(finish(out, came))
 }

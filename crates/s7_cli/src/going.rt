@@ -20,41 +20,43 @@ fn go<F: Files, K: Sink>(
     src: &str,
     hist: &str,
     symbols: Option<&str>,
+    german: bool,
     files: &mut F,
     out: &mut K,
 ) -> Result<(), Failure>
     ensures { let went = disk (F.shown files.old) (F.shown files.new) in
         let took = taking (K.shown out.old) (K.shown out.new) in
-        Comes (Some (Go src.now (option_map (λ s. s.now) symbols.entry) hist.now)) went took
+        Comes (Some (Go src.now (option_map (λ s. s.now) symbols.entry) german hist.now)) went took
         result }
 {
     let text = read_program(alloc, files, src, symbols)?;
     let history = read_file(alloc, files, File::History, hist)?;
-    let (program, entries) = judge(alloc, &text, &history)?;
+    let (program, entries) = judge(alloc, &text, german, &history)?;
     // programs that no history tells apart have one text
     controller::laws::continues_replay();
     written(replay_text(alloc, program, &entries, out))
 }
 
-/// Runs the source in the file `src`, with the symbols in the file `symbols` if there is one, along
-/// the history in the file `hist`, and writes the text of the run, or the line of a refusal.
+/// Runs the source in the file `src`, with the symbols in the file `symbols` if there is one, both of
+/// which are German where `german` says so, along the history in the file `hist`, and writes the text of the run, or the line of a refusal.
 pub fn cmd_go<F: Files, K: Sink>(
     alloc: Global,
     src: &str,
     hist: &str,
     symbols: Option<&str>,
+    german: bool,
     files: &mut F,
     out: &mut K,
 ) -> Status
     ensures ends { let went = disk (F.shown files.old) (F.shown files.new) in
         let took = taking (K.shown out.old) (K.shown out.new) in
-        Ended (Some (Go src.now (option_map (λ s. s.now) symbols.entry) hist.now)) went took
+        Ended (Some (Go src.now (option_map (λ s. s.now) symbols.entry) german hist.now)) went took
         result.code }
     ensures table { let went = disk (F.shown files.old) (F.shown files.new) in
         let took = taking (K.shown out.old) (K.shown out.new) in
-        StatusTable (Some (Go src.now (option_map (λ s. s.now) symbols.entry) hist.now)) went took
+        StatusTable (Some (Go src.now (option_map (λ s. s.now) symbols.entry) german hist.now)) went took
         result.code }
 {
-    let came = go(alloc, src, hist, symbols, files, out);
+    let came = go(alloc, src, hist, symbols, german, files, out);
     end_command(out, came)
 }

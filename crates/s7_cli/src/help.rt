@@ -22,6 +22,10 @@ Calls:
   s7 go SRC HIST      run the source SRC along the history HIST, write the run
   s7 check SRC        check the source SRC, write OK where it is accepted
   s7 compile SRC IMG  write the image of the source SRC to the file IMG, then OK
+  s7 english SRC OUT  write the source SRC with English mnemonics to the file
+                      OUT, then OK; SRC has German ones
+  s7 german SRC OUT   write the source SRC with German mnemonics to the file
+                      OUT, then OK; SRC has English ones
   s7 run IMG HIST     run the image IMG along the history HIST, write the run
   s7 gen NUMBER       run the program and the history that are made of a number
                       from 1 to 10,000, write a line that sums up the run
@@ -46,6 +50,8 @@ Calls:
 Options, anywhere among the words:
   --symbols FILE   the symbols of the source, as STEP 7 exports them: with go,
                    check and compile
+  --german         the source and its symbols are German: with go, check and
+                   compile
   --steps N        the most steps, 1 to 1,000,000: with live and watch, which
                    need it
 
@@ -54,7 +60,7 @@ Behind -- no word is an option, so a file may begin with a hyphen.
 Supported: organization blocks, functions, function blocks, data blocks and
 types of the whole-number subset of STL, nine system functions, interrupts,
 time and synchronous errors, timers and counters, requests of operators.
-Not supported: REAL, STRING, ANY, German mnemonics, the master control relay.
+Not supported: REAL, STRING, ANY, multi-instances.
 
 Lines of a history (numbers are decimal, h is a hexadecimal digit):
   step               one step: one statement, or a cycle point
@@ -102,6 +108,7 @@ Rules of a source:
   11  a clause may not stand here
   12  a label is longer than four characters
   13  the source ends inside a block
+  17  a word of the other language: with --german, and of english and german
   20  a name or a component is unknown
   21  a name is declared twice
   22  a block stands twice
@@ -177,11 +184,12 @@ Exit status, and the line that is written in place of a result:
      script k, from 1, breaks a rule     script k refused: line L rule R
      the certificate breaks a rule       certificate refused: line L rule R
   5  a file can't be read                read fault
-  6  standard output failed, or IMG of compile, IMG2 of upgrade or CERT of bound
-     can't be written
+  6  standard output failed, or IMG of compile, OUT of english and german, IMG2
+     of upgrade or CERT of bound can't be written
   7  memory ran out
   8  a file is too long                  too long: source (1,048,576 bytes)
-                                         too long: symbols (1,048,576 bytes)
+     the translation would be            too long: result (1,048,576 bytes)
+     a file is too long                  too long: symbols (1,048,576 bytes)
                                          too long: image (8,388,608 bytes)
                                          too long: history (4,194,304 bytes)
                                          too long: stimuli (4,194,304 bytes)

@@ -5,21 +5,22 @@ ghost use Rattle.flat_code.specs.Loading.{faults_of};
 ghost use Rattle.flat_code.specs.declared.stamps.Stamp.TheVariants.{Two};
 ghost use Rattle.image_file.specs.Refusing.{IsRefusedBy};
 ghost use Rattle.plc_base.specs.declared.Profile.TheVariants.{Large};
-ghost use Rattle.sem_kept.specs.Agreement.{KeepsSource, names_in};
+ghost use Rattle.sem_kept.specs.Agreement.{names_read_in};
 ghost use Rattle.event_text.specs.Texts.{history_of};
-ghost use Rattle.s7_cli.specs.Compiling.{HasProgram, IsCompiled};
 ghost use Rattle.s7_cli.specs.Inner.{RefusedBy};
 ghost use Rattle.s7_cli.specs.LiveSays.{scripts_from};
 ghost use Rattle.s7_cli.specs.LiveTexts.{AreScriptsWithin, Finds, IsLiveText, TellsScript, TextSays};
 ghost use Rattle.s7_cli.specs.Living.{AreRegularBy, total_length};
 ghost use Rattle.s7_cli.specs.Loads.{LoadsAs};
-ghost use Rattle.s7_cli.specs.Says.{CheckSays, GoSays, IsUpgraded, RunSays, UpgradeSays};
+ghost use Rattle.s7_cli.specs.Says.{GoSays, IsUpgraded, RefusedProgram, RunSays, UpgradeSays};
 ghost use Rattle.s7_cli.specs.Texts.{IsWithin, symbols_of};
+ghost use Rattle.s7_cli.specs.Translating.{HasProgramOf, IsSourceImage, KeepsText, language_of};
 
 use crate::compiling::{compiled, compiled_image, judged};
 use crate::failures::{Failure, File, failure_of_text};
 use crate::files::{LiveText, ProgramText};
 use crate::lists::add;
+use crate::translating::{compiled_german, image_german, judged_german};
 use event_text::{read_history, read_script, read_stimuli};
 use flat_code::Names;
 use image_file::{LoadError, Loaded, load, write_image2};
@@ -27,44 +28,69 @@ use plc_base::NoMemory;
 use std::alloc::Global;
 use var_access::{Entries, Entry};
 
-/// Checks a source with its symbols.
-pub fn judge_program(alloc: Global, text: &ProgramText) -> Result<(), Failure>
+/// Checks a source with its symbols, which are German where `german` says so.
+pub fn judge_program(alloc: Global, text: &ProgramText, german: bool) -> Result<(), Failure>
     requires { IsWithin text.now }
     ensures accepted { IfOk result
-        (λ done. HasProgram text.now.source.items (symbols_of text.now)) }
-    ensures refused { RefusedBy (CheckSays text.now.source.items (symbols_of text.now)) result }
+        (λ done. HasProgramOf german text.now.source.items (symbols_of text.now)) }
+    ensures refused { RefusedBy
+        (RefusedProgram german text.now.source.items (symbols_of text.now)) result }
 {
+    if german {
+        return judged_german(alloc, text);
+    }
     Ok(judged(alloc, &text.source, text.symbols())?)
 }
 
 /// Checks a source with its symbols, and makes the image of its program.
-pub fn judge_image(alloc: Global, text: &ProgramText) -> Result<Vec<u8>, Failure>
+pub fn judge_image(alloc: Global, text: &ProgramText, german: bool) -> Result<Vec<u8>, Failure>
     requires { IsWithin text.now }
     ensures keeps { IfOk result
-        (λ v. IsCompiled v.items text.now.source.items (symbols_of text.now)) }
-    ensures refused { RefusedBy (CheckSays text.now.source.items (symbols_of text.now)) result }
+        (λ v. IsSourceImage german v.items text.now.source.items (symbols_of text.now)) }
+    ensures refused { RefusedBy
+        (RefusedProgram german text.now.source.items (symbols_of text.now)) result }
 {
+    if german {
+        return image_german(alloc, text);
+    }
     Ok(compiled_image(alloc, &text.source, text.symbols())?)
+}
+
+/// The loaded program of a source with its symbols.
+fn judge_loaded(alloc: Global, text: &ProgramText, german: bool) -> Result<Loaded, Failure>
+    requires { IsWithin text.now }
+    ensures keeps { IfOk result
+        (λ l. KeepsText german text.now.source.items (symbols_of text.now) l.program) }
+    ensures large { IfOk result (λ l. l.profile ≡ Large) }
+    ensures refused { RefusedBy
+        (RefusedProgram german text.now.source.items (symbols_of text.now)) result }
+{
+    if german {
+        return compiled_german(alloc, text);
+    }
+    Ok(compiled(alloc, &text.source, text.symbols())?)
 }
 
 /// Checks a source with its symbols, and then a history, which may name the symbols' variables.
 pub fn judge(
     alloc: Global,
     text: &ProgramText,
+    german: bool,
     history: &[u8],
 ) -> Result<(Loaded, Entries), Failure>
     requires text { IsWithin text.now }
     requires history { length history.now ≤ 4194304 }
     ensures keeps { IfOk result
-        (λ v. KeepsSource Large text.now.source.items (symbols_of text.now) v.0.program) }
+        (λ v. KeepsText german text.now.source.items (symbols_of text.now) v.0.program) }
     ensures large { IfOk result (λ v. v.0.profile ≡ Large) }
     ensures spells { IfOk result
-        (λ v. history_of (names_in (symbols_of text.now)) history.now ≡ Ok v.1.entries) }
+        (λ v. history_of (names_read_in (language_of german) (symbols_of text.now)) history.now
+        ≡ Ok v.1.entries) }
     ensures valid { IfOk result (λ v. All IsValid v.1.entries) }
     ensures refused { RefusedBy
-        (GoSays text.now.source.items (symbols_of text.now) history.now) result }
+        (GoSays german text.now.source.items (symbols_of text.now) history.now) result }
 {
-    let program = compiled(alloc, &text.source, text.symbols())?;
+    let program = judge_loaded(alloc, text, german)?;
     let entries = read_history(alloc, history, program.names())?;
     Ok((program, entries))
 }

@@ -14,6 +14,7 @@ use crate::going::cmd_go;
 use crate::live_command::cmd_live;
 use crate::recheck_command::cmd_recheck;
 use crate::run_command::cmd_run;
+use crate::translate_command::{cmd_english, cmd_german};
 use crate::upgrade_command::cmd_upgrade;
 use crate::watch_command::cmd_watch;
 use crate::words::{Asked, read_words};
@@ -21,10 +22,13 @@ use plc_io::{Files, Gate, Sink};
 use std::alloc::Global;
 use std::sync::Wait;
 use std::thread::Threads;
+use stl_symbols::Language;
 
 /// Does what the words of a call ask for, without the program's name: `go SRC HIST` runs a source
 /// along a history, `check SRC` checks a source, `compile SRC IMG` writes its image;
-/// `--symbols FILE` gives each of them a file of symbols. `run IMG HIST` runs an image along a
+/// `--symbols FILE` gives each of them a file of symbols, and with `--german` the source has German
+/// mnemonics and the file German addresses. `english SRC OUT` and `german SRC OUT` translate a
+/// source from one to the other. `run IMG HIST` runs an image along a
 /// history, `gen NUMBER` a program and a history that are made of a number.
 /// `live IMG STIM OPS.. --steps N` has a stepper, a feeder and one to four operators run an image
 /// beside each other, each of whom passes `gate` before each entry.
@@ -44,7 +48,7 @@ use std::thread::Threads;
 /// | 5 | a file can't be read |
 /// | 6 | the sink or an output file couldn't be written |
 /// | 7 | memory ran out |
-/// | 8 | a file holds a byte past its limit |
+/// | 8 | a file holds a byte past its limit, or a translation would |
 /// | 10 | a chain of calls is too deep, or the certificate doesn't hold |
 pub fn s7_main<R: Threads + Wait + Sync, F: Files, K: Sink, G: Gate + Sync>(
     rt: &R,
@@ -67,20 +71,48 @@ pub fn s7_main<R: Threads + Wait + Sync, F: Files, K: Sink, G: Gate + Sync>(
                 Asked::Go {
                     source,
                     symbols,
+                    german,
                     history,
                 },
             ),
-        ) => cmd_go(alloc, source, history, symbols, files, out),
-        Ok(Some(Asked::Check { source, symbols })) => cmd_check(alloc, source, symbols, files, out),
+        ) => cmd_go(alloc, source, history, symbols, german, files, out),
+        Ok(
+            Some(
+                Asked::Check {
+                    source,
+                    symbols,
+                    german,
+                },
+            ),
+        ) => cmd_check(alloc, source, symbols, german, files, out),
         Ok(
             Some(
                 Asked::Compile {
                     source,
                     symbols,
+                    german,
                     image,
                 },
             ),
-        ) => cmd_compile(alloc, source, symbols, image, files, out),
+        ) => cmd_compile(alloc, source, image, symbols, german, files, out),
+        Ok(
+            Some(
+                Asked::Translate {
+                    language: Language::English,
+                    source,
+                    translation,
+                },
+            ),
+        ) => cmd_english(alloc, source, translation, files, out),
+        Ok(
+            Some(
+                Asked::Translate {
+                    language: Language::German,
+                    source,
+                    translation,
+                },
+            ),
+        ) => cmd_german(alloc, source, translation, files, out),
         Ok(Some(Asked::Run { image, history })) => cmd_run(alloc, image, history, files, out),
         Ok(Some(Asked::Gen { number })) => cmd_gen(alloc, number, out),
         Ok(

@@ -24,6 +24,7 @@ fn add_file(line: &mut Line, file: File)
 {
     match file {
         File::Source => line.add(b"source"),
+        File::Translation => line.add(b"result"),
         File::Symbols => line.add(b"symbols"),
         File::Image => line.add(b"image"),
         File::History => line.add(b"history"),

@@ -1,13 +1,14 @@
 ghost use Rattle.std.specs.Prelude.{◌≡◌, ◌≢◌, false, map, string_bytes, option_map, IfOk, None};
 ghost use Rattle.clap.specs.Words.{FailsBy, app_of, fault_of, found_of, kind_of, matches_of, rows_of, rule_of};
 ghost use Rattle.clap.specs.declared.error.kind.ErrorKind.TheVariants.{OutOfMemory};
-ghost use Rattle.s7_cli.specs.Words.{the_line, command_rule, files_rule, symbols_rule, steps_rule, number_up_to, one_word_command, two_word_command, short_command, live_command, stepped_command, watch_command, asked_for, asked_by, command_of, command_value, CommandsKeepLimits, ReadsPlainWords, ReadsStepsAnywhere, ReadsSymbolsAnywhere, ReadsWordsBehindDashes, RefusesNoValue};
+ghost use Rattle.s7_cli.specs.Words.{the_line, command_rule, files_rule, symbols_rule, steps_rule, german_rule, has_german, takes_no_source, number_up_to, one_word_command, file_command, two_word_command, short_command, live_command, stepped_command, watch_command, asked_for, asked_by, command_of, command_value, CommandsKeepLimits, ReadsPlainWords, ReadsGermanAnywhere, ReadsStepsAnywhere, ReadsSymbolsAnywhere, ReadsWordsBehindDashes, RefusesNoValue};
 
 use arrayvec::ArrayVec;
 use clap::error::ErrorKind;
 use clap::{Arg, ArgAction, ArgMatches, Command, Error};
 use plc_base::decimal_up_to;
 use std::alloc::{AllocError, Global};
+use stl_symbols::Language;
 
 /// The greatest number that a program is made of.
 const MOST_NUMBER: u32 = 10_000;
@@ -24,22 +25,31 @@ const MOST_WATCH_SCRIPTS: usize = 3;
 /// What the words of a call ask for.
 #[derive(Drop)]
 pub enum Asked<'a> {
-    /// Run a source, with its symbols, along a history.
+    /// Run a source, with its symbols, along a history; a German one where `german` says so.
     Go {
         source: &'a str,
         symbols: Option<&'a str>,
+        german: bool,
         history: &'a str,
     },
     /// Check a source, with its symbols.
     Check {
         source: &'a str,
         symbols: Option<&'a str>,
+        german: bool,
     },
     /// Write the image of a source, with its symbols.
     Compile {
         source: &'a str,
         symbols: Option<&'a str>,
+        german: bool,
         image: &'a str,
+    },
+    /// Write a source in the other language.
+    Translate {
+        language: Language,
+        source: &'a str,
+        translation: &'a str,
     },
     /// Run an image along a history.
     Run {
@@ -124,6 +134,16 @@ fn steps_option<'a>(alloc: Global) -> Arg<'a>
         .action(ArgAction::Set)
 }
 
+/// The flag `--german`.
+fn german_flag<'a>(alloc: Global) -> Arg<'a>
+    ensures rule { rule_of result ≡ german_rule }
+    ensures local { result.global ≡ false }
+{
+    Arg::new(alloc, "german")
+        .long("german")
+        .action(ArgAction::SetTrue)
+}
+
 /// The command line, for words without the program's name.
 fn command_line<'a>(alloc: Global) -> Result<Command<'a>, AllocError>
     ensures { IfOk result (λ line. app_of line ≡ the_line) }
@@ -133,7 +153,8 @@ fn command_line<'a>(alloc: Global) -> Result<Command<'a>, AllocError>
         .arg(command_word(alloc))?
         .arg(file_words(alloc))?
         .arg(symbols_option(alloc))?
-        .arg(steps_option(alloc))
+        .arg(steps_option(alloc))?
+        .arg(german_flag(alloc))
 }
 
 /// What is found in the words.
@@ -154,18 +175,67 @@ fn number_up_to(word: &str, most: u32) -> Option<u32>
     (number > 0).then_some(number)
 }
 
+/// Whether there is no option of a command that compiles a source.
+fn takes_no_source(symbols: Option<&str>, german: bool) -> bool
+    ensures { result ≡ takes_no_source (option_map (λ s. s.now) symbols.entry) german }
+{
+    symbols.is_none() && !german
+}
+
 /// The command with one word behind it.
-fn one_word_command<'a>(command: &str, word: &'a str, symbols: Option<&'a str>) -> Option<Asked<'a>>
+fn one_word_command<'a>(
+    command: &str,
+    word: &'a str,
+    symbols: Option<&'a str>,
+    german: bool,
+) -> Option<Asked<'a>>
     ensures { option_map command_value result ≡
-        one_word_command command.now word.now (option_map (λ s. s.now) symbols.entry) }
+        one_word_command command.now word.now (option_map (λ s. s.now) symbols.entry) german }
 {
     match command {
         "check" => Some(Asked::Check {
             source: word,
             symbols,
+            german,
         }),
-        "gen" if symbols.is_none() => Some(Asked::Gen {
+        "gen" if takes_no_source(symbols, german) => Some(Asked::Gen {
             number: number_up_to(word, MOST_NUMBER)?,
+        }),
+        _ => None,
+    }
+}
+
+/// A command that compiles no source, with two words behind it.
+fn file_command<'a>(command: &str, first: &'a str, second: &'a str) -> Option<Asked<'a>>
+    ensures { option_map command_value result ≡
+        file_command command.now first.now second.now }
+{
+    match command {
+        "run" => Some(Asked::Run {
+            image: first,
+            history: second,
+        }),
+        "upgrade" => Some(Asked::Upgrade {
+            image: first,
+            upgraded: second,
+        }),
+        "bound" => Some(Asked::Bound {
+            image: first,
+            certificate: second,
+        }),
+        "recheck" => Some(Asked::Recheck {
+            image: first,
+            certificate: second,
+        }),
+        "english" => Some(Asked::Translate {
+            language: Language::English,
+            source: first,
+            translation: second,
+        }),
+        "german" => Some(Asked::Translate {
+            language: Language::German,
+            source: first,
+            translation: second,
         }),
         _ => None,
     }
@@ -177,37 +247,26 @@ fn two_word_command<'a>(
     first: &'a str,
     second: &'a str,
     symbols: Option<&'a str>,
+    german: bool,
 ) -> Option<Asked<'a>>
     ensures { option_map command_value result ≡
-        two_word_command command.now first.now second.now (option_map (λ s. s.now) symbols.entry) }
+        two_word_command command.now first.now second.now (option_map (λ s. s.now) symbols.entry)
+        german }
 {
     match command {
         "go" => Some(Asked::Go {
             source: first,
             symbols,
+            german,
             history: second,
         }),
         "compile" => Some(Asked::Compile {
             source: first,
             symbols,
+            german,
             image: second,
         }),
-        "run" if symbols.is_none() => Some(Asked::Run {
-            image: first,
-            history: second,
-        }),
-        "upgrade" if symbols.is_none() => Some(Asked::Upgrade {
-            image: first,
-            upgraded: second,
-        }),
-        "bound" if symbols.is_none() => Some(Asked::Bound {
-            image: first,
-            certificate: second,
-        }),
-        "recheck" if symbols.is_none() => Some(Asked::Recheck {
-            image: first,
-            certificate: second,
-        }),
+        _ if takes_no_source(symbols, german) => file_command(command, first, second),
         _ => None,
     }
 }
@@ -217,13 +276,15 @@ fn short_command<'a>(
     command: &str,
     words: &[&'a str],
     symbols: Option<&'a str>,
+    german: bool,
 ) -> Option<Asked<'a>>
     ensures { option_map command_value result ≡
-        short_command command.now (map (λ w. w.now) words.now) (option_map (λ s. s.now) symbols.entry) }
+        short_command command.now (map (λ w. w.now) words.now)
+        (option_map (λ s. s.now) symbols.entry) german }
 {
     match words {
-        [word] => one_word_command(command, word, symbols),
-        [first, second] => two_word_command(command, first, second, symbols),
+        [word] => one_word_command(command, word, symbols, german),
+        [first, second] => two_word_command(command, first, second, symbols, german),
         _ => None,
     }
 }
@@ -280,16 +341,27 @@ fn asked_for<'a>(
     command: &str,
     words: &[&'a str],
     symbols: Option<&'a str>,
+    german: bool,
     steps: Option<&str>,
 ) -> Option<Asked<'a>>
     ensures { option_map command_value result ≡
         asked_for command.now (map (λ w. w.now) words.now)
-        (option_map (λ s. s.now) symbols.entry) (option_map (λ s. s.now) steps.entry) }
+        (option_map (λ s. s.now) symbols.entry) german (option_map (λ s. s.now) steps.entry) }
 {
     match steps {
-        None => short_command(command, words, symbols),
-        Some(steps) if symbols.is_none() => stepped_command(command, words, steps),
+        None => short_command(command, words, symbols, german),
+        Some(steps) if takes_no_source(symbols, german) => stepped_command(command, words, steps),
         Some(_) => None,
+    }
+}
+
+/// Whether the flag `--german` was found, whose value is `false` where it wasn't.
+fn has_german(matches: &ArgMatches<'_>) -> bool
+    ensures { result ≡ has_german (rows_of (found_of matches.now)) }
+{
+    match matches.get_str("german") {
+        Some(value) => value == "true",
+        None => false,
     }
 }
 
@@ -303,6 +375,7 @@ fn asked_by<'a>(matches: &ArgMatches<'a>) -> Option<Asked<'a>>
         command,
         files,
         matches.get_str("symbols"),
+        has_german(matches),
         matches.get_str("steps"),
     )
 }
@@ -321,9 +394,11 @@ fn refusal<'a>(error: &Error) -> Result<Option<Asked<'a>>, AllocError>
 ///
 /// | Words | Options |
 /// |---|---|
-/// | `go SRC HIST` | `--symbols FILE`, or none |
-/// | `check SRC` | `--symbols FILE`, or none |
-/// | `compile SRC IMG` | `--symbols FILE`, or none |
+/// | `go SRC HIST` | `--symbols FILE` and `--german`, or one of them, or none |
+/// | `check SRC` | the same |
+/// | `compile SRC IMG` | the same |
+/// | `english SRC OUT` | none |
+/// | `german SRC OUT` | none |
 /// | `run IMG HIST` | none |
 /// | `gen NUMBER` | none |
 /// | `live IMG STIM OPS..`, with one script to four | `--steps N` |
@@ -357,6 +432,7 @@ pub fn law_of_words()
     ensures behind_dashes { ReadsWordsBehindDashes }
     ensures symbols { ReadsSymbolsAnywhere }
     ensures steps { ReadsStepsAnywhere }
+    ensures german { ReadsGermanAnywhere }
     ensures no_value { RefusesNoValue }
     ensures limits { CommandsKeepLimits }
 {}

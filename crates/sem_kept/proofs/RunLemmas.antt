@@ -8,20 +8,22 @@ use Rattle.stl_codegen.specs.Generated.{code_blocks_of, data_blocks_of, names_of
 use Rattle.stl_lexer.specs.declared.kinds.Token.{Token}
 use Rattle.plc_base.specs.Least.{least, lesser}
 use Rattle.stl_symbols.specs.Symbol.{Symbol}
+use Rattle.stl_symbols.specs.declared.languages.Language.{Language}
 use Rattle.plc_base.proofs.LeastLemmas.{least-append}
 use Rattle.stl_types.specs.Table.{statement_refusals}
 use Rattle.sem_kept.specs.Accepted.{IsAccepted, program_in, AcceptedVerifies}
 use Rattle.sem_kept.specs.Verified.{VerifiedIsCompilable}
 use Rattle.sem_kept.specs.Kept.{ProgramsAreKept}
 use Rattle.sem_kept.specs.Agreement.{AreFiles, IsRunnable, ProgramsRun, names_among}
-use Rattle.sem_kept.specs.Meaning.{HasSymbols, HasTokens, HasTree, refusals_of, sound_by, code_in, IsJudged, MeansCode}
+use Rattle.sem_kept.specs.Meaning.{HasSymbolsIn, HasTokens, HasTree, refusals_of, sound_by, code_in, IsJudgedIn, MeansCodeIn}
 
-means : (source symbols : List ℕ) (list : List Symbol) (tokens : List Token)
+means : (language : Language) (source symbols : List ℕ) (list : List Symbol) (tokens : List Token)
     (tree : Tree)
-    → HasSymbols symbols (Ok list) → HasTokens source (Ok tokens) → HasTree source tokens (Ok tree)
-    → least (refusals_of list tree) ≡ None → MeansCode source symbols (code_in list tree)
-unfolding IsJudged
-means source symbols list tokens tree has_list has_tokens has_tree sound = (
+    → HasSymbolsIn language symbols (Ok list) → HasTokens source (Ok tokens)
+    → HasTree source tokens (Ok tree)
+    → least (refusals_of list tree) ≡ None → MeansCodeIn language source symbols (code_in list tree)
+unfolding IsJudgedIn
+means language source symbols list tokens tree has_list has_tokens has_tree sound = (
   list,
   has_list,
   (tokens, has_tokens, (tree, has_tree, (tree, ap (sound_by tree) (sym sound), refl))),
@@ -34,14 +36,16 @@ none_of_both None b none = (refl, none)
 none_of_both (Some r) None none = cc
 none_of_both (Some r) (Some q) none = absurd (grind arith)
 
-accepted : (source symbols : List ℕ) (list : List Symbol)
+accepted : (language : Language) (source symbols : List ℕ) (list : List Symbol)
     (tokens : List Token) (tree : Tree)
     → AreFiles source symbols
-    → HasSymbols symbols (Ok list) → HasTokens source (Ok tokens) → HasTree source tokens (Ok tree)
+    → HasSymbolsIn language symbols (Ok list) → HasTokens source (Ok tokens)
+    → HasTree source tokens (Ok tree)
     → least (refusals_of list tree) ≡ None → IsAccepted source symbols list tree
-accepted source symbols list tokens tree are has_list has_tokens has_tree sound = record {
+accepted language source symbols list tokens tree are has_list has_tokens has_tree sound = record {
   short = are.source_short;
   file_short = are.symbols_short;
+  language = language;
   named = sym has_list;
   tokens = tokens;
   lexed = has_tokens;
@@ -64,12 +68,12 @@ accepted source symbols list tokens tree are has_list has_tokens has_tree sound 
         ∙ sound)
 
 pub programs_run : AcceptedVerifies → VerifiedIsCompilable → ProgramsAreKept → ProgramsRun
-programs_run verifies compilable kept profile source symbols list tokens tree are has_list has_tokens has_tree sound = record {
+programs_run verifies compilable kept language profile source symbols list tokens tree are has_list has_tokens has_tree sound = record {
   runnable = runnable;
   names = ap names_among has_list;
   runs = (
     code_in list tree,
-    means source symbols list tokens tree has_list has_tokens has_tree sound,
+    means language source symbols list tokens tree has_list has_tokens has_tree sound,
     kept profile (code_blocks_of tree list (layouts_of tree list))
         (data_blocks_of tree list (layouts_of tree list)) (names_of list)
         (compilable tree list (layouts_of tree list) runnable.verifies),
@@ -77,7 +81,7 @@ programs_run verifies compilable kept profile source symbols list tokens tree ar
 }
   where
     is : IsAccepted source symbols list tree
-    is = accepted source symbols list tokens tree are has_list has_tokens has_tree sound
+    is = accepted language source symbols list tokens tree are has_list has_tokens has_tree sound
 
     runnable : IsRunnable (program_in list tree)
     runnable =

@@ -8,9 +8,10 @@ use Rattle.stl_ast.specs.declared.blocks.Tree.{Tree}
 use Rattle.stl_parser.specs.Source.{IsTreeUnique, TreeExcludesViolation, IsViolationUnique as OneClauseViolation, HasTreeOrViolation, IsTotal as EachHasTree}
 use Rattle.plc_base.specs.Least.{least}
 use Rattle.stl_symbols.specs.Symbol.{Symbol}
-use Rattle.stl_symbols.specs.Symbols.{symbols_of, with_lines}
+use Rattle.stl_symbols.specs.Symbols.{symbols_in, with_lines}
+use Rattle.stl_symbols.specs.declared.languages.Language.{Language}
 use Rattle.sem_kept.specs.Stages.{InTurn, Told, HasOneOutcome, HasOutcome}
-use Rattle.sem_kept.specs.Meaning.{HasSymbols, HasTokens, HasTree, refusals_of, sound_by, IsSound, code_in, HasCode, IsJudgedWith, Refused, InSymbols, InSource, IsJudged, MeansCode, IsRefusedSource, IsMeaningUnique, ExcludesRefusal, IsRefusalUnique, IsTotal, NoFileHasNone}
+use Rattle.sem_kept.specs.Meaning.{HasSymbolsIn, HasTokens, HasTree, refusals_of, sound_by, IsSound, code_in, HasCode, IsJudgedWith, Refused, InSymbols, InSource, IsJudgedIn, MeansCodeIn, IsRefusedSourceIn, IsMeaningUnique, ExcludesRefusal, IsRefusalUnique, IsTotal, NoFileHasNone}
 use Rattle.sem_kept.proofs.StageLemmas.{same_refusal, one_by_parts, in_turn_one, in_turn_some, told_one, told_some}
 
 -- what is known of tokens and of clauses
@@ -27,8 +28,8 @@ pub record Laws : Type 0 where
 -- ---- symbols
 
 pub no_file : NoFileHasNone
-unfolding symbols_of with_lines
-no_file = refl
+unfolding symbols_in with_lines
+no_file language = refl
 
 -- ---- one outcome at most
 
@@ -67,34 +68,34 @@ with_one laws source symbols =
     (in_turn_one (IsSound symbols) (HasCode symbols) (sound_one symbols) (code_one symbols)))
     source
 
-symbols_one : HasOneOutcome HasSymbols
-symbols_one bytes x y is_x is_y = is_x ∙ sym is_y
+symbols_one : (language : Language) → HasOneOutcome (HasSymbolsIn language)
+symbols_one language bytes x y is_x is_y = is_x ∙ sym is_y
 
-judged_one : Laws → (source symbols : List ℕ) (x y : Result Code Refused)
-    → IsJudged source symbols x → IsJudged source symbols y → x ≡ y
-unfolding IsJudged
-judged_one laws source =
-    in_turn_one (Told InSymbols HasSymbols) (Told InSource (IsJudgedWith source))
-    (told_one InSymbols HasSymbols symbols_one)
+judged_one : Laws → (language : Language) (source symbols : List ℕ) (x y : Result Code Refused)
+    → IsJudgedIn language source symbols x → IsJudgedIn language source symbols y → x ≡ y
+unfolding IsJudgedIn
+judged_one laws language source =
+    in_turn_one (Told InSymbols (HasSymbolsIn language)) (Told InSource (IsJudgedWith source))
+    (told_one InSymbols (HasSymbolsIn language) (symbols_one language))
     (told_one InSource (IsJudgedWith source) (with_one laws source))
 
 pub one_meaning : Laws → IsMeaningUnique
-one_meaning laws source symbols c d means_c means_d =
-    same c d (judged_one laws source symbols (Ok c) (Ok d) means_c means_d)
+one_meaning laws language source symbols c d means_c means_d =
+    same c d (judged_one laws language source symbols (Ok c) (Ok d) means_c means_d)
   where
     same : (c d : Code) → ◌≡◌ {A = Result Code Refused} (Ok c) (Ok d) → c ≡ d
     same c d e = cc
 
 pub meaning_or_refusal : Laws → ExcludesRefusal
-meaning_or_refusal laws source symbols c r means refused =
-    other (judged_one laws source symbols (Ok c) (Err r) means refused)
+meaning_or_refusal laws language source symbols c r means refused =
+    other (judged_one laws language source symbols (Ok c) (Err r) means refused)
   where
     other : ◌≡◌ {A = Result Code Refused} (Ok c) (Err r) → ⊥
     other e = cc
 
 pub one_refusal : Laws → IsRefusalUnique
-one_refusal laws source symbols r s refused_r refused_s =
-    same (judged_one laws source symbols (Err r) (Err s) refused_r refused_s)
+one_refusal laws language source symbols r s refused_r refused_s =
+    same (judged_one laws language source symbols (Err r) (Err s) refused_r refused_s)
   where
     same : ◌≡◌ {A = Result Code Refused} (Err r) (Err s) → r ≡ s
     same e = cc
@@ -134,26 +135,28 @@ with_some laws source symbols =
     (code_some symbols)))
     source
 
-symbols_some : HasOutcome HasSymbols
-symbols_some bytes = (symbols_of bytes, refl)
+symbols_some : (language : Language) → HasOutcome (HasSymbolsIn language)
+symbols_some language bytes = (symbols_in language bytes, refl)
 
-judged_some : Laws → (source symbols : List ℕ)
-    → (x : Result Code Refused) × IsJudged source symbols x
-unfolding IsJudged
-judged_some laws source =
-    in_turn_some (Told InSymbols HasSymbols) (Told InSource (IsJudgedWith source))
-    (told_some InSymbols HasSymbols symbols_some)
+judged_some : Laws → (language : Language) (source symbols : List ℕ)
+    → (x : Result Code Refused) × IsJudgedIn language source symbols x
+unfolding IsJudgedIn
+judged_some laws language source =
+    in_turn_some (Told InSymbols (HasSymbolsIn language)) (Told InSource (IsJudgedWith source))
+    (told_some InSymbols (HasSymbolsIn language) (symbols_some language))
     (told_some InSource (IsJudgedWith source) (with_some laws source))
 
-abbrev Judged : (source symbols : List ℕ) → Type 0
-Judged source symbols =
-    ((code : Code) × MeansCode source symbols code)
-    ⊎ ((refused : Refused) × IsRefusedSource source symbols refused)
+abbrev Judged : Language → (source symbols : List ℕ) → Type 0
+Judged language source symbols =
+    ((code : Code) × MeansCodeIn language source symbols code)
+    ⊎ ((refused : Refused) × IsRefusedSourceIn language source symbols refused)
 
-by_outcome : (source symbols : List ℕ)
-    → (x : Result Code Refused) × IsJudged source symbols x → Judged source symbols
-by_outcome source symbols (Ok code, judged) = inl (code, judged)
-by_outcome source symbols (Err refused, judged) = inr (refused, judged)
+by_outcome : (language : Language) (source symbols : List ℕ)
+    → (x : Result Code Refused) × IsJudgedIn language source symbols x
+    → Judged language source symbols
+by_outcome language source symbols (Ok code, judged) = inl (code, judged)
+by_outcome language source symbols (Err refused, judged) = inr (refused, judged)
 
 pub each_judged : Laws → IsTotal
-each_judged laws source symbols = by_outcome source symbols (judged_some laws source symbols)
+each_judged laws language source symbols =
+    by_outcome language source symbols (judged_some laws language source symbols)

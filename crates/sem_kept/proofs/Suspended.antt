@@ -370,7 +370,7 @@ resumes continues profile code history place first last is k from to =
     ∙ same_after continues profile code history place first last is (k - first) (omega arith)
 
 pub sources_resume : ContinuesReplay → SourcesResume
-sources_resume continues source symbols profile code history place first last means is =
+sources_resume continues language source symbols profile code history place first last means is =
     resumes continues profile code history place first last is
 
 pub images_resume : ContinuesReplay → ImagesResume

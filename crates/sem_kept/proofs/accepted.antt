@@ -9,6 +9,7 @@ pub mod CodedSources
 pub mod CodedSymbols
 pub mod CodedTables
 pub mod CodedViews
+pub mod Initial
 pub mod Jumps
 pub mod JumpsCode
 pub mod JumpsOperands
@@ -37,6 +38,7 @@ pub mod RecordNames
 pub mod RecordOrder
 pub mod RecordParams
 pub mod Records
+pub mod Settled
 pub mod Shared
 pub mod Sizes
 pub mod SizesBlocks

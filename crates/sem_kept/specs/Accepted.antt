@@ -14,14 +14,17 @@ use Rattle.stl_lexer.specs.declared.kinds.Token.{Token}
 use Rattle.stl_parser.specs.Source.{IsTree}
 use Rattle.plc_base.specs.Least.{least}
 use Rattle.stl_symbols.specs.Symbol.{Symbol}
-use Rattle.stl_symbols.specs.Symbols.{symbols_limit, symbols_of}
+use Rattle.stl_symbols.specs.Symbols.{symbols_in, symbols_limit}
+use Rattle.stl_symbols.specs.declared.languages.Language.{Language}
 use Rattle.stl_types.specs.Table.{statement_refusals}
 
--- a source of no more than 1 MiB, with a symbols file of no more, breaks no rule
+-- a source of no more than 1 MiB, with a symbols file of no more whose addresses are those of a
+-- language, breaks no rule
 pub record IsAccepted (source file : List ℕ) (symbols : List Symbol) (t : Tree) : Type 0 where
   pub short : length source ≤ source_limit
   pub file_short : length file ≤ symbols_limit
-  pub named : symbols_of file ≡ Ok symbols
+  pub language : Language
+  pub named : symbols_in language file ≡ Ok symbols
   pub tokens : List Token
   pub lexed : AreTokens source tokens
   pub parsed : IsTree source tokens t

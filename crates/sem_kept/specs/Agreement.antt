@@ -1,4 +1,5 @@
--- The program of a source runs as the source means.
+-- The program of a source runs as the source means. The addresses of the symbols are those of a
+-- language; where none is named, English ones.
 use Rattle.std.specs.Prelude.{◌≡◌, ◌≤◌, ℕ, List, [], length, None, Result, Ok, Err}
 use Rattle.flat_code.specs.Image.{image, IsProgram}
 use Rattle.flat_code.specs.Loading.{Verifies}
@@ -16,16 +17,18 @@ use Rattle.stl_lexer.specs.Limits.{source_limit}
 use Rattle.stl_lexer.specs.declared.kinds.Token.{Token}
 use Rattle.plc_base.specs.Least.{least}
 use Rattle.stl_symbols.specs.Symbol.{Symbol}
-use Rattle.stl_symbols.specs.Symbols.{symbols_limit, symbols_of}
+use Rattle.stl_symbols.specs.Symbols.{symbols_in, symbols_limit}
+use Rattle.stl_symbols.specs.declared.languages.Language.{Language}
+use Rattle.stl_symbols.specs.declared.languages.Language.TheVariants.{English, German}
 use Rattle.sem_kept.specs.Accepted.{program_in}
 use Rattle.sem_kept.specs.Kept.{IsKept}
-use Rattle.sem_kept.specs.Meaning.{HasSymbols, HasTokens, HasTree, refusals_of, MeansCode}
+use Rattle.sem_kept.specs.Meaning.{HasSymbolsIn, HasTokens, HasTree, refusals_of, MeansCodeIn}
 
 -- the source with these symbols means a code, and at this profile no history tells it from the one that
 -- runs
-abbrev pub RunsAs : Profile → (source symbols : List ℕ) → (running : Code) → Type 0
-RunsAs profile source symbols running =
-    (code : Code) × MeansCode source symbols code × IsKept profile code running
+abbrev pub RunsAsIn : Language → Profile → (source symbols : List ℕ) → (running : Code) → Type 0
+RunsAsIn language profile source symbols running =
+    (code : Code) × MeansCodeIn language source symbols code × IsKept profile code running
 
 -- a program has an image and verifies
 pub record IsRunnable (p : Program) : Type 0 where
@@ -38,23 +41,40 @@ names_among (Ok list) = names_of list
 names_among (Err refusal) = []
 
 -- the names of variables that a symbols file gives
-abbrev pub names_in : (symbols : List ℕ) → List NameEntry
-names_in symbols = names_among (symbols_of symbols)
+abbrev pub names_read_in : Language → (symbols : List ℕ) → List NameEntry
+names_read_in language symbols = names_among (symbols_in language symbols)
 
 -- a program keeps a source with its symbols at a profile: it has an image and verifies, its names are
 -- those that the symbols file gives, and it runs as the source means
-pub record KeepsSource (profile : Profile) (source symbols : List ℕ) (p : Program) : Type 0 where
+pub record KeepsSourceIn (language : Language) (profile : Profile) (source symbols : List ℕ)
+    (p : Program) : Type 0 where
   pub runnable : IsRunnable p
-  pub names : p.names ≡ names_in symbols
-  pub runs : RunsAs profile source symbols (code_of p)
+  pub names : p.names ≡ names_read_in language symbols
+  pub runs : RunsAsIn language profile source symbols (code_of p)
 
 -- bytes keep a source with its symbols: they are an image, of whatever version, of a program that does at
 -- the image's profile
-pub record ImageKeepsSource (bytes source symbols : List ℕ) : Type 0 where
+pub record ImageKeepsSourceIn (language : Language) (bytes source symbols : List ℕ) : Type 0 where
   pub stamp : Stamp
   pub program : Program
   pub spelled : bytes ≡ image stamp program
-  pub keeps : KeepsSource (profile_of stamp) source symbols program
+  pub keeps : KeepsSourceIn language (profile_of stamp) source symbols program
+
+-- ---- in English
+
+abbrev pub RunsAs : Profile → (source symbols : List ℕ) → (running : Code) → Type 0
+RunsAs profile source symbols running = RunsAsIn English profile source symbols running
+
+abbrev pub names_in : (symbols : List ℕ) → List NameEntry
+names_in symbols = names_read_in English symbols
+
+abbrev pub KeepsSource : Profile → (source symbols : List ℕ) → Program → Type 0
+KeepsSource profile source symbols p = KeepsSourceIn English profile source symbols p
+
+abbrev pub ImageKeepsSource : (bytes source symbols : List ℕ) → Type 0
+ImageKeepsSource bytes source symbols = ImageKeepsSourceIn English bytes source symbols
+
+-- ---- laws
 
 -- a source and a symbols file as they are read: bytes, and no more than a limit of them
 pub record AreFiles (source symbols : List ℕ) : Type 0 where
@@ -63,22 +83,30 @@ pub record AreFiles (source symbols : List ℕ) : Type 0 where
   pub symbols_short : length symbols ≤ symbols_limit
   pub symbols_bytes : AreBytes symbols
 
--- the program of a source that breaks no rule keeps it at each profile
+-- the program of a source that breaks no rule keeps it at each profile, in each language
 abbrev pub ProgramsRun : Type 0
 ProgramsRun =
-    (profile : Profile) (source symbols : List ℕ) (list : List Symbol) (tokens : List Token)
-    (tree : Tree)
+    (language : Language) (profile : Profile) (source symbols : List ℕ) (list : List Symbol)
+    (tokens : List Token) (tree : Tree)
     → AreFiles source symbols
-    → HasSymbols symbols (Ok list) → HasTokens source (Ok tokens) → HasTree source tokens (Ok tree)
+    → HasSymbolsIn language symbols (Ok list) → HasTokens source (Ok tokens)
+    → HasTree source tokens (Ok tree)
     → least (refusals_of list tree) ≡ None
-    → KeepsSource profile source symbols (program_in list tree)
+    → KeepsSourceIn language profile source symbols (program_in list tree)
 
 -- and so does its image, of each version and profile
-abbrev pub ImagesKeepSources : Type 0
-ImagesKeepSources =
+abbrev pub ImagesKeepSourcesIn : Language → Type 0
+ImagesKeepSourcesIn language =
     (stamp : Stamp) (source symbols : List ℕ) (list : List Symbol) (tokens : List Token)
     (tree : Tree)
     → AreFiles source symbols
-    → HasSymbols symbols (Ok list) → HasTokens source (Ok tokens) → HasTree source tokens (Ok tree)
+    → HasSymbolsIn language symbols (Ok list) → HasTokens source (Ok tokens)
+    → HasTree source tokens (Ok tree)
     → least (refusals_of list tree) ≡ None
-    → ImageKeepsSource (image stamp (program_in list tree)) source symbols
+    → ImageKeepsSourceIn language (image stamp (program_in list tree)) source symbols
+
+abbrev pub ImagesKeepSources : Type 0
+ImagesKeepSources = ImagesKeepSourcesIn English
+
+abbrev pub ImagesKeepGermanSources : Type 0
+ImagesKeepGermanSources = ImagesKeepSourcesIn German

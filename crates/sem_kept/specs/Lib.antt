@@ -2,12 +2,14 @@ pub mod Accepted
 pub mod Agreement
 pub mod Back
 pub mod Coded
+pub mod Initial
 pub mod Jumps
 pub mod Kept
 pub mod Meaning
 pub mod Operands
 pub mod Records
 pub mod Resumption
+pub mod Settled
 pub mod Sizes
 pub mod Stages
 pub mod Statements

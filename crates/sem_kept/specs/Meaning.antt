@@ -1,4 +1,5 @@
--- What a source with its symbols means: the code of its statements, or a refusal.
+-- What a source with its symbols means: the code of its statements, or a refusal. The addresses of
+-- the symbols are those of a language; where none is named, English ones.
 use Rattle.std.specs.Prelude.{ℕ, ◌≡◌, ◌⊎◌, List, [], ◌++◌, Option, Some, None, Result, Ok, Err}
 use Rattle.plc_base.specs.declared.refusals.Refusal.{Refusal}
 use Rattle.machine.specs.Code.{Code}
@@ -8,7 +9,9 @@ use Rattle.stl_lexer.specs.Tokens.{AreTokens, IsViolation as BreaksTokenRule}
 use Rattle.stl_parser.specs.Source.{IsTree, IsViolation as BreaksClauseRule}
 use Rattle.plc_base.specs.Least.{least}
 use Rattle.stl_symbols.specs.Symbol.{Symbol}
-use Rattle.stl_symbols.specs.Symbols.{symbols_of}
+use Rattle.stl_symbols.specs.Symbols.{symbols_in}
+use Rattle.stl_symbols.specs.declared.languages.Language.{Language}
+use Rattle.stl_symbols.specs.declared.languages.Language.TheVariants.{English}
 use Rattle.block_layout.specs.Layouts.{layouts_of}
 use Rattle.block_layout.specs.Table.{layout_refusals}
 use Rattle.stl_types.specs.Table.{statement_refusals}
@@ -18,9 +21,14 @@ use Rattle.sem_kept.specs.Stages.{InTurn, Told}
 
 -- ---- stages
 
--- the symbols of a symbols file, or its refusal; no bytes stand for no file, and have no symbols
+-- the symbols of a symbols file with addresses in a language, or its refusal; no bytes stand for no
+-- file, and have no symbols
+abbrev pub HasSymbolsIn : Language → List ℕ → Result (List Symbol) Refusal → Type 0
+HasSymbolsIn language bytes outcome = outcome ≡ symbols_in language bytes
+
+-- the same in English
 abbrev pub HasSymbols : List ℕ → Result (List Symbol) Refusal → Type 0
-HasSymbols bytes outcome = outcome ≡ symbols_of bytes
+HasSymbols bytes outcome = HasSymbolsIn English bytes outcome
 
 -- the tokens of a source, or its first token that breaks a rule
 abbrev pub HasTokens : List ℕ → Result (List Token) Refusal → Type 0
@@ -71,45 +79,60 @@ pub data Refused : Type 0 where
   InSource : (refusal : Refusal) → Refused
 
 -- the symbols are checked first, and then the source with them
-unfoldable pub IsJudged : (source symbols : List ℕ) → Result Code Refused → Type 0
-IsJudged source symbols outcome =
-    InTurn (Told InSymbols HasSymbols) (Told InSource (IsJudgedWith source)) symbols outcome
+unfoldable pub IsJudgedIn : Language → (source symbols : List ℕ) → Result Code Refused → Type 0
+IsJudgedIn language source symbols outcome =
+    InTurn (Told InSymbols (HasSymbolsIn language)) (Told InSource (IsJudgedWith source)) symbols
+    outcome
 
 -- this source with these symbols means this code
-abbrev pub MeansCode : (source symbols : List ℕ) → Code → Type 0
-MeansCode source symbols code = IsJudged source symbols (Ok code)
+abbrev pub MeansCodeIn : Language → (source symbols : List ℕ) → Code → Type 0
+MeansCodeIn language source symbols code = IsJudgedIn language source symbols (Ok code)
 
 -- this source with these symbols is refused so
-abbrev pub IsRefusedSource : (source symbols : List ℕ) → Refused → Type 0
-IsRefusedSource source symbols refused = IsJudged source symbols (Err refused)
+abbrev pub IsRefusedSourceIn : Language → (source symbols : List ℕ) → Refused → Type 0
+IsRefusedSourceIn language source symbols refused =
+    IsJudgedIn language source symbols (Err refused)
 
--- ---- laws
+-- ---- in English
+
+abbrev pub IsJudged : (source symbols : List ℕ) → Result Code Refused → Type 0
+IsJudged source symbols outcome = IsJudgedIn English source symbols outcome
+
+abbrev pub MeansCode : (source symbols : List ℕ) → Code → Type 0
+MeansCode source symbols code = MeansCodeIn English source symbols code
+
+abbrev pub IsRefusedSource : (source symbols : List ℕ) → Refused → Type 0
+IsRefusedSource source symbols refused = IsRefusedSourceIn English source symbols refused
+
+-- ---- laws, in each language
 
 -- no bytes have no symbols: so they stand for no file
 abbrev pub NoFileHasNone : Type 0
-NoFileHasNone = HasSymbols [] (Ok [])
+NoFileHasNone = (language : Language) → HasSymbolsIn language [] (Ok [])
 
 -- a source means one code at most
 abbrev pub IsMeaningUnique : Type 0
 IsMeaningUnique =
-    (source symbols : List ℕ) (c d : Code)
-    → MeansCode source symbols c → MeansCode source symbols d → c ≡ d
+    (language : Language) (source symbols : List ℕ) (c d : Code)
+    → MeansCodeIn language source symbols c → MeansCodeIn language source symbols d → c ≡ d
 
 -- none where it is refused
 abbrev pub ExcludesRefusal : Type 0
 ExcludesRefusal =
-    (source symbols : List ℕ) (code : Code) (refused : Refused)
-    → MeansCode source symbols code → IsRefusedSource source symbols refused → ⊥
+    (language : Language) (source symbols : List ℕ) (code : Code) (refused : Refused)
+    → MeansCodeIn language source symbols code → IsRefusedSourceIn language source symbols refused
+    → ⊥
 
 -- and it is refused in one way at most
 abbrev pub IsRefusalUnique : Type 0
 IsRefusalUnique =
-    (source symbols : List ℕ) (r s : Refused)
-    → IsRefusedSource source symbols r → IsRefusedSource source symbols s → r ≡ s
+    (language : Language) (source symbols : List ℕ) (r s : Refused)
+    → IsRefusedSourceIn language source symbols r → IsRefusedSourceIn language source symbols s
+    → r ≡ s
 
 -- each source means a code or is refused
 abbrev pub IsTotal : Type 0
 IsTotal =
-    (source symbols : List ℕ)
-    → ((code : Code) × MeansCode source symbols code)
-    ⊎ ((refused : Refused) × IsRefusedSource source symbols refused)
+    (language : Language) (source symbols : List ℕ)
+    → ((code : Code) × MeansCodeIn language source symbols code)
+    ⊎ ((refused : Refused) × IsRefusedSourceIn language source symbols refused)

@@ -8,7 +8,8 @@ use Rattle.frames.specs.declared.Activation.{Activation}
 use Rattle.image_file.specs.Loaded.{LoadedProgram}
 use Rattle.machine.specs.Code.{Code}
 use Rattle.machine.specs.Flat.{code_of}
-use Rattle.sem_kept.specs.Meaning.{MeansCode}
+use Rattle.stl_symbols.specs.declared.languages.Language.{Language}
+use Rattle.sem_kept.specs.Meaning.{MeansCodeIn}
 
 -- the state after the first k entries
 abbrev pub after : Profile → Code → List What → ℕ → State
@@ -38,12 +39,12 @@ Resumes profile code history place first last =
     → standing (after profile code history k).activations place
     ≡ standing (after profile code history first).activations place
 
--- so it is over the statements of a source, at each profile
+-- so it is over the statements of a source, at each profile, with symbols of each language
 abbrev pub SourcesResume : Type 0
 SourcesResume =
-    (source symbols : List ℕ) (profile : Profile) (code : Code) (history : List What)
-    (place first last : ℕ)
-    → MeansCode source symbols code → IsSuspended profile code history place first last
+    (language : Language) (source symbols : List ℕ) (profile : Profile) (code : Code)
+    (history : List What) (place first last : ℕ)
+    → MeansCodeIn language source symbols code → IsSuspended profile code history place first last
     → Resumes profile code history place first last
 
 -- so it is over a program that is loaded

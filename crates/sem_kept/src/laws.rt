@@ -8,7 +8,7 @@ ghost use Rattle.sem_kept.specs.Statements.{ProgramsFollow};
 ghost use Rattle.sem_kept.specs.Verified.{VerifiedIsCompilable};
 ghost use Rattle.sem_kept.specs.Accepted.{AcceptedVerifies};
 ghost use Rattle.sem_kept.specs.Kept.{ProgramsAreKept};
-ghost use Rattle.sem_kept.specs.Agreement.{ImagesKeepSources, ProgramsRun};
+ghost use Rattle.sem_kept.specs.Agreement.{ImagesKeepGermanSources, ImagesKeepSources, ProgramsRun};
 ghost use Rattle.sem_kept.specs.Meaning.{
   IsMeaningUnique,
   ExcludesRefusal,
@@ -17,6 +17,8 @@ ghost use Rattle.sem_kept.specs.Meaning.{
   NoFileHasNone,
 };
 ghost use Rattle.sem_kept.specs.Resumption.{SourcesResume, ImagesResume};
+ghost use Rattle.sem_kept.specs.Initial.{InitialValuesAreWhole};
+ghost use Rattle.sem_kept.specs.Settled.{StatementsSettle};
 
 /// At the offset of each statement of a block stands the statement that was compiled, with offsets
 /// as its targets, and behind the last one none begins.
@@ -44,6 +46,22 @@ pub fn verified_is_compilable()
 /// fields, and no op of its blocks has a fault.
 pub fn accepted_verifies()
     ensures { AcceptedVerifies }
+{}
+
+/// Of a source that breaks no rule no statement comes to the instruction that stands in for what names
+/// nothing: each is a jump to a label of its body, a call of a block that is found, or names what its
+/// instruction takes. Each actual parameter names what is passed, and a parameter of that block, no two
+/// the same one.
+pub fn statements_settle()
+    ensures { StatementsSettle }
+{}
+
+/// Of a source that breaks no rule no initial value is cut: the initial bytes of each data block are
+/// zeros over which its initial values and its settings are written, each whole within the block and
+/// in no fewer bits than it has. Each setting is written, and no component has more initial values than
+/// elements.
+pub fn initial_values_are_whole()
+    ensures { InitialValuesAreWhole }
 {}
 
 /// The program of statements is at each profile after every history in the state in which the
@@ -86,6 +104,14 @@ pub fn programs_run()
 /// statements of the source.
 pub fn compiled_is_kept()
     ensures { ImagesKeepSources }
+{
+    programs_run();
+}
+
+/// The same of a source in English whose symbols have German addresses, as the translation of a
+/// German source with its symbols file.
+pub fn compiled_is_kept_german()
+    ensures { ImagesKeepGermanSources }
 {
     programs_run();
 }

@@ -20,8 +20,8 @@ use Rattle.stl_types.specs.Context.{Context}
 use Rattle.stl_types.specs.Lists.{has_label}
 use Rattle.stl_types.specs.Parameters.{Callee, callee_of}
 use Rattle.stl_types.specs.Resolved.{resolved}
-use Rattle.stl_types.specs.declared.views.View.{View}
-use Rattle.stl_types.specs.declared.views.View.TheVariants as view
+use Rattle.stl_types.specs.declared.views.ResolvedOperand.{ResolvedOperand}
+use Rattle.stl_types.specs.declared.views.ResolvedOperand.TheVariants as view
 use Rattle.stl_codegen.specs.Operands.{opened_by, operand_of}
 use Rattle.stl_codegen.specs.Passed.{passings_from}
 use Rattle.stl_codegen.specs.Operations.{jump_of, call_of, end_of, operation_for}
@@ -76,23 +76,23 @@ abbrev pub filler : Instr
 filler = Does None operation.Nop (flat.Literal 0)
 
 -- the block that is called
-abbrev pub call_instr : Context → Statement → CallOperation → View → Instr
+abbrev pub call_instr : Context → Statement → CallOperation → ResolvedOperand → Instr
 call_instr c s how (view.Called id instance) =
     Calls how id instance (passings_to c s (callee_of c s.operand))
 call_instr c s how _ = filler
 
 -- BE, BEC and BEU return; every other instruction goes on to the next statement, with its operand
-abbrev pub end_instr : Statement → View → Option EndOperation → Instr
+abbrev pub end_instr : Statement → ResolvedOperand → Option EndOperation → Instr
 end_instr s v None = Does (opened_by v) (operation_for s.code s.operand v) (operand_of s.operand v)
 end_instr s v (Some how) = Returns how
 
 -- CALL, UC and CC call a block; every other instruction returns or goes on
-abbrev pub view_instr : Context → Statement → View → Option CallOperation → Instr
+abbrev pub view_instr : Context → Statement → ResolvedOperand → Option CallOperation → Instr
 view_instr c s v None = end_instr s v (end_of s.code)
 view_instr c s v (Some how) = call_instr c s how v
 
 -- the instruction by what its operand names; NOP 0 where the operand names nothing that it takes
-abbrev pub resolved_instr : Context → Statement → Option View → Instr
+abbrev pub resolved_instr : Context → Statement → Option ResolvedOperand → Instr
 resolved_instr c s None = filler
 resolved_instr c s (Some v) = view_instr c s v (call_of s.code)
 

@@ -17,8 +17,8 @@ use Rattle.block_layout.specs.Fits.{bits_of}
 use Rattle.block_layout.specs.Offsets.{width_of}
 use Rattle.stl_types.specs.declared.views.Register.{Register}
 use Rattle.stl_types.specs.declared.views.Register.TheVariants as register
-use Rattle.stl_types.specs.declared.views.View.{View}
-use Rattle.stl_types.specs.declared.views.View.TheVariants as view
+use Rattle.stl_types.specs.declared.views.ResolvedOperand.{ResolvedOperand}
+use Rattle.stl_types.specs.declared.views.ResolvedOperand.TheVariants as view
 
 -- the area of the DB register
 abbrev pub is_db : Area → Bool
@@ -34,7 +34,7 @@ abbrev pub opened_by_place : Place → Option ℕ
 opened_by_place place = if is_in_named_block place then Some place.number else None
 
 -- USEDB: the data block that a statement opens first, for a place in a named data block
-abbrev pub opened_by : View → Option ℕ
+abbrev pub opened_by : ResolvedOperand → Option ℕ
 opened_by (view.Direct place width side declared) = opened_by_place place
 opened_by _ = None
 
@@ -70,7 +70,7 @@ numbered_operand numbered.Di from byte = flat.OpenBy 2 from byte
 
 -- the operand of an instruction that goes on; what names a block, a label or no elementary variable
 -- comes to no such instruction
-unfoldable pub operand_of : Operand → View → FlatOperand
+unfoldable pub operand_of : Operand → ResolvedOperand → FlatOperand
 operand_of o (view.Direct place width side declared) = direct place width
 operand_of o (view.Parameter index section declared) = flat.Parameter index (width_of declared)
 operand_of o (view.ByMemory a width from byte) = flat.ByMemory a width from byte

@@ -24,8 +24,8 @@ use Rattle.stl_ast.specs.declared.operands.Operand.{Operand}
 use Rattle.stl_ast.specs.declared.operands.Operand.TheVariants as operand
 use Rattle.stl_types.specs.declared.views.Register.{Register}
 use Rattle.stl_types.specs.declared.views.Register.TheVariants as register
-use Rattle.stl_types.specs.declared.views.View.{View}
-use Rattle.stl_types.specs.declared.views.View.TheVariants as view
+use Rattle.stl_types.specs.declared.views.ResolvedOperand.{ResolvedOperand}
+use Rattle.stl_types.specs.declared.views.ResolvedOperand.TheVariants as view
 
 -- the jumps (manual: logic control instructions)
 abbrev pub jump_of : Mnemonic → Option JumpOperation
@@ -64,28 +64,28 @@ end_of code.Beu = Some ends.Beu
 end_of _ = None
 
 -- O without operand is AND before OR
-abbrev pub or_operation : View → Operation
+abbrev pub or_operation : ResolvedOperand → Operation
 or_operation view.Nothing = operation.OrBare
 or_operation _ = operation.Check check.O
 
 -- L and T of the status word, L of the number or the length of an open data block
-abbrev pub load_operation : View → Operation
+abbrev pub load_operation : ResolvedOperand → Operation
 load_operation (view.Register register.Stw) = operation.LoadStatus
 load_operation (view.Register which) = operation.LoadOpenBlock
 load_operation _ = operation.Load
 
 -- T STW, the only register that T takes, and T to a place
-abbrev pub transfer_operation : View → Operation
+abbrev pub transfer_operation : ResolvedOperand → Operation
 transfer_operation (view.Register which) = operation.TransferStatus
 transfer_operation _ = operation.Transfer
 
 -- LAR1 and TAR1 with address register 2
-abbrev pub load_pointer_operation : View → Operation
+abbrev pub load_pointer_operation : ResolvedOperand → Operation
 load_pointer_operation (view.Register which) = operation.Pointer pointers.Lar1Ar2
 load_pointer_operation _ = operation.Pointer pointers.Lar1
 
 -- TAR1 AR2, and TAR1 to a double word or without operand
-abbrev pub store_pointer_operation : View → Operation
+abbrev pub store_pointer_operation : ResolvedOperand → Operation
 store_pointer_operation (view.Register which) = operation.Pointer pointers.Tar1Ar2
 store_pointer_operation _ = operation.Pointer pointers.Tar1
 
@@ -96,7 +96,7 @@ add_operation _ = operation.Add adding.Word
 
 -- the operation of an instruction that goes on to the next statement, by what its operand names. No
 -- other comes to code
-unfoldable pub operation_for : Mnemonic → Operand → View → Operation
+unfoldable pub operation_for : Mnemonic → Operand → ResolvedOperand → Operation
 operation_for code.Nop o v = operation.Nop
 operation_for code.Bld o v = operation.Bld
 operation_for code.A o v = operation.Check check.A

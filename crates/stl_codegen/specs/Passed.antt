@@ -12,11 +12,11 @@ use Rattle.plc_base.specs.Folding.{folded}
 use Rattle.block_layout.specs.Offsets.{width_of}
 use Rattle.stl_types.specs.Context.{Context}
 use Rattle.stl_types.specs.declared.parameters.Formal.{Formal}
-use Rattle.stl_types.specs.Seen.{seen}
-use Rattle.stl_types.specs.declared.views.Seen.{Seen}
-use Rattle.stl_types.specs.declared.views.Seen.TheVariants.{Sees}
-use Rattle.stl_types.specs.declared.views.View.{View}
-use Rattle.stl_types.specs.declared.views.View.TheVariants as view
+use Rattle.stl_types.specs.Resolution.{seen}
+use Rattle.stl_types.specs.declared.views.Resolution.{Resolution}
+use Rattle.stl_types.specs.declared.views.Resolution.TheVariants.{Resolved}
+use Rattle.stl_types.specs.declared.views.ResolvedOperand.{ResolvedOperand}
+use Rattle.stl_types.specs.declared.views.ResolvedOperand.TheVariants as view
 use Rattle.stl_codegen.specs.Operands.{is_in_named_block, constant_bits}
 
 -- a place is passed as it is written: in a data block that is named, or in the open one
@@ -27,7 +27,7 @@ passed_place place width =
     else passed.Direct place.area width place.byte place.bit
 
 -- a constant, a place, or a parameter of the function that calls; nothing else fits a parameter
-abbrev pub passed_view : Operand → View → Option Passed
+abbrev pub passed_view : Operand → ResolvedOperand → Option Passed
 passed_view o (view.Direct place width side declared) = Some (passed_place place width)
 passed_view o (view.Parameter index section declared) =
     Some (passed.Parameter index (width_of declared))
@@ -35,8 +35,8 @@ passed_view o view.Constant = Some (passed.Literal (constant_bits o))
 passed_view o _ = None
 
 -- what an actual parameter passes; none where what it names is unknown, or breaks a rule itself
-abbrev pub passed_seen : Operand → Seen → Option Passed
-passed_seen o (Sees v) = passed_view o v
+abbrev pub passed_seen : Operand → Resolution → Option Passed
+passed_seen o (Resolved v) = passed_view o v
 passed_seen o _ = None
 
 -- the actual parameter that is supplied for a parameter

@@ -1,7 +1,7 @@
 ghost use Rattle.std.specs.Prelude.{◌≡◌, IfOk, zero, Some, None, drop, take, ◌++◌};
 ghost use Rattle.std.specs.Option.{option_copied};
 ghost use Rattle.stl_types.specs.Parameters.{callee_of};
-ghost use Rattle.stl_types.specs.declared.views.View.TheVariants as views;
+ghost use Rattle.stl_types.specs.declared.views.ResolvedOperand.TheVariants as views;
 ghost use Rattle.flat_code.specs.Instr.{Calls, Does};
 ghost use Rattle.stl_codegen.specs.Emitted.{ops_of, passing};
 ghost use Rattle.stl_codegen.specs.Fitting.{Appended};
@@ -28,7 +28,7 @@ use flat_code::{CallOperation, JumpOperation, Op, Operand, Operation};
 use plc_base::BlockId;
 use std::alloc::{AllocError, Global};
 use stl_ast::{Block, Simple, Statement};
-use stl_types::{Callee, Scope, View};
+use stl_types::{Callee, ResolvedOperand, Scope};
 
 /// Appends a jump, also one by list: its list are the jumps behind it.
 #[tactic(auto, using(crate::proofs::OpLemmas::jump_ops))]
@@ -57,7 +57,7 @@ fn append_filler(ops: &mut Vec<Op>) -> Result<Option<()>, AllocError>
 fn append_operation(
     ops: &mut Vec<Op>,
     statement: &Statement,
-    view: View,
+    view: ResolvedOperand,
 ) -> Result<Option<()>, AllocError>
     ensures { IfOk result (λ done. Appended ops.old.items ops.new.items
         (ops_of (Does (opened_by view) (operation_for statement.now.code statement.now.operand view)
@@ -170,13 +170,13 @@ fn append_call_by(
     scope: &Scope,
     statement: &Statement,
     how: CallOperation,
-    view: View,
+    view: ResolvedOperand,
 ) -> Result<Option<()>, AllocError>
     ensures { IfOk result (λ done. Appended ops.old.items ops.new.items
         (ops_of (call_instr scope.now statement.now how view)) done) }
 {
     match view {
-        View::Called { block, instance } => {
+        ResolvedOperand::Called { block, instance } => {
             append_called(alloc, ops, scope, statement, how, block, instance)
         }
         _ => append_filler(ops),
@@ -188,7 +188,7 @@ fn append_call_by(
 fn append_plain(
     ops: &mut Vec<Op>,
     statement: &Statement,
-    view: View,
+    view: ResolvedOperand,
 ) -> Result<Option<()>, AllocError>
     ensures { IfOk result (λ done. Appended ops.old.items ops.new.items
         (ops_of (end_instr statement.now view (end_of statement.now.code))) done) }
@@ -204,7 +204,7 @@ fn append_by_view(
     ops: &mut Vec<Op>,
     scope: &Scope,
     statement: &Statement,
-    view: View,
+    view: ResolvedOperand,
 ) -> Result<Option<()>, AllocError>
     ensures { IfOk result (λ done. Appended ops.old.items ops.new.items
         (ops_of (view_instr scope.now statement.now view (call_of statement.now.code))) done) }
@@ -221,7 +221,7 @@ pub(crate) fn append_resolved(
     ops: &mut Vec<Op>,
     scope: &Scope,
     statement: &Statement,
-    view: Option<View>,
+    view: Option<ResolvedOperand>,
 ) -> Result<Option<()>, AllocError>
     ensures { IfOk result (λ done. Appended ops.old.items ops.new.items
         (ops_of (resolved_instr scope.now statement.now view)) done) }

@@ -17,7 +17,7 @@ use block_layout::{bits_of, width_of};
 use flat_code::{Operand as FlatOperand, condition_of};
 use plc_base::{Area, Place, Width};
 use stl_ast::{Numbered, Operand};
-use stl_types::{Register, View};
+use stl_types::{Register, ResolvedOperand};
 
 /// Whether a place stands in a data block that is named, which the statement opens first.
 pub(crate) fn is_in_named_block(place: Place) -> bool
@@ -37,11 +37,11 @@ fn opened_by_place(place: Place) -> Option<u16>
 }
 
 /// The data block that a statement opens first.
-pub(crate) fn opened_by(view: View) -> Option<u16>
+pub(crate) fn opened_by(view: ResolvedOperand) -> Option<u16>
     ensures { result ≡ opened_by view }
 {
     match view {
-        View::Direct { place, .. } => opened_by_place(place),
+        ResolvedOperand::Direct { place, .. } => opened_by_place(place),
         _ => None,
     }
 }
@@ -132,14 +132,14 @@ pub(crate) fn index_byte(index: usize) -> Option<u8>
 /// The operand of an instruction that goes on to the next statement. `None` where it is a parameter
 /// of so high an index that no op has it.
 #[tactic(auto, unfolding(crate::specs::Operands::operand_of))]
-pub(crate) fn operand_of(operand: &Operand, view: View) -> Option<FlatOperand>
+pub(crate) fn operand_of(operand: &Operand, view: ResolvedOperand) -> Option<FlatOperand>
     ensures value { IfSome result (λ o. o ≡ operand_of operand.now view) }
     ensures still { IfSome result (λ o. IsStill o) }
     ensures none { IfNone result (IsNoOperand (operand_of operand.now view)) }
 {
     match view {
-        View::Direct { place, width, .. } => Some(direct(place, width)),
-        View::Parameter {
+        ResolvedOperand::Direct { place, width, .. } => Some(direct(place, width)),
+        ResolvedOperand::Parameter {
             index,
             declared,
             ..
@@ -147,7 +147,7 @@ pub(crate) fn operand_of(operand: &Operand, view: View) -> Option<FlatOperand>
             index: index_byte(index)?,
             width: width_of(declared),
         }),
-        View::ByMemory {
+        ResolvedOperand::ByMemory {
             area,
             width,
             from,
@@ -158,7 +158,7 @@ pub(crate) fn operand_of(operand: &Operand, view: View) -> Option<FlatOperand>
             from,
             byte,
         }),
-        View::ByRegister {
+        ResolvedOperand::ByRegister {
             area,
             width,
             register,
@@ -169,20 +169,20 @@ pub(crate) fn operand_of(operand: &Operand, view: View) -> Option<FlatOperand>
             register,
             bits,
         }),
-        View::Timer { number } => Some(FlatOperand::Numbered { kind: 1, number }),
-        View::Counter { number } => Some(FlatOperand::Numbered { kind: 2, number }),
-        View::NumberBy { what, from, byte } => Some(numbered_operand(what, from, byte)),
-        View::Constant => Some(FlatOperand::Literal {
+        ResolvedOperand::Timer { number } => Some(FlatOperand::Numbered { kind: 1, number }),
+        ResolvedOperand::Counter { number } => Some(FlatOperand::Numbered { kind: 2, number }),
+        ResolvedOperand::NumberBy { what, from, byte } => Some(numbered_operand(what, from, byte)),
+        ResolvedOperand::Constant => Some(FlatOperand::Literal {
             value: constant_bits(operand),
         }),
-        View::Pointer { area, byte, bit } => Some(FlatOperand::Literal {
+        ResolvedOperand::Pointer { area, byte, bit } => Some(FlatOperand::Literal {
             value: pointer_bits(area, byte, bit),
         }),
-        View::OfStatus { flag } => Some(FlatOperand::OfStatus {
+        ResolvedOperand::OfStatus { flag } => Some(FlatOperand::OfStatus {
             condition: condition_of(flag),
         }),
-        View::Register { which } => Some(register_operand(which)),
-        View::OpenBlock { di, number } => Some(FlatOperand::OpenBlock {
+        ResolvedOperand::Register { which } => Some(register_operand(which)),
+        ResolvedOperand::OpenBlock { di, number } => Some(FlatOperand::OpenBlock {
             register: if di { 2 } else { 1 },
             number,
         }),

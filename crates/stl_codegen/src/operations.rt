@@ -18,7 +18,7 @@ use flat_code::{
 };
 use plc_base::{Check, Compare, TimerKind};
 use stl_ast::{Literal, Mnemonic, Operand};
-use stl_types::{Register, View};
+use stl_types::{Register, ResolvedOperand};
 
 /// The jump that an instruction is, if it is one.
 pub(crate) fn jump_of(code: Mnemonic) -> Option<JumpOperation>
@@ -72,20 +72,20 @@ pub(crate) fn end_of(code: Mnemonic) -> Option<EndOperation>
 }
 
 /// O without operand is AND before OR.
-fn or_operation(view: View) -> Operation
+fn or_operation(view: ResolvedOperand) -> Operation
     ensures { result ≡ or_operation view }
 {
     match view {
-        View::Nothing => Operation::OrBare,
+        ResolvedOperand::Nothing => Operation::OrBare,
         _ => Operation::Check(Check::O),
     }
 }
 
-fn load_operation(view: View) -> Operation
+fn load_operation(view: ResolvedOperand) -> Operation
     ensures { result ≡ load_operation view }
 {
     match view {
-        View::Register { which } => match which {
+        ResolvedOperand::Register { which } => match which {
             Register::Stw => Operation::LoadStatus,
             _ => Operation::LoadOpenBlock,
         },
@@ -93,31 +93,31 @@ fn load_operation(view: View) -> Operation
     }
 }
 
-fn transfer_operation(view: View) -> Operation
+fn transfer_operation(view: ResolvedOperand) -> Operation
     ensures { result ≡ transfer_operation view }
 {
     match view {
-        View::Register { .. } => Operation::TransferStatus,
+        ResolvedOperand::Register { .. } => Operation::TransferStatus,
         _ => Operation::Transfer,
     }
 }
 
 /// LAR1, with address register 2 too.
-fn load_pointer_operation(view: View) -> Operation
+fn load_pointer_operation(view: ResolvedOperand) -> Operation
     ensures { result ≡ load_pointer_operation view }
 {
     match view {
-        View::Register { .. } => Operation::Pointer(PointerOperation::Lar1Ar2),
+        ResolvedOperand::Register { .. } => Operation::Pointer(PointerOperation::Lar1Ar2),
         _ => Operation::Pointer(PointerOperation::Lar1),
     }
 }
 
 /// TAR1, with address register 2 too.
-fn store_pointer_operation(view: View) -> Operation
+fn store_pointer_operation(view: ResolvedOperand) -> Operation
     ensures { result ≡ store_pointer_operation view }
 {
     match view {
-        View::Register { .. } => Operation::Pointer(PointerOperation::Tar1Ar2),
+        ResolvedOperand::Register { .. } => Operation::Pointer(PointerOperation::Tar1Ar2),
         _ => Operation::Pointer(PointerOperation::Tar1),
     }
 }
@@ -136,7 +136,7 @@ fn add_operation(operand: &Operand) -> Operation
 
 /// The operation of an instruction that goes on to the next statement, by what its operand names.
 #[tactic(auto, unfolding(crate::specs::Operations::operation_for))]
-pub(crate) fn operation_for(code: Mnemonic, operand: &Operand, view: View) -> Operation
+pub(crate) fn operation_for(code: Mnemonic, operand: &Operand, view: ResolvedOperand) -> Operation
     ensures { result ≡ operation_for code operand.now view }
 {
     match code {

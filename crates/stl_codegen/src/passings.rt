@@ -2,7 +2,7 @@ ghost use Rattle.std.specs.Prelude.{◌≡◌, IfOk, [], ◌∷◌, find};
 ghost use Rattle.std.specs.Option.{option_copied};
 ghost use Rattle.std.specs.Str.{bytes_eq};
 ghost use Rattle.plc_base.specs.Folding.{folded};
-ghost use Rattle.stl_types.specs.Seen.{seen};
+ghost use Rattle.stl_types.specs.Resolution.{seen};
 ghost use Rattle.stl_codegen.specs.Emitted.{passing};
 ghost use Rattle.stl_codegen.specs.Fitting.{Appended};
 ghost use Rattle.stl_codegen.specs.Passed.{
@@ -22,7 +22,7 @@ use flat_code::{Op, Passed, order_of};
 use plc_base::{Place, Width};
 use std::alloc::{AllocError, Global};
 use stl_ast::{Actual, Operand};
-use stl_types::{Formal, Scope, Seen, View};
+use stl_types::{Formal, Resolution, ResolvedOperand, Scope};
 
 fn passed_place(place: Place, width: Width) -> Passed
     ensures { result ≡ passed_place place width }
@@ -50,21 +50,21 @@ fn append_view(
     ops: &mut Vec<Op>,
     index: usize,
     operand: &Operand,
-    view: View,
+    view: ResolvedOperand,
 ) -> Result<Option<()>, AllocError>
     ensures { IfOk result (λ done. Appended ops.old.items ops.new.items
         (passing (with_index index (passed_view operand.now view))) done) }
 {
     match view {
-        View::Direct { place, width, .. } => {
+        ResolvedOperand::Direct { place, width, .. } => {
             append_passing(ops, index, passed_place(place, width))
         }
-        View::Parameter {
+        ResolvedOperand::Parameter {
             index: own,
             declared,
             ..
         } => append_passed_parameter(ops, index, own, width_of(declared)),
-        View::Constant => append_passing(
+        ResolvedOperand::Constant => append_passing(
             ops,
             index,
             Passed::Literal {
@@ -79,14 +79,14 @@ fn append_seen(
     ops: &mut Vec<Op>,
     index: usize,
     operand: &Operand,
-    seen: Seen,
+    seen: Resolution,
 ) -> Result<Option<()>, AllocError>
     ensures { IfOk result (λ done. Appended ops.old.items ops.new.items
         (passing (with_index index (passed_seen operand.now seen))) done) }
 {
     match seen {
-        Seen::Sees { view } => append_view(ops, index, operand, view),
-        Seen::Unknown | Seen::Rests => Ok(Some(())),
+        Resolution::Resolved { view } => append_view(ops, index, operand, view),
+        Resolution::Unknown | Resolution::Unjudged => Ok(Some(())),
     }
 }
 

@@ -4,11 +4,13 @@ pub mod GapLemmas
 pub mod LineLemmas
 pub mod LongestLemmas
 pub mod MarkLemmas
+pub mod PieceLemmas
 pub mod PlainLemmas
 pub mod QuoteLemmas
 pub mod RankLemmas
 pub mod RuleLemmas
 pub mod RunLemmas
+pub mod StandLemmas
 pub mod TailLemmas
 pub mod TokenLemmas
 pub mod TimeLemmas

@@ -4,6 +4,7 @@ pub mod Gap
 pub mod Limits
 pub mod Longest
 pub mod Marks
+pub mod Pieces
 pub mod Rules
 pub mod TimeLiteral
 pub mod Tokens

@@ -6,6 +6,7 @@ mod bytes;
 mod entries;
 mod gaps;
 mod kinds;
+mod laws;
 mod lexer;
 mod lists;
 mod literals;
@@ -19,6 +20,7 @@ mod words;
 
 pub use bytes::first_letter;
 pub use kinds::{Token, TokenKind};
+pub use laws::{law_of_pieces, law_of_standing};
 pub use lexer::{law_of_time_literals, law_of_tokens, lex};
 pub use lists::Tokens;
 pub use literals::{behind_prefix, milliseconds_within};

@@ -19,6 +19,7 @@ use Rattle.stl_ast.specs.Declarations.{is_elementary}
 use Rattle.stl_ast.specs.declared.blocks.Block.{Block}
 use Rattle.stl_ast.specs.declared.blocks.Part.{Part}
 use Rattle.stl_ast.specs.declared.blocks.Setting.{Setting}
+use Rattle.stl_ast.specs.declared.blocks.Tree.{Tree}
 use Rattle.stl_ast.specs.declared.declarations.Bounds.{Bounds}
 use Rattle.stl_ast.specs.declared.declarations.Declaration.{Declaration}
 use Rattle.stl_ast.specs.declared.declarations.ElementType.{ElementType}
@@ -38,11 +39,11 @@ use Rattle.stl_parser.specs.declared.tables.Keyword.TheVariants as keyword
 use Rattle.stl_parser.specs.Addresses.{glued_at, separate_at, numbered_at, block_number_at, quoted_at, block_at, letter_count}
 use Rattle.stl_parser.specs.Clauses.{skip_semicolon, until_semicolon, behind_note, named_at, result_type, result_at, head_of, inner_end, structure_end, keyword_clause, version_at, word_at, head_word_at, head_word_clause, based_at, structure_clause, declaration_clause, statement_clause, setting_clause, inside_clause, semicolon_clause, plain_clause, other_clause, free_word_clause, word_clause, clause_by_kind, clause_at, takes_parameters, level_at, is_base, setting_of}
 use Rattle.stl_parser.specs.Declarations.{after_attribute, after_colon, declared_at, after_struct, structure_at}
-use Rattle.stl_parser.specs.Lines.{Rises, lines_of, LinesRise}
+use Rattle.stl_parser.specs.Lines.{Rises, lines_of, LinesRise, LinesRiseAcross}
 use Rattle.stl_parser.specs.Numbers.{signed_at, int_at, number_of}
 use Rattle.stl_parser.specs.Tables.{look_up}
 use Rattle.stl_parser.specs.Parts.{parts_from}
-use Rattle.stl_parser.specs.Source.{Reads}
+use Rattle.stl_parser.specs.Source.{IsTree, Reads}
 use Rattle.stl_parser.specs.Spelling.{is_kept, is_udt, nowhere, spelled_part, spelled_type, spelled_shape, spelled_block}
 use Rattle.stl_parser.specs.Statements.{labelled, unlabelled, statement_of}
 use Rattle.stl_parser.specs.Terminals.{has_kind, is_mark, is_key}
@@ -532,9 +533,24 @@ from_first : (source : List ℕ) → 1 ≤ line_at source 0
 unfolding line_at
 from_first source = omega arith
 
-pub lines_rise : LinesRise
+-- all lines of a tree rise from clause to clause
+tree_rises : (source : List ℕ) (tokens : List Token) (t : Tree) → AreTokens source tokens → IsTree source tokens t
+    → Rises (1 + length source) 1 (clause_lines (flat_map spelled_block t.blocks))
 unfolding AreTokens
-lines_rise source tokens t are is =
+tree_rises source tokens t are is =
     let risen = tokens_lower (1 + length source) 1 (line_at source 0) tokens (from_first source) (tokens_rise source 0 false tokens are) in
     let all = clauses_rise source (1 + length source) 1 place.Outside tokens is.clauses place.Outside [] is.reads risen in
-    blocks_rise (1 + length source) 1 t.blocks (subst (Rises (1 + length source) 1) (sym (kept_lines is.clauses) ∙ ap clause_lines (sym is.those)) all)
+    subst (Rises (1 + length source) 1) (sym (kept_lines is.clauses) ∙ ap clause_lines (sym is.those)) all
+
+pub lines_rise : LinesRise
+lines_rise source tokens t are is =
+    blocks_rise (1 + length source) 1 t.blocks (tree_rises source tokens t are is)
+
+blocks_lines : (bs : List Block) → clause_lines (flat_map spelled_block bs) ≡ flat_map lines_of bs
+blocks_lines [] = refl
+blocks_lines (b ∷ bs) =
+    block_lines b (flat_map spelled_block bs) ∙ ap (λ (ls : List ℕ). lines_of b ++ ls) (blocks_lines bs)
+
+pub lines_rise_across : LinesRiseAcross
+lines_rise_across source tokens t are is =
+    subst (Rises (1 + length source) 1) (blocks_lines t.blocks) (tree_rises source tokens t are is)

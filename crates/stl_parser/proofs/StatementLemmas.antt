@@ -27,8 +27,8 @@ use Rattle.stl_ast.specs.Statements.{is_jump, is_call, has_actuals, is_empty, is
 use Rattle.stl_lexer.specs.declared.marks.Mark.TheVariants as mark
 use Rattle.stl_parser.specs.declared.keywords.Key.TheVariants as key
 use Rattle.stl_parser.specs.declared.statements.BareStatement.{BareStatement}
-use Rattle.stl_parser.specs.declared.tables.Form.{Form}
-use Rattle.stl_parser.specs.declared.tables.Form.TheVariants as form
+use Rattle.stl_parser.specs.declared.tables.OperandSyntax.{OperandSyntax}
+use Rattle.stl_parser.specs.declared.tables.OperandSyntax.TheVariants as form
 use Rattle.stl_parser.specs.Terminals.{has_kind, is_mark, is_key}
 use Rattle.stl_parser.specs.Tables.{look_up, mnemonics, opening_mnemonics}
 use Rattle.stl_parser.specs.Parts.{parts_from, whole}
@@ -54,7 +54,7 @@ pub record IsInstruction (more : ℕ) (i : BareStatement) : Type 0 where
   pub size : op_size i.operand + 11 * length i.actuals ≤ 4 + 4 * more
 
 -- an instruction word goes with what may stand behind it
-abbrev goes_with : Mnemonic → Form → Bool
+abbrev goes_with : Mnemonic → OperandSyntax → Bool
 goes_with m form.Operand = not (is_call m)
 goes_with m form.Jump = is_jump m
 goes_with m form.Open = not (is_call m)
@@ -326,7 +326,7 @@ call_holds source code tokens has some =
       size = omega (arith, h.1, k.1, l.1);
     })))
 
-behind_word_holds : (source : List ℕ) (f : Form) (code : Mnemonic) (tokens : List Token) → goes_with code f ≡ true → is_empty code ≡ false →
+behind_word_holds : (source : List ℕ) (f : OperandSyntax) (code : Mnemonic) (tokens : List Token) → goes_with code f ≡ true → is_empty code ≡ false →
     IfSome (spec.behind_word source f code tokens) (IsInstruction (length tokens))
 unfolding spec.behind_word
 behind_word_holds source form.Operand code tokens goes some = with_operand_holds source code tokens (not-true (is_call code) goes) some

@@ -1,6 +1,6 @@
--- The lines of the statements of a block rise.
+-- The lines of the statements of a source rise.
 use Rattle.std.specs.Prelude.{ℕ, ◌+◌, ◌≤◌, List, [], ◌∷◌, ◌++◌, length, map}
-use Rattle.std.specs.List.{AllByRecursion}
+use Rattle.std.specs.List.{AllByRecursion, flat_map}
 use Rattle.stl_ast.specs.declared.blocks.Block.{Block}
 use Rattle.stl_ast.specs.declared.blocks.Tree.{Tree}
 use Rattle.stl_lexer.specs.Tokens.{AreTokens}
@@ -22,3 +22,10 @@ LinesRise =
     (source : List ℕ) (tokens : List Token) (t : Tree)
     → AreTokens source tokens → IsTree source tokens t
     → AllByRecursion (λ b. Rises (1 + length source) 1 (lines_of b)) t.blocks
+
+-- and so they do from block to block
+abbrev pub LinesRiseAcross : Type 0
+LinesRiseAcross =
+    (source : List ℕ) (tokens : List Token) (t : Tree)
+    → AreTokens source tokens → IsTree source tokens t
+    → Rises (1 + length source) 1 (flat_map lines_of t.blocks)

@@ -17,8 +17,8 @@ use Rattle.stl_ast.specs.declared.statements.Statement.{Statement}
 use Rattle.stl_lexer.specs.declared.marks.Mark.TheVariants as mark
 use Rattle.stl_parser.specs.declared.keywords.Key.TheVariants as key
 use Rattle.stl_parser.specs.declared.statements.BareStatement.{BareStatement}
-use Rattle.stl_parser.specs.declared.tables.Form.{Form}
-use Rattle.stl_parser.specs.declared.tables.Form.TheVariants as form
+use Rattle.stl_parser.specs.declared.tables.OperandSyntax.{OperandSyntax}
+use Rattle.stl_parser.specs.declared.tables.OperandSyntax.TheVariants as form
 use Rattle.stl_parser.specs.Terminals.{has_kind, is_mark, is_key}
 use Rattle.stl_parser.specs.Tables.{look_up, mnemonics, opening_mnemonics}
 use Rattle.stl_parser.specs.Parts.{parts_from, whole}
@@ -128,7 +128,7 @@ open_of source code (t ∷ []) =
 open_of source code tokens = with_operand source code tokens
 
 -- what may stand behind an instruction word of this form
-unfoldable pub behind_word : List ℕ → Form → Mnemonic → List Token → Option BareStatement
+unfoldable pub behind_word : List ℕ → OperandSyntax → Mnemonic → List Token → Option BareStatement
 behind_word source form.Operand code tokens = with_operand source code tokens
 behind_word source form.Jump code tokens = jump_of source code tokens
 behind_word source form.Open code tokens = open_of source code tokens

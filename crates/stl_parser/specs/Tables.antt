@@ -19,8 +19,8 @@ use Rattle.stl_parser.specs.declared.tables.Keyword.{Keyword}
 use Rattle.stl_parser.specs.declared.tables.Keyword.TheVariants as keyword
 use Rattle.stl_parser.specs.declared.tables.HeadWord.{HeadWord}
 use Rattle.stl_parser.specs.declared.tables.HeadWord.TheVariants as head_word
-use Rattle.stl_parser.specs.declared.tables.Form.{Form}
-use Rattle.stl_parser.specs.declared.tables.Form.TheVariants as form
+use Rattle.stl_parser.specs.declared.tables.OperandSyntax.{OperandSyntax}
+use Rattle.stl_parser.specs.declared.tables.OperandSyntax.TheVariants as form
 
 -- what stands beside the first text of a table that is this word, without case
 unfoldable pub look_up : {X : Type 0} → List (List ℕ × X) → List ℕ → Option X
@@ -129,7 +129,7 @@ addresses =
 
 -- the instruction words, with the marks and sign words that are instructions, and what may stand
 -- behind each
-unfoldable pub mnemonics : List (List ℕ × (Mnemonic × Form))
+unfoldable pub mnemonics : List (List ℕ × (Mnemonic × OperandSyntax))
 mnemonics =
     (codes "NOP", (mnemonic.Nop, form.Operand))
     ∷ (codes "BLD", (mnemonic.Bld, form.Operand))

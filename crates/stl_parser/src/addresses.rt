@@ -1,5 +1,4 @@
 ghost use Rattle.std.specs.Prelude.{◌≡◌, ◌≤◌, map, length, not, IfOk};
-ghost use Rattle.std.specs.Option.{option_map};
 ghost use Rattle.std.specs.List.{prefix_len};
 ghost use Rattle.std.specs.Char.{is_ascii_digit};
 ghost use Rattle.stl_parser.specs.Addresses.{
@@ -18,6 +17,7 @@ use crate::keywords::{has_kind, is_mark};
 use crate::literals::unquoted;
 use crate::lookups::{address_of, look_up};
 use crate::numbers::{decimal, number};
+use crate::parsed::{Parsed, ParsedNumbered};
 use crate::tables::{ADDRESSES, Address, BLOCK_KINDS};
 use plc_base::{BlockId, BlockKind, are_digits};
 use std::alloc::{AllocError, Global};
@@ -38,15 +38,14 @@ fn glued<'a, X: Copy + Drop>(
     table: &[(&[u8], X)],
     text: &[u8],
     rest: &'a [Token],
-) -> Option<(X, u16, &'a [Token])>
-    ensures { option_map (λ r. (r.0, r.1, r.2.now)) result
-        ≡ glued_at (map (λ e. (e.0.now, e.1)) table.now) text.now rest.now }
+) -> Option<ParsedNumbered<'a, X>>
+    ensures { result ≡ glued_at (map (λ e. (e.0.now, e.1)) table.now) text.now rest.now }
 {
     let count = letter_count(text);
     let (letters, digits) = text.split_at(count);
     let named = look_up(table, letters)?;
     let number = decimal(digits)?;
-    Some((named, number, rest))
+    Some(ParsedNumbered(named, number, rest))
 }
 
 /// Letters and number in two tokens.
@@ -56,8 +55,8 @@ fn separate<'a, X: Copy + Drop>(
     source: &[u8],
     text: &[u8],
     tokens: &'a [Token],
-) -> Option<(X, u16, &'a [Token])>
-    ensures { option_map (λ r. (r.0, r.1, r.2.now)) result
+) -> Option<ParsedNumbered<'a, X>>
+    ensures { result
         ≡ separate_at (map (λ e. (e.0.now, e.1)) table.now) source.now text.now tokens.now }
 {
     let [token, rest @ ..] = tokens else {
@@ -65,7 +64,7 @@ fn separate<'a, X: Copy + Drop>(
     };
     let named = look_up(table, text)?;
     let number = number(source, token)?;
-    Some((named, number, rest))
+    Some(ParsedNumbered(named, number, rest))
 }
 
 /// What the letters name, the number behind them, and what follows.
@@ -74,9 +73,8 @@ fn numbered<'a, X: Copy + Drop>(
     table: &[(&[u8], X)],
     source: &[u8],
     tokens: &'a [Token],
-) -> Option<(X, u16, &'a [Token])>
-    ensures { option_map (λ r. (r.0, r.1, r.2.now)) result
-        ≡ numbered_at (map (λ e. (e.0.now, e.1)) table.now) source.now tokens.now }
+) -> Option<ParsedNumbered<'a, X>>
+    ensures { result ≡ numbered_at (map (λ e. (e.0.now, e.1)) table.now) source.now tokens.now }
 {
     let [token, rest @ ..] = tokens else {
         return None;
@@ -93,17 +91,16 @@ fn numbered<'a, X: Copy + Drop>(
 
 /// An address, as `MW 2`, with what follows.
 #[tactic(auto, unfolding(crate::specs::Addresses::address_at, crate::specs::Tables::addresses))]
-pub(crate) fn address<'a>(source: &[u8], tokens: &'a [Token]) -> Option<(Address, u16, &'a [Token])>
-    ensures { option_map (λ r. (r.0, r.1, r.2.now)) result ≡ address_at source.now tokens.now }
+pub(crate) fn address<'a>(source: &[u8], tokens: &'a [Token]) -> Option<ParsedNumbered<'a, Address>>
+    ensures { result ≡ address_at source.now tokens.now }
 {
     numbered(&ADDRESSES, source, tokens)
 }
 
 /// A block by kind and number, as `DB 10`, with what follows.
 #[tactic(auto, unfolding(crate::specs::Addresses::block_number_at, crate::specs::Tables::block_kinds))]
-fn block_number<'a>(source: &[u8], tokens: &'a [Token]) -> Option<(BlockKind, u16, &'a [Token])>
-    ensures { option_map (λ r. (r.0, r.1, r.2.now)) result
-        ≡ block_number_at source.now tokens.now }
+fn block_number<'a>(source: &[u8], tokens: &'a [Token]) -> Option<ParsedNumbered<'a, BlockKind>>
+    ensures { result ≡ block_number_at source.now tokens.now }
 {
     numbered(&BLOCK_KINDS, source, tokens)
 }
@@ -114,9 +111,8 @@ pub(crate) fn quoted<'a>(
     alloc: Global,
     source: &[u8],
     tokens: &'a [Token],
-) -> Result<Option<(BlockName, &'a [Token])>, AllocError>
-    ensures { IfOk result (λ found. option_map (λ r. (r.0, r.1.now)) found
-        ≡ quoted_at source.now tokens.now) }
+) -> Result<Option<Parsed<'a, BlockName>>, AllocError>
+    ensures { IfOk result (λ found. found ≡ quoted_at source.now tokens.now) }
 {
     let [token, rest @ ..] = tokens else {
         return Ok(None);
@@ -125,7 +121,7 @@ pub(crate) fn quoted<'a>(
         return Ok(None);
     }
     let name = Name::new(alloc, unquoted(token.text(source)))?;
-    Ok(Some((BlockName::Quoted { name }, rest)))
+    Ok(Some(Parsed(BlockName::Quoted { name }, rest)))
 }
 
 /// A block by kind and number or by its quoted name, and what follows.
@@ -134,14 +130,13 @@ pub(crate) fn block<'a>(
     alloc: Global,
     source: &[u8],
     tokens: &'a [Token],
-) -> Result<Option<(BlockName, &'a [Token])>, AllocError>
-    ensures { IfOk result (λ found. option_map (λ r. (r.0, r.1.now)) found
-        ≡ block_at source.now tokens.now) }
+) -> Result<Option<Parsed<'a, BlockName>>, AllocError>
+    ensures { IfOk result (λ found. found ≡ block_at source.now tokens.now) }
 {
     match block_number(source, tokens) {
-        Some((kind, number, rest)) => {
+        Some(ParsedNumbered(kind, number, rest)) => {
             let id = BlockId { kind, number };
-            Ok(Some((BlockName::Number { id }, rest)))
+            Ok(Some(Parsed(BlockName::Number { id }, rest)))
         }
         None => quoted(alloc, source, tokens),
     }

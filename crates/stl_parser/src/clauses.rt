@@ -27,12 +27,14 @@ use crate::declarations::{declaration, structure};
 use crate::heads::{based, behind_note, head, head_word_clause, skip_semicolon};
 use crate::keywords::is_mark;
 use crate::lookups::{head_word_of, keyword_of};
+use crate::parsed::Parsed;
 use crate::places::{ClausePlace, in_data_head, is_outer, level_at, takes_parameters};
 use crate::settings::setting_of;
 use crate::statements::statement;
 use crate::tables::{HeadWord, Keyword};
 use plc_base::BlockKind;
 use std::alloc::{AllocError, Global};
+use std::marker::Model;
 use stl_ast::{BlockName, Bounds, Declaration, ElementType, PartKind, Setting, Simple, Statement};
 use stl_lexer::{Mark, Token, TokenKind};
 
@@ -89,7 +91,18 @@ pub enum Clause {
 }
 
 /// A clause with what follows it, and whether a label in it is too long.
-pub(crate) type ReadClause<'a> = (Clause, &'a [Token], bool);
+#[derive(Drop)]
+pub(crate) struct ReadClause<'a>(pub Clause, pub &'a [Token], pub bool);
+
+impl<'a> Model for ReadClause<'a> {
+    ghost use Rattle.std.specs.Prelude.{Bool, List};
+    ghost use Rattle.stl_lexer.specs.declared.kinds.Token.{Token};
+    ghost use Rattle.stl_parser.specs.declared.clauses.Clause.{Clause};
+
+    ghost Value = { Clause × List Token × Bool };
+
+    ghost view = { λ r. (r.0, r.1.now, r.2) };
+}
 
 /// How many tokens stand before the first `;`, or None where there is none.
 #[tactic(auto, unfolding(crate::specs::Clauses::semicolon_place))]
@@ -105,8 +118,7 @@ fn semicolon_place(source: &[u8], tokens: &[Token]) -> Option<usize>
 /// The tokens before the first `;`, and those behind it.
 #[tactic(auto, unfolding(crate::specs::Clauses::until_semicolon))]
 fn until_semicolon<'a>(source: &[u8], tokens: &'a [Token]) -> Option<(&'a [Token], &'a [Token])>
-    ensures { option_map (λ r. (r.0.now, r.1.now)) result
-        ≡ until_semicolon source.now tokens.now }
+    ensures { option_map (λ r. (r.0.now, r.1.now)) result ≡ until_semicolon source.now tokens.now }
 {
     let count = semicolon_place(source, tokens)?;
     Some((&tokens[..count], &tokens[count + 1..]))
@@ -115,13 +127,13 @@ fn until_semicolon<'a>(source: &[u8], tokens: &'a [Token]) -> Option<(&'a [Token
 /// END_STRUCT of an inner structure, behind the word: its `;`.
 #[tactic(auto, unfolding(crate::specs::Clauses::inner_end))]
 fn inner_end<'a>(source: &[u8], tokens: &'a [Token]) -> Option<ReadClause<'a>>
-    ensures { option_map (λ r. (r.0, r.1.now, r.2)) result ≡ inner_end source.now tokens.now }
+    ensures { result ≡ inner_end source.now tokens.now }
 {
     let [token, rest @ ..] = tokens else {
         return None;
     };
     if is_mark(source, token, Mark::Semicolon) {
-        Some((Clause::EndStructure, rest, false))
+        Some(ReadClause(Clause::EndStructure, rest, false))
     } else {
         None
     }
@@ -130,13 +142,12 @@ fn inner_end<'a>(source: &[u8], tokens: &'a [Token]) -> Option<ReadClause<'a>>
 /// END_STRUCT, behind the word: with a `;` for an inner structure, and else with or without one.
 #[tactic(auto, unfolding(crate::specs::Clauses::structure_end))]
 fn structure_end<'a>(source: &[u8], at: ClausePlace, tokens: &'a [Token]) -> Option<ReadClause<'a>>
-    ensures { option_map (λ r. (r.0, r.1.now, r.2)) result
-        ≡ structure_end source.now at tokens.now }
+    ensures { result ≡ structure_end source.now at tokens.now }
 {
     if level_at(at) > 0 {
         inner_end(source, tokens)
     } else {
-        Some((Clause::EndStructure, skip_semicolon(source, tokens), false))
+        Some(ReadClause(Clause::EndStructure, skip_semicolon(source, tokens), false))
     }
 }
 
@@ -150,17 +161,20 @@ fn keyword_clause<'a>(
     keyword: Keyword,
     rest: &'a [Token],
 ) -> Result<Option<ReadClause<'a>>, AllocError>
-    ensures { IfOk result (λ found. option_map (λ r. (r.0, r.1.now, r.2)) found
-        ≡ keyword_clause source.now at line keyword rest.now) }
+    ensures { IfOk result (λ found. found ≡ keyword_clause source.now at line keyword rest.now) }
 {
     match keyword {
         Keyword::Opens { kind } => head(alloc, source, line, kind, rest),
-        Keyword::Ends { kind } => Ok(Some((Clause::Ends { line, kind }, rest, false))),
-        Keyword::Section { kind } => Ok(Some((Clause::Section { line, kind }, rest, false))),
-        Keyword::EndSection => Ok(Some((Clause::EndSection, rest, false))),
-        Keyword::Begin => Ok(Some((Clause::Begins, rest, false))),
-        Keyword::Network => Ok(Some((Clause::Network, rest, false))),
-        Keyword::Structure => Ok(Some((Clause::Structure, rest, false))),
+        Keyword::Ends { kind } => Ok(Some(ReadClause(Clause::Ends { line, kind }, rest, false))),
+        Keyword::Section { kind } => Ok(Some(ReadClause(
+            Clause::Section { line, kind },
+            rest,
+            false,
+        ))),
+        Keyword::EndSection => Ok(Some(ReadClause(Clause::EndSection, rest, false))),
+        Keyword::Begin => Ok(Some(ReadClause(Clause::Begins, rest, false))),
+        Keyword::Network => Ok(Some(ReadClause(Clause::Network, rest, false))),
+        Keyword::Structure => Ok(Some(ReadClause(Clause::Structure, rest, false))),
         Keyword::EndStructure => Ok(structure_end(source, at, rest)),
     }
 }
@@ -173,16 +187,15 @@ fn structure_clause<'a>(
     at: ClausePlace,
     tokens: &'a [Token],
 ) -> Result<Option<ReadClause<'a>>, AllocError>
-    ensures { IfOk result (λ found. option_map (λ r. (r.0, r.1.now, r.2)) found
-        ≡ structure_clause source.now at tokens.now) }
+    ensures { IfOk result (λ found. found ≡ structure_clause source.now at tokens.now) }
 {
     if takes_parameters(at) {
         return Ok(None);
     }
-    let Some((declaration, rest)) = structure(alloc, source, level_at(at), tokens)? else {
+    let Some(Parsed(declaration, rest)) = structure(alloc, source, level_at(at), tokens)? else {
         return Ok(None);
     };
-    Ok(Some((Clause::Declares { declaration }, rest, false)))
+    Ok(Some(ReadClause(Clause::Declares { declaration }, rest, false)))
 }
 
 /// Whether the type is an elementary one.
@@ -282,8 +295,7 @@ fn semicolon_clause<'a>(
     line: u32,
     tokens: &'a [Token],
 ) -> Result<Option<ReadClause<'a>>, AllocError>
-    ensures { IfOk result (λ found. option_map (λ r. (r.0, r.1.now, r.2)) found
-        ≡ semicolon_clause source.now at line tokens.now) }
+    ensures { IfOk result (λ found. found ≡ semicolon_clause source.now at line tokens.now) }
 {
     let Some((inside, rest)) = until_semicolon(source, tokens) else {
         return Ok(None);
@@ -291,7 +303,7 @@ fn semicolon_clause<'a>(
     let Some((clause, long)) = inside_clause(alloc, source, at, line, inside)? else {
         return Ok(None);
     };
-    Ok(Some((clause, rest, long)))
+    Ok(Some(ReadClause(clause, rest, long)))
 }
 
 /// A clause that opens a structure or runs to its `;`.
@@ -303,8 +315,7 @@ fn plain_clause<'a>(
     line: u32,
     tokens: &'a [Token],
 ) -> Result<Option<ReadClause<'a>>, AllocError>
-    ensures { IfOk result (λ found. option_map (λ r. (r.0, r.1.now, r.2)) found
-        ≡ plain_clause source.now at line tokens.now) }
+    ensures { IfOk result (λ found. found ≡ plain_clause source.now at line tokens.now) }
 {
     if let Some(found) = structure_clause(alloc, source, at, tokens)? {
         return Ok(Some(found));
@@ -322,8 +333,7 @@ fn other_clause<'a>(
     line: u32,
     tokens: &'a [Token],
 ) -> Result<Option<ReadClause<'a>>, AllocError>
-    ensures { IfOk result (λ found. option_map (λ r. (r.0, r.1.now, r.2)) found
-        ≡ other_clause source.now at line tokens.now) }
+    ensures { IfOk result (λ found. found ≡ other_clause source.now at line tokens.now) }
 {
     if !in_data_head(at) {
         return plain_clause(alloc, source, at, line, tokens);
@@ -344,7 +354,7 @@ fn free_word_clause<'a>(
     rest: &'a [Token],
     tokens: &'a [Token],
 ) -> Result<Option<ReadClause<'a>>, AllocError>
-    ensures { IfOk result (λ found. option_map (λ r. (r.0, r.1.now, r.2)) found
+    ensures { IfOk result (λ found. found
         ≡ free_word_clause source.now at token.now rest.now tokens.now (look_up head_words
         (text_of source.now token.now))) }
 {
@@ -370,7 +380,7 @@ fn word_clause<'a>(
     rest: &'a [Token],
     tokens: &'a [Token],
 ) -> Result<Option<ReadClause<'a>>, AllocError>
-    ensures { IfOk result (λ found. option_map (λ r. (r.0, r.1.now, r.2)) found
+    ensures { IfOk result (λ found. found
         ≡ word_clause source.now at token.now rest.now tokens.now (look_up keywords
         (text_of source.now token.now))) }
 {
@@ -390,13 +400,21 @@ fn clause_by_kind<'a>(
     rest: &'a [Token],
     tokens: &'a [Token],
 ) -> Result<Option<ReadClause<'a>>, AllocError>
-    ensures { IfOk result (λ found. option_map (λ r. (r.0, r.1.now, r.2)) found
+    ensures { IfOk result (λ found. found
         ≡ clause_by_kind source.now at token.now rest.now tokens.now token.now.kind) }
 {
     match token.kind {
         TokenKind::Word => word_clause(alloc, source, at, token, rest, tokens),
-        TokenKind::Attribute => Ok(Some((Clause::Note, behind_note(source, at, rest), false))),
-        TokenKind::Title => Ok(Some((Clause::Title, behind_note(source, at, rest), false))),
+        TokenKind::Attribute => Ok(Some(ReadClause(
+            Clause::Note,
+            behind_note(source, at, rest),
+            false,
+        ))),
+        TokenKind::Title => Ok(Some(ReadClause(
+            Clause::Title,
+            behind_note(source, at, rest),
+            false,
+        ))),
         _ => other_clause(alloc, source, at, token.line, tokens),
     }
 }
@@ -410,8 +428,7 @@ pub(crate) fn clause_at<'a>(
     at: ClausePlace,
     tokens: &'a [Token],
 ) -> Result<Option<ReadClause<'a>>, AllocError>
-    ensures { IfOk result (λ found. option_map (λ r. (r.0, r.1.now, r.2)) found
-        ≡ clause_at source.now at tokens.now) }
+    ensures { IfOk result (λ found. found ≡ clause_at source.now at tokens.now) }
 {
     let [token, rest @ ..] = tokens else {
         return Ok(None);

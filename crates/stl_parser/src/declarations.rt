@@ -12,6 +12,7 @@ ghost use Rattle.stl_parser.specs.Declarations.{
 };
 
 use crate::keywords::{Key, has_kind, is_key, is_mark};
+use crate::parsed::Parsed;
 use crate::types::{arrays, element, inits};
 use std::alloc::{AllocError, Global};
 use stl_ast::{Bounds, Declaration, ElementType, Init, Name, Sequence, TypeTree};
@@ -51,8 +52,8 @@ pub(crate) fn after_colon<'a>(source: &[u8], tokens: &'a [Token]) -> Option<&'a 
 
 /// A declared name, `word [attribute] :`, and the tokens of its type.
 #[tactic(auto, unfolding(crate::specs::Declarations::declared_at))]
-fn declared_name<'a>(source: &[u8], tokens: &'a [Token]) -> Option<(Token, &'a [Token])>
-    ensures { option_map (λ r. (r.0, r.1.now)) result ≡ declared_at source.now tokens.now }
+fn declared_name<'a>(source: &[u8], tokens: &'a [Token]) -> Option<Parsed<'a, Token>>
+    ensures { result ≡ declared_at source.now tokens.now }
 {
     let [token, rest @ ..] = tokens else {
         return None;
@@ -61,7 +62,7 @@ fn declared_name<'a>(source: &[u8], tokens: &'a [Token]) -> Option<(Token, &'a [
         return None;
     }
     let behind = after_colon(source, after_attribute(rest))?;
-    Some((*token, behind))
+    Some(Parsed(*token, behind))
 }
 
 /// The tokens behind STRUCT.
@@ -108,14 +109,13 @@ pub(crate) fn structure<'a>(
     source: &[u8],
     level: u32,
     tokens: &'a [Token],
-) -> Result<Option<(Declaration, &'a [Token])>, AllocError>
-    ensures { IfOk result (λ found. option_map (λ r. (r.0, r.1.now)) found
-        ≡ structure_at source.now level tokens.now) }
+) -> Result<Option<Parsed<'a, Declaration>>, AllocError>
+    ensures { IfOk result (λ found. found ≡ structure_at source.now level tokens.now) }
 {
-    let Some((word, rest)) = declared_name(source, tokens) else {
+    let Some(Parsed(word, rest)) = declared_name(source, tokens) else {
         return Ok(None);
     };
-    let Some((arrays, rest)) = arrays(alloc, source, rest)? else {
+    let Some(Parsed(arrays, rest)) = arrays(alloc, source, rest)? else {
         return Ok(None);
     };
     let Some(rest) = after_struct(source, rest) else {
@@ -131,7 +131,7 @@ pub(crate) fn structure<'a>(
         ElementType::Structure,
         none,
     )?;
-    Ok(Some((declaration, rest)))
+    Ok(Some(Parsed(declaration, rest)))
 }
 
 /// The initial values behind a type: none, or `:=` and the values.
@@ -166,13 +166,13 @@ pub(crate) fn declaration(
 ) -> Result<Option<Declaration>, AllocError>
     ensures { IfOk result (λ found. found ≡ declaration_of source.now level tokens.now) }
 {
-    let Some((word, rest)) = declared_name(source, tokens) else {
+    let Some(Parsed(word, rest)) = declared_name(source, tokens) else {
         return Ok(None);
     };
-    let Some((arrays, rest)) = arrays(alloc, source, rest)? else {
+    let Some(Parsed(arrays, rest)) = arrays(alloc, source, rest)? else {
         return Ok(None);
     };
-    let Some((of, rest)) = element(alloc, source, rest)? else {
+    let Some(Parsed(of, rest)) = element(alloc, source, rest)? else {
         return Ok(None);
     };
     let Some(init) = init_behind(alloc, source, arrays.as_slice(), &of, rest)? else {

@@ -22,6 +22,7 @@ use crate::clauses::{Clause, ReadClause};
 use crate::declarations::after_colon;
 use crate::keywords::{Key, has_kind, is_key, is_mark};
 use crate::lookups::simple_type_of;
+use crate::parsed::Parsed;
 use crate::places::{ClausePlace, in_head};
 use crate::tables::HeadWord;
 use plc_base::BlockKind;
@@ -76,15 +77,14 @@ fn named<'a>(
     source: &[u8],
     kind: BlockKind,
     tokens: &'a [Token],
-) -> Result<Option<(BlockName, &'a [Token])>, AllocError>
-    ensures { IfOk result (λ found. option_map (λ r. (r.0, r.1.now)) found
-        ≡ named_at source.now kind tokens.now) }
+) -> Result<Option<Parsed<'a, BlockName>>, AllocError>
+    ensures { IfOk result (λ found. found ≡ named_at source.now kind tokens.now) }
 {
-    let Some((name, rest)) = block(alloc, source, tokens)? else {
+    let Some(Parsed(name, rest)) = block(alloc, source, tokens)? else {
         return Ok(None);
     };
     if is_of_kind(kind, &name) {
-        Ok(Some((name, rest)))
+        Ok(Some(Parsed(name, rest)))
     } else {
         Ok(None)
     }
@@ -92,22 +92,22 @@ fn named<'a>(
 
 /// VOID or the elementary type of a return value, and what follows.
 #[tactic(auto, unfolding(crate::specs::Clauses::result_type))]
-fn result_type<'a>(source: &[u8], tokens: &'a [Token]) -> Option<(Option<Simple>, &'a [Token])>
-    ensures { option_map (λ r. (r.0, r.1.now)) result ≡ result_type source.now tokens.now }
+fn result_type<'a>(source: &[u8], tokens: &'a [Token]) -> Option<Parsed<'a, Option<Simple>>>
+    ensures { result ≡ result_type source.now tokens.now }
 {
     let [token, rest @ ..] = tokens else {
         return None;
     };
     if is_key(source, token, Key::Void) {
-        return Some((None, rest));
+        return Some(Parsed(None, rest));
     }
     let kind = simple_type_of(token.text(source))?;
-    Some((Some(kind), rest))
+    Some(Parsed(Some(kind), rest))
 }
 
 /// `:` and the type of a return value, and what follows.
-fn typed_result<'a>(source: &[u8], tokens: &'a [Token]) -> Option<(Option<Simple>, &'a [Token])>
-    ensures { option_map (λ r. (r.0, r.1.now)) result
+fn typed_result<'a>(source: &[u8], tokens: &'a [Token]) -> Option<Parsed<'a, Option<Simple>>>
+    ensures { result
         ≡ option_and_then (λ rest. result_type source.now rest)
         (after_colon source.now tokens.now) }
 {
@@ -121,12 +121,12 @@ fn result_of<'a>(
     source: &[u8],
     kind: BlockKind,
     tokens: &'a [Token],
-) -> Option<(Option<Simple>, &'a [Token])>
-    ensures { option_map (λ r. (r.0, r.1.now)) result ≡ result_at source.now kind tokens.now }
+) -> Option<Parsed<'a, Option<Simple>>>
+    ensures { result ≡ result_at source.now kind tokens.now }
 {
     match kind {
         BlockKind::Fc => typed_result(source, tokens),
-        _ => Some((None, tokens)),
+        _ => Some(Parsed(None, tokens)),
     }
 }
 
@@ -139,25 +139,21 @@ pub(crate) fn head<'a>(
     kind: BlockKind,
     tokens: &'a [Token],
 ) -> Result<Option<ReadClause<'a>>, AllocError>
-    ensures { IfOk result (λ found. option_map (λ r. (r.0, r.1.now, r.2)) found
-        ≡ head_of source.now line kind tokens.now) }
+    ensures { IfOk result (λ found. found ≡ head_of source.now line kind tokens.now) }
 {
-    let Some((name, rest)) = named(alloc, source, kind, tokens)? else {
+    let Some(Parsed(name, rest)) = named(alloc, source, kind, tokens)? else {
         return Ok(None);
     };
-    let Some((result, rest)) = result_of(source, kind, rest) else {
+    let Some(Parsed(result, rest)) = result_of(source, kind, rest) else {
         return Ok(None);
     };
-    Ok(Some((
-        Clause::Head {
-            line,
-            kind,
-            name,
-            result,
-        },
-        rest,
-        false,
-    )))
+    let head = Clause::Head {
+        line,
+        kind,
+        name,
+        result,
+    };
+    Ok(Some(ReadClause(head, rest, false)))
 }
 
 /// `: n.n` behind VERSION, and what follows.
@@ -214,11 +210,10 @@ pub(crate) fn head_word_clause<'a>(
     word: HeadWord,
     tokens: &'a [Token],
 ) -> Option<ReadClause<'a>>
-    ensures { option_map (λ r. (r.0, r.1.now, r.2)) result
-        ≡ head_word_clause source.now at word tokens.now }
+    ensures { result ≡ head_word_clause source.now at word tokens.now }
 {
     let rest = behind_head_word(source, word, tokens)?;
-    Some((Clause::Note, behind_note(source, at, rest), false))
+    Some(ReadClause(Clause::Note, behind_note(source, at, rest), false))
 }
 
 /// Whether a data block may be based on this: a function block, or a user-defined data type.
@@ -238,14 +233,13 @@ pub(crate) fn based<'a>(
     source: &[u8],
     tokens: &'a [Token],
 ) -> Result<Option<ReadClause<'a>>, AllocError>
-    ensures { IfOk result (λ found. option_map (λ r. (r.0, r.1.now, r.2)) found
-        ≡ based_at source.now tokens.now) }
+    ensures { IfOk result (λ found. found ≡ based_at source.now tokens.now) }
 {
-    let Some((name, rest)) = block(alloc, source, tokens)? else {
+    let Some(Parsed(name, rest)) = block(alloc, source, tokens)? else {
         return Ok(None);
     };
     if is_base(&name) {
-        Ok(Some((Clause::Based { name }, rest, false)))
+        Ok(Some(ReadClause(Clause::Based { name }, rest, false)))
     } else {
         Ok(None)
     }

@@ -14,6 +14,7 @@ mod lookups;
 mod numbers;
 mod operands;
 mod parameters;
+mod parsed;
 mod paths;
 mod places;
 mod pointers;

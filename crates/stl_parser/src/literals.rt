@@ -1,6 +1,5 @@
 ghost use Rattle.std.specs.Prelude.{◌≡◌, ◌≤◌, length};
 ghost use Rattle.stl_ast.specs.declared.literals.Literal.TheVariants as literals;
-ghost use Rattle.std.specs.Option.{option_map};
 ghost use Rattle.stl_parser.specs.Literals.{
   unquoted,
   characters_of,
@@ -17,6 +16,7 @@ ghost use Rattle.stl_parser.specs.Literals.{
 
 use crate::keywords::{Key, is_key, is_mark};
 use crate::numbers::{number, signed};
+use crate::parsed::Parsed;
 use crate::values::{based, duration, long_or_count};
 use arrayvec::ArrayVec;
 use stl_ast::{Characters, Literal};
@@ -115,13 +115,8 @@ fn bytes_literal(bytes: ArrayVec<u8, 4>) -> Literal
 
 /// Two more bytes and the `)` of `B#(a,b,c,d)`.
 #[tactic(auto, unfolding(crate::specs::Literals::last_bytes))]
-fn last_bytes<'a>(
-    source: &[u8],
-    a: u8,
-    b: u8,
-    tokens: &'a [Token],
-) -> Option<(Literal, &'a [Token])>
-    ensures { option_map (λ r. (r.0, r.1.now)) result ≡ last_bytes source.now a b tokens.now }
+fn last_bytes<'a>(source: &[u8], a: u8, b: u8, tokens: &'a [Token]) -> Option<Parsed<'a, Literal>>
+    ensures { result ≡ last_bytes source.now a b tokens.now }
 {
     let [c, comma, d, close, rest @ ..] = tokens else {
         return None;
@@ -129,7 +124,7 @@ fn last_bytes<'a>(
     if is_mark(source, comma, Mark::Comma) && is_mark(source, close, Mark::CloseParen) {
         let c = byte(source, c)?;
         let d = byte(source, d)?;
-        Some((bytes_literal(list_of(&[a, b, c, d])), rest))
+        Some(Parsed(bytes_literal(list_of(&[a, b, c, d])), rest))
     } else {
         None
     }
@@ -143,12 +138,11 @@ fn bytes_behind<'a>(
     b: u8,
     token: &Token,
     rest: &'a [Token],
-) -> Option<(Literal, &'a [Token])>
-    ensures { option_map (λ r. (r.0, r.1.now)) result
-        ≡ bytes_behind source.now a b token.now rest.now }
+) -> Option<Parsed<'a, Literal>>
+    ensures { result ≡ bytes_behind source.now a b token.now rest.now }
 {
     if is_mark(source, token, Mark::CloseParen) {
-        Some((bytes_literal(list_of(&[a, b])), rest))
+        Some(Parsed(bytes_literal(list_of(&[a, b])), rest))
     } else if is_mark(source, token, Mark::Comma) {
         last_bytes(source, a, b, rest)
     } else {
@@ -158,8 +152,8 @@ fn bytes_behind<'a>(
 
 /// The bytes of `B#(a,b)` or `B#(a,b,c,d)`, behind the mark `B#(`.
 #[tactic(auto, unfolding(crate::specs::Literals::bytes_at))]
-fn bytes_at<'a>(source: &[u8], tokens: &'a [Token]) -> Option<(Literal, &'a [Token])>
-    ensures { option_map (λ r. (r.0, r.1.now)) result ≡ bytes_at source.now tokens.now }
+fn bytes_at<'a>(source: &[u8], tokens: &'a [Token]) -> Option<Parsed<'a, Literal>>
+    ensures { result ≡ bytes_at source.now tokens.now }
 {
     let [a, comma, b, next, rest @ ..] = tokens else {
         return None;
@@ -175,32 +169,27 @@ fn bytes_at<'a>(source: &[u8], tokens: &'a [Token]) -> Option<(Literal, &'a [Tok
 
 /// A constant of more than one token: a number with its sign, or `B#(..)`.
 #[tactic(auto, unfolding(crate::specs::Literals::long_literal))]
-fn long_literal<'a>(
-    source: &[u8],
-    token: &Token,
-    rest: &'a [Token],
-) -> Option<(Literal, &'a [Token])>
-    ensures { option_map (λ r. (r.0, r.1.now)) result
-        ≡ long_literal source.now token.now rest.now }
+fn long_literal<'a>(source: &[u8], token: &Token, rest: &'a [Token]) -> Option<Parsed<'a, Literal>>
+    ensures { result ≡ long_literal source.now token.now rest.now }
 {
     if is_mark(source, token, Mark::Bytes) {
         bytes_at(source, rest)
     } else {
-        let (value, rest) = signed(source, token, rest)?;
-        Some((Literal::Number { value }, rest))
+        let Parsed(value, rest) = signed(source, token, rest)?;
+        Some(Parsed(Literal::Number { value }, rest))
     }
 }
 
 /// A constant, and what follows it.
 #[tactic(auto, unfolding(crate::specs::Literals::literal_at))]
-pub(crate) fn literal_at<'a>(source: &[u8], tokens: &'a [Token]) -> Option<(Literal, &'a [Token])>
-    ensures { option_map (λ r. (r.0, r.1.now)) result ≡ literal_at source.now tokens.now }
+pub(crate) fn literal_at<'a>(source: &[u8], tokens: &'a [Token]) -> Option<Parsed<'a, Literal>>
+    ensures { result ≡ literal_at source.now tokens.now }
 {
     let [token, rest @ ..] = tokens else {
         return None;
     };
     match literal_token(source, token) {
-        Some(literal) => Some((literal, rest)),
+        Some(literal) => Some(Parsed(literal, rest)),
         None => long_literal(source, token, rest),
     }
 }
@@ -211,7 +200,7 @@ pub(crate) fn literal(source: &[u8], tokens: &[Token]) -> Option<Literal>
     ensures { result ≡ literal_of source.now tokens.now }
 {
     match literal_at(source, tokens) {
-        Some((literal, [])) => Some(literal),
+        Some(Parsed(literal, [])) => Some(literal),
         _ => None,
     }
 }

@@ -14,8 +14,8 @@ ghost use Rattle.stl_parser.specs.Tables.{
 };
 
 use crate::tables::{
-    ADDRESSES, Address, FLAGS, Form, HEAD_WORDS, HeadWord, KEYWORDS, Keyword, MNEMONICS,
-    OPENING_MNEMONICS, REGISTERS, SIMPLE_TYPES,
+    ADDRESSES, Address, FLAGS, HEAD_WORDS, HeadWord, KEYWORDS, Keyword, MNEMONICS,
+    OPENING_MNEMONICS, OperandSyntax, REGISTERS, SIMPLE_TYPES,
 };
 use plc_base::Flag;
 use stl_ast::{Mnemonic, Simple};
@@ -84,7 +84,7 @@ pub(crate) fn address_of(word: &[u8]) -> Option<Address>
 
 /// The instruction that this word is, and what may stand behind it.
 #[tactic(auto, unfolding(crate::specs::Tables::mnemonics))]
-pub(crate) fn mnemonic_of(word: &[u8]) -> Option<(Mnemonic, Form)>
+pub(crate) fn mnemonic_of(word: &[u8]) -> Option<(Mnemonic, OperandSyntax)>
     ensures { result ≡ look_up mnemonics word.now }
 {
     look_up(&MNEMONICS, word)

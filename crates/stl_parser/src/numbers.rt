@@ -1,10 +1,10 @@
 ghost use Rattle.std.specs.Prelude.{◌≡◌, ◌≤◌, true, false};
-ghost use Rattle.std.specs.Option.{option_map};
 ghost use Rattle.plc_base.specs.Decimal.{decimal_up_to};
 ghost use Rattle.stl_lexer.specs.Limits.{greatest_number};
 ghost use Rattle.stl_parser.specs.Numbers.{number_up_to, number_of, signed_at, int_at};
 
 use crate::keywords::{has_kind, is_mark};
+use crate::parsed::Parsed;
 use stl_lexer::{GREATEST_NEGATED, GREATEST_NUMBER, Mark, Token, TokenKind};
 
 /// The number of one or more decimal digits, where it is at most `most`.
@@ -51,19 +51,18 @@ pub(crate) fn signed<'a>(
     source: &[u8],
     sign: &Token,
     tokens: &'a [Token],
-) -> Option<(i32, &'a [Token])>
-    ensures { option_map (λ r. (r.0, r.1.now)) result
-        ≡ signed_at source.now sign.now tokens.now }
+) -> Option<Parsed<'a, i32>>
+    ensures { result ≡ signed_at source.now sign.now tokens.now }
 {
     let [token, rest @ ..] = tokens else {
         return None;
     };
     if is_mark(source, sign, Mark::Minus) {
         let number = number_up_to(source, token, GREATEST_NEGATED)?;
-        Some((0 - i32::from(number), rest))
+        Some(Parsed(0 - i32::from(number), rest))
     } else if is_mark(source, sign, Mark::Plus) {
         let number = number(source, token)?;
-        Some((i32::from(number), rest))
+        Some(Parsed(i32::from(number), rest))
     } else {
         None
     }
@@ -71,14 +70,14 @@ pub(crate) fn signed<'a>(
 
 /// A decimal number with or without a sign, and what follows.
 #[tactic(auto, unfolding(crate::specs::Numbers::int_at))]
-pub(crate) fn int<'a>(source: &[u8], tokens: &'a [Token]) -> Option<(i32, &'a [Token])>
-    ensures { option_map (λ r. (r.0, r.1.now)) result ≡ int_at source.now tokens.now }
+pub(crate) fn int<'a>(source: &[u8], tokens: &'a [Token]) -> Option<Parsed<'a, i32>>
+    ensures { result ≡ int_at source.now tokens.now }
 {
     let [token, rest @ ..] = tokens else {
         return None;
     };
     match number(source, token) {
-        Some(number) => Some((i32::from(number), rest)),
+        Some(number) => Some(Parsed(i32::from(number), rest)),
         None => signed(source, token, rest),
     }
 }

@@ -33,6 +33,7 @@ use crate::keywords::{Key, has_kind, is_key, is_mark};
 use crate::literals::{literal, unquoted};
 use crate::lookups::{address_of, flag_of, register_of};
 use crate::numbers::number;
+use crate::parsed::ParsedNumbered;
 use crate::paths::{all_steps, path};
 use crate::pointers::{by_register, indirect, pointer};
 use crate::tables::Address;
@@ -92,7 +93,7 @@ fn place(source: &[u8], address: Address, byte: u16, rest: &[Token]) -> Option<(
 fn block_place(source: &[u8], tokens: &[Token]) -> Option<(Width, u16, u8)>
     ensures { result ≡ block_place source.now tokens.now }
 {
-    let (address, byte, rest) = address(source, tokens)?;
+    let ParsedNumbered(address, byte, rest) = address(source, tokens)?;
     place(source, address, byte, rest)
 }
 
@@ -328,7 +329,7 @@ fn with_number(
     ensures { IfOk result (λ found. found ≡ with_number source.now tokens.now) }
 {
     match address(source, tokens) {
-        Some((address, number, rest)) => direct(alloc, source, address, number, rest),
+        Some(ParsedNumbered(address, number, rest)) => direct(alloc, source, address, number, rest),
         None => Ok(None),
     }
 }
@@ -351,8 +352,7 @@ fn word_operand(
     rest: &[Token],
     tokens: &[Token],
 ) -> Result<Option<Operand>, AllocError>
-    ensures { IfOk result (λ found. found
-        ≡ word_operand source.now token.now rest.now tokens.now) }
+    ensures { IfOk result (λ found. found ≡ word_operand source.now token.now rest.now tokens.now) }
 {
     if let Some(operand) = alone(alloc, source, token, rest)? {
         return Ok(Some(operand));

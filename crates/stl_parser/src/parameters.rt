@@ -14,6 +14,7 @@ ghost use Rattle.stl_parser.specs.Statements.{
 
 use crate::keywords::{has_kind, is_mark};
 use crate::operands::operand;
+use crate::parsed::Parsed;
 use std::alloc::{AllocError, Global};
 use stl_ast::{Actual, Name, Operand, Sequence};
 use stl_lexer::{Mark, Token, TokenKind};
@@ -70,9 +71,8 @@ fn actual<'a>(
     alloc: Global,
     source: &[u8],
     tokens: &'a [Token],
-) -> Result<Option<(Actual, &'a [Token])>, AllocError>
-    ensures { IfOk result (λ found. option_map (λ r. (r.0, r.1.now)) found
-        ≡ actual_at source.now tokens.now) }
+) -> Result<Option<Parsed<'a, Actual>>, AllocError>
+    ensures { IfOk result (λ found. found ≡ actual_at source.now tokens.now) }
 {
     let [word, assign, rest @ ..] = tokens else {
         return Ok(None);
@@ -85,14 +85,12 @@ fn actual<'a>(
         return Ok(None);
     };
     let name = Name::new(alloc, word.text(source))?;
-    Ok(Some((
-        Actual {
-            line: word.line,
-            name,
-            value,
-        },
-        rest,
-    )))
+    let actual = Actual {
+        line: word.line,
+        name,
+        value,
+    };
+    Ok(Some(Parsed(actual, rest)))
 }
 
 /// A further actual parameter, behind its comma.
@@ -101,9 +99,8 @@ fn next_actual<'a>(
     alloc: Global,
     source: &[u8],
     tokens: &'a [Token],
-) -> Result<Option<(Actual, &'a [Token])>, AllocError>
-    ensures { IfOk result (λ found. option_map (λ r. (r.0, r.1.now)) found
-        ≡ next_actual source.now tokens.now) }
+) -> Result<Option<Parsed<'a, Actual>>, AllocError>
+    ensures { IfOk result (λ found. found ≡ next_actual source.now tokens.now) }
 {
     let [token, rest @ ..] = tokens else {
         return Ok(None);
@@ -139,8 +136,8 @@ fn further_actuals<'a>(
     source: &[u8],
     first: Vec<Actual>,
     tokens: &'a [Token],
-) -> Result<Option<(Sequence<Actual>, &'a [Token])>, AllocError>
-    ensures { IfOk result (λ found. option_map (λ r. (r.0, r.1.now)) found
+) -> Result<Option<Parsed<'a, Sequence<Actual>>>, AllocError>
+    ensures { IfOk result (λ found. found
         ≡ parts_from (actuals_end source.now) (next_actual source.now) first.items
         (length tokens.now) tokens.now) }
 {
@@ -148,16 +145,16 @@ fn further_actuals<'a>(
     let mut rest = tokens;
     for _done in 0..tokens.len() {
         if let Some(end) = actuals_end(source, rest) {
-            return Ok(Some((Sequence::from_vec(read), end)));
+            return Ok(Some(Parsed(Sequence::from_vec(read), end)));
         }
-        let Some((actual, more)) = next_actual(alloc, source, rest)? else {
+        let Some(Parsed(actual, more)) = next_actual(alloc, source, rest)? else {
             return Ok(None);
         };
         read.push(actual)?;
         rest = more;
     }
     match actuals_end(source, rest) {
-        Some(end) => Ok(Some((Sequence::from_vec(read), end))),
+        Some(end) => Ok(Some(Parsed(Sequence::from_vec(read), end))),
         None => Ok(None),
     }
 }
@@ -171,13 +168,13 @@ fn actuals_behind(
 ) -> Result<Option<Sequence<Actual>>, AllocError>
     ensures { IfOk result (λ found. found ≡ actuals_behind source.now tokens.now) }
 {
-    let Some((actual, rest)) = actual(alloc, source, tokens)? else {
+    let Some(Parsed(actual, rest)) = actual(alloc, source, tokens)? else {
         return Ok(None);
     };
     let mut first = Vec::new(alloc);
     first.push(actual)?;
     match further_actuals(alloc, source, first, rest)? {
-        Some((actuals, [])) => Ok(Some(actuals)),
+        Some(Parsed(actuals, [])) => Ok(Some(actuals)),
         _ => Ok(None),
     }
 }

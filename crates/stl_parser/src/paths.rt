@@ -6,20 +6,21 @@ ghost use Rattle.stl_parser.specs.Parts.{whole};
 
 use crate::keywords::{has_kind, is_mark};
 use crate::numbers::int;
+use crate::parsed::Parsed;
 use std::alloc::{AllocError, Global};
 use stl_ast::{Name, Operand, PathHead, PathStep, Sequence};
 use stl_lexer::{Mark, Token, TokenKind};
 
 /// `]` behind the index of a step.
 #[tactic(auto, unfolding(crate::specs::Operands::index_end))]
-fn index_end<'a>(source: &[u8], at: i32, tokens: &'a [Token]) -> Option<(PathStep, &'a [Token])>
-    ensures { option_map (λ r. (r.0, r.1.now)) result ≡ index_end source.now at tokens.now }
+fn index_end<'a>(source: &[u8], at: i32, tokens: &'a [Token]) -> Option<Parsed<'a, PathStep>>
+    ensures { result ≡ index_end source.now at tokens.now }
 {
     let [token, rest @ ..] = tokens else {
         return None;
     };
     if is_mark(source, token, Mark::CloseBracket) {
-        Some((PathStep::Index { at }, rest))
+        Some(Parsed(PathStep::Index { at }, rest))
     } else {
         None
     }
@@ -31,9 +32,8 @@ fn name_step<'a>(
     alloc: Global,
     source: &[u8],
     tokens: &'a [Token],
-) -> Result<Option<(PathStep, &'a [Token])>, AllocError>
-    ensures { IfOk result (λ found. option_map (λ r. (r.0, r.1.now)) found
-        ≡ name_step source.now tokens.now) }
+) -> Result<Option<Parsed<'a, PathStep>>, AllocError>
+    ensures { IfOk result (λ found. found ≡ name_step source.now tokens.now) }
 {
     let [token, rest @ ..] = tokens else {
         return Ok(None);
@@ -42,15 +42,15 @@ fn name_step<'a>(
         return Ok(None);
     }
     let name = Name::new(alloc, token.text(source))?;
-    Ok(Some((PathStep::Named { name }, rest)))
+    Ok(Some(Parsed(PathStep::Named { name }, rest)))
 }
 
 /// An index in brackets, behind its `[`.
-fn index_step<'a>(source: &[u8], tokens: &'a [Token]) -> Option<(PathStep, &'a [Token])>
-    ensures { option_map (λ r. (r.0, r.1.now)) result
+fn index_step<'a>(source: &[u8], tokens: &'a [Token]) -> Option<Parsed<'a, PathStep>>
+    ensures { result
         ≡ option_and_then (λ r. index_end source.now r.0 r.1) (int_at source.now tokens.now) }
 {
-    let (at, rest) = int(source, tokens)?;
+    let Parsed(at, rest) = int(source, tokens)?;
     index_end(source, at, rest)
 }
 
@@ -60,9 +60,8 @@ fn step<'a>(
     alloc: Global,
     source: &[u8],
     tokens: &'a [Token],
-) -> Result<Option<(PathStep, &'a [Token])>, AllocError>
-    ensures { IfOk result (λ found. option_map (λ r. (r.0, r.1.now)) found
-        ≡ step_at source.now tokens.now) }
+) -> Result<Option<Parsed<'a, PathStep>>, AllocError>
+    ensures { IfOk result (λ found. found ≡ step_at source.now tokens.now) }
 {
     let [token, rest @ ..] = tokens else {
         return Ok(None);
@@ -100,24 +99,23 @@ pub(crate) fn steps<'a>(
     source: &[u8],
     first: Vec<PathStep>,
     tokens: &'a [Token],
-) -> Result<Option<(Sequence<PathStep>, &'a [Token])>, AllocError>
-    ensures { IfOk result (λ found. option_map (λ r. (r.0, r.1.now)) found
-        ≡ steps_from source.now first.items tokens.now) }
+) -> Result<Option<Parsed<'a, Sequence<PathStep>>>, AllocError>
+    ensures { IfOk result (λ found. found ≡ steps_from source.now first.items tokens.now) }
 {
     let mut read = first;
     let mut rest = tokens;
     for _done in 0..tokens.len() {
         if let Some(end) = path_end(source, rest) {
-            return Ok(Some((Sequence::from_vec(read), end)));
+            return Ok(Some(Parsed(Sequence::from_vec(read), end)));
         }
-        let Some((step, more)) = step(alloc, source, rest)? else {
+        let Some(Parsed(step, more)) = step(alloc, source, rest)? else {
             return Ok(None);
         };
         read.push(step)?;
         rest = more;
     }
     match path_end(source, rest) {
-        Some(end) => Ok(Some((Sequence::from_vec(read), end))),
+        Some(end) => Ok(Some(Parsed(Sequence::from_vec(read), end))),
         None => Ok(None),
     }
 }
@@ -129,11 +127,10 @@ pub(crate) fn all_steps(
     first: Vec<PathStep>,
     tokens: &[Token],
 ) -> Result<Option<Sequence<PathStep>>, AllocError>
-    ensures { IfOk result (λ found. found
-        ≡ whole (steps_from source.now first.items tokens.now)) }
+    ensures { IfOk result (λ found. found ≡ whole (steps_from source.now first.items tokens.now)) }
 {
     match steps(alloc, source, first, tokens)? {
-        Some((steps, [])) => Ok(Some(steps)),
+        Some(Parsed(steps, [])) => Ok(Some(steps)),
         _ => Ok(None),
     }
 }

@@ -21,6 +21,7 @@ ghost use Rattle.stl_parser.specs.Operands.{
 use crate::addresses::{address, bit};
 use crate::keywords::{Key, has_kind, is_key, is_mark};
 use crate::numbers::number;
+use crate::parsed::ParsedNumbered;
 use crate::tables::Address;
 use plc_base::Width;
 use stl_ast::{Letters, Numbered, Operand};
@@ -167,7 +168,7 @@ fn memory_pointer(source: &[u8], pointer: bool, tokens: &[Token]) -> Option<(Let
     if !is_mark(source, open, Mark::OpenBracket) {
         return None;
     }
-    let (address, byte, rest) = address(source, rest)?;
+    let ParsedNumbered(address, byte, rest) = address(source, rest)?;
     pointer_end(source, pointer, address, byte, rest)
 }
 
@@ -250,7 +251,7 @@ fn address_pointer(source: &[u8], tokens: &[Token]) -> Option<Operand>
     ensures { result ≡ option_and_then
         (λ r. area_pointer source.now r.0 r.1 r.2) (address_at source.now tokens.now) }
 {
-    let (address, byte, rest) = address(source, tokens)?;
+    let ParsedNumbered(address, byte, rest) = address(source, tokens)?;
     area_pointer(source, address, byte, rest)
 }
 

@@ -1,7 +1,7 @@
 ghost use Rattle.std.specs.Prelude.{◌≡◌, ◌≤◌, ◌*◌, length, IfOk, IfErr};
 ghost use Rattle.stl_ast.specs.Sizes.{tree_size};
 ghost use Rattle.stl_ast.specs.WellFormed.{IsWellFormed};
-ghost use Rattle.stl_parser.specs.Lines.{LinesRise};
+ghost use Rattle.stl_parser.specs.Lines.{LinesRise, LinesRiseAcross};
 ghost use Rattle.stl_parser.specs.Source.{
   last_line,
   IsTree,
@@ -48,9 +48,11 @@ pub fn law_of_clauses()
     ensures tree_or_violation { TreeExcludesViolation }
 {}
 
-/// The lines of the statements of each block rise, and so does that of its END clause behind them.
+/// The lines of the statements of each block rise, and so does that of its END clause behind them;
+/// and they rise from block to block.
 pub fn law_of_lines()
-    ensures { LinesRise }
+    ensures within { LinesRise }
+    ensures across { LinesRiseAcross }
 {}
 
 /// The one tree of a source. It is well-formed, and the code of its statements takes at most four

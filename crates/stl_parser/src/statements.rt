@@ -30,7 +30,8 @@ use crate::literals::unquoted;
 use crate::lookups::{mnemonic_of, opening_mnemonic_of};
 use crate::operands::operand;
 use crate::parameters::actuals;
-use crate::tables::Form;
+use crate::parsed::Parsed;
+use crate::tables::OperandSyntax;
 use std::alloc::{AllocError, Global};
 use stl_ast::{Actual, BlockName, Mnemonic, Name, Operand, Sequence, Statement};
 use stl_lexer::{Mark, Token, TokenKind};
@@ -73,15 +74,14 @@ fn data_block<'a>(
     alloc: Global,
     source: &[u8],
     tokens: &'a [Token],
-) -> Result<Option<(BlockName, &'a [Token])>, AllocError>
-    ensures { IfOk result (λ found. option_map (λ r. (r.0, r.1.now)) found
-        ≡ data_block_at source.now tokens.now) }
+) -> Result<Option<Parsed<'a, BlockName>>, AllocError>
+    ensures { IfOk result (λ found. found ≡ data_block_at source.now tokens.now) }
 {
-    let Some((name, rest)) = block(alloc, source, tokens)? else {
+    let Some(Parsed(name, rest)) = block(alloc, source, tokens)? else {
         return Ok(None);
     };
     if may_be_db(&name) {
-        Ok(Some((name, rest)))
+        Ok(Some(Parsed(name, rest)))
     } else {
         Ok(None)
     }
@@ -94,23 +94,22 @@ fn instance<'a>(
     source: &[u8],
     name: &BlockName,
     tokens: &'a [Token],
-) -> Result<Option<(Option<BlockName>, &'a [Token])>, AllocError>
-    ensures { IfOk result (λ found. option_map (λ r. (r.0, r.1.now)) found
-        ≡ instance_at source.now name.now tokens.now) }
+) -> Result<Option<Parsed<'a, Option<BlockName>>>, AllocError>
+    ensures { IfOk result (λ found. found ≡ instance_at source.now name.now tokens.now) }
 {
     let [token, rest @ ..] = tokens else {
-        return Ok(Some((None, tokens)));
+        return Ok(Some(Parsed(None, tokens)));
     };
     if !is_mark(source, token, Mark::Comma) {
-        return Ok(Some((None, tokens)));
+        return Ok(Some(Parsed(None, tokens)));
     }
     if !may_be_fb(name) {
         return Ok(None);
     }
-    let Some((instance, rest)) = data_block(alloc, source, rest)? else {
+    let Some(Parsed(instance, rest)) = data_block(alloc, source, rest)? else {
         return Ok(None);
     };
-    Ok(Some((Some(instance), rest)))
+    Ok(Some(Parsed(Some(instance), rest)))
 }
 
 /// An instruction without actual parameters and without a label that is too long.
@@ -135,10 +134,10 @@ fn call(
 ) -> Result<Option<BareStatement>, AllocError>
     ensures { IfOk result (λ found. found ≡ call_of source.now code tokens.now) }
 {
-    let Some((name, rest)) = block(alloc, source, tokens)? else {
+    let Some(Parsed(name, rest)) = block(alloc, source, tokens)? else {
         return Ok(None);
     };
-    let Some((instance, rest)) = instance(alloc, source, &name, rest)? else {
+    let Some(Parsed(instance, rest)) = instance(alloc, source, &name, rest)? else {
         return Ok(None);
     };
     let Some(actuals) = actuals(alloc, source, rest)? else {
@@ -164,7 +163,7 @@ fn block_call(
     ensures { IfOk result (λ found. found ≡ block_call_of source.now code tokens.now) }
 {
     match block(alloc, source, tokens)? {
-        Some((name, [])) => {
+        Some(Parsed(name, [])) => {
             let operand = Operand::Called {
                 name,
                 instance: None,
@@ -251,18 +250,18 @@ fn open(
 fn behind_word(
     alloc: Global,
     source: &[u8],
-    form: Form,
+    form: OperandSyntax,
     code: Mnemonic,
     tokens: &[Token],
 ) -> Result<Option<BareStatement>, AllocError>
     ensures { IfOk result (λ found. found ≡ behind_word source.now form code tokens.now) }
 {
     match form {
-        Form::Operand => with_operand(alloc, source, code, tokens),
-        Form::Jump => jump(alloc, source, code, tokens),
-        Form::Open => open(alloc, source, code, tokens),
-        Form::BlockCall => block_call(alloc, source, code, tokens),
-        Form::Call => call(alloc, source, code, tokens),
+        OperandSyntax::Operand => with_operand(alloc, source, code, tokens),
+        OperandSyntax::Jump => jump(alloc, source, code, tokens),
+        OperandSyntax::Open => open(alloc, source, code, tokens),
+        OperandSyntax::BlockCall => block_call(alloc, source, code, tokens),
+        OperandSyntax::Call => call(alloc, source, code, tokens),
     }
 }
 

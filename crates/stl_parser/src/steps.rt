@@ -4,7 +4,7 @@ ghost use Rattle.stl_parser.specs.Clauses.{level_at};
 ghost use Rattle.stl_parser.specs.Frame.{follow};
 ghost use Rattle.stl_parser.specs.Source.{step_of, place_of, is_outside, IsBrokenAt};
 
-use crate::clauses::{Clause, clause_at};
+use crate::clauses::{Clause, ReadClause, clause_at};
 use crate::frames::follow;
 use crate::places::ClausePlace;
 use plc_base::{Refusal, SourceFault};
@@ -60,14 +60,13 @@ pub(crate) fn next_clause<'a>(
 ) -> Result<(Clause, &'a [Token], ClausePlace), SourceFault>
     requires level { level_at at < 4294967295 }
     requires inside { tokens.now ≡ [] → is_outside at ≡ false }
-    ensures right { IfOk result (λ r. step_of source.now at tokens.now
-        ≡ Ok (r.0, r.1.now, r.2)) }
+    ensures right { IfOk result (λ r. step_of source.now at tokens.now ≡ Ok (r.0, r.1.now, r.2)) }
     ensures broken { IfErr result (IsBrokenAt source.now at tokens.now last) }
 {
     let [first, ..] = tokens else {
         return Err(refused(last, OPEN_BLOCK));
     };
-    let Some((clause, rest, is_long)) = clause_at(alloc, source, at, tokens)? else {
+    let Some(ReadClause(clause, rest, is_long)) = clause_at(alloc, source, at, tokens)? else {
         return Err(refused(first.line, NO_CLAUSE));
     };
     match place_behind(at, &clause, is_long) {

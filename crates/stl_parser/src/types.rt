@@ -28,6 +28,7 @@ use crate::keywords::{Key, has_kind, is_key, is_mark};
 use crate::literals::{literal, literal_at};
 use crate::lookups::simple_type_of;
 use crate::numbers::{int, number};
+use crate::parsed::Parsed;
 use plc_base::BlockKind;
 use std::alloc::{AllocError, Global};
 use stl_ast::{BlockName, Bounds, ElementType, Init, Literal, Sequence};
@@ -40,34 +41,33 @@ fn array_end<'a>(
     low: i32,
     high: i32,
     tokens: &'a [Token],
-) -> Option<(Bounds, &'a [Token])>
-    ensures { option_map (λ r. (r.0, r.1.now)) result
-        ≡ array_end source.now low high tokens.now }
+) -> Option<Parsed<'a, Bounds>>
+    ensures { result ≡ array_end source.now low high tokens.now }
 {
     let [close, of, rest @ ..] = tokens else {
         return None;
     };
     if is_mark(source, close, Mark::CloseBracket) && is_key(source, of, Key::Of) {
-        Some((Bounds { low, high }, rest))
+        Some(Parsed(Bounds { low, high }, rest))
     } else {
         None
     }
 }
 
 /// The upper bound and `] OF`, behind the `..`.
-fn array_rest<'a>(source: &[u8], low: i32, tokens: &'a [Token]) -> Option<(Bounds, &'a [Token])>
-    ensures { option_map (λ r. (r.0, r.1.now)) result
+fn array_rest<'a>(source: &[u8], low: i32, tokens: &'a [Token]) -> Option<Parsed<'a, Bounds>>
+    ensures { result
         ≡ option_and_then (λ r. array_end source.now low r.0 r.1)
         (int_at source.now tokens.now) }
 {
-    let (high, rest) = int(source, tokens)?;
+    let Parsed(high, rest) = int(source, tokens)?;
     array_end(source, low, high, rest)
 }
 
 /// `.. high ] OF` behind the lower bound.
 #[tactic(auto, unfolding(crate::specs::Types::array_high))]
-fn array_high<'a>(source: &[u8], low: i32, tokens: &'a [Token]) -> Option<(Bounds, &'a [Token])>
-    ensures { option_map (λ r. (r.0, r.1.now)) result ≡ array_high source.now low tokens.now }
+fn array_high<'a>(source: &[u8], low: i32, tokens: &'a [Token]) -> Option<Parsed<'a, Bounds>>
+    ensures { result ≡ array_high source.now low tokens.now }
 {
     let [dots, rest @ ..] = tokens else {
         return None;
@@ -80,18 +80,18 @@ fn array_high<'a>(source: &[u8], low: i32, tokens: &'a [Token]) -> Option<(Bound
 }
 
 /// The bounds of an array, behind its `[`.
-fn array_bounds<'a>(source: &[u8], tokens: &'a [Token]) -> Option<(Bounds, &'a [Token])>
-    ensures { option_map (λ r. (r.0, r.1.now)) result
+fn array_bounds<'a>(source: &[u8], tokens: &'a [Token]) -> Option<Parsed<'a, Bounds>>
+    ensures { result
         ≡ option_and_then (λ r. array_high source.now r.0 r.1) (int_at source.now tokens.now) }
 {
-    let (low, rest) = int(source, tokens)?;
+    let Parsed(low, rest) = int(source, tokens)?;
     array_high(source, low, rest)
 }
 
 /// `ARRAY [ low .. high ] OF`, and what follows.
 #[tactic(auto, unfolding(crate::specs::Types::array_at))]
-fn array<'a>(source: &[u8], tokens: &'a [Token]) -> Option<(Bounds, &'a [Token])>
-    ensures { option_map (λ r. (r.0, r.1.now)) result ≡ array_at source.now tokens.now }
+fn array<'a>(source: &[u8], tokens: &'a [Token]) -> Option<Parsed<'a, Bounds>>
+    ensures { result ≡ array_at source.now tokens.now }
 {
     let [array, open, rest @ ..] = tokens else {
         return None;
@@ -120,24 +120,23 @@ pub(crate) fn arrays<'a>(
     alloc: Global,
     source: &[u8],
     tokens: &'a [Token],
-) -> Result<Option<(Sequence<Bounds>, &'a [Token])>, AllocError>
-    ensures { IfOk result (λ found. option_map (λ r. (r.0, r.1.now)) found
-        ≡ arrays_at source.now tokens.now) }
+) -> Result<Option<Parsed<'a, Sequence<Bounds>>>, AllocError>
+    ensures { IfOk result (λ found. found ≡ arrays_at source.now tokens.now) }
 {
     let mut read = Vec::new(alloc);
     let mut rest = tokens;
     for _done in 0..tokens.len() {
         if let Some(end) = arrays_end(source, rest) {
-            return Ok(Some((Sequence::from_vec(read), end)));
+            return Ok(Some(Parsed(Sequence::from_vec(read), end)));
         }
-        let Some((bounds, more)) = array(source, rest) else {
+        let Some(Parsed(bounds, more)) = array(source, rest) else {
             return Ok(None);
         };
         read.push(bounds)?;
         rest = more;
     }
     match arrays_end(source, rest) {
-        Some(end) => Ok(Some((Sequence::from_vec(read), end))),
+        Some(end) => Ok(Some(Parsed(Sequence::from_vec(read), end))),
         None => Ok(None),
     }
 }
@@ -158,17 +157,17 @@ fn udt_name(name: BlockName) -> Option<BlockName>
 
 /// An elementary type or DATE_AND_TIME, and what follows.
 #[tactic(auto, unfolding(crate::specs::Types::simple_at))]
-fn simple<'a>(source: &[u8], token: &Token, rest: &'a [Token]) -> Option<(ElementType, &'a [Token])>
-    ensures { option_map (λ r. (r.0, r.1.now)) result ≡ simple_at source.now token.now rest.now }
+fn simple<'a>(source: &[u8], token: &Token, rest: &'a [Token]) -> Option<Parsed<'a, ElementType>>
+    ensures { result ≡ simple_at source.now token.now rest.now }
 {
     if !has_kind(token, TokenKind::Word) {
         return None;
     }
     if is_key(source, token, Key::DateAndTime) {
-        return Some((ElementType::DateAndTime, rest));
+        return Some(Parsed(ElementType::DateAndTime, rest));
     }
     let kind = simple_type_of(token.text(source))?;
-    Some((ElementType::Plain { kind }, rest))
+    Some(Parsed(ElementType::Plain { kind }, rest))
 }
 
 /// A user-defined data type, and what follows.
@@ -177,17 +176,16 @@ fn udt<'a>(
     alloc: Global,
     source: &[u8],
     tokens: &'a [Token],
-) -> Result<Option<(ElementType, &'a [Token])>, AllocError>
-    ensures { IfOk result (λ found. option_map (λ r. (r.0, r.1.now)) found
-        ≡ udt_at source.now tokens.now) }
+) -> Result<Option<Parsed<'a, ElementType>>, AllocError>
+    ensures { IfOk result (λ found. found ≡ udt_at source.now tokens.now) }
 {
-    let Some((name, rest)) = block(alloc, source, tokens)? else {
+    let Some(Parsed(name, rest)) = block(alloc, source, tokens)? else {
         return Ok(None);
     };
     let Some(name) = udt_name(name) else {
         return Ok(None);
     };
-    Ok(Some((ElementType::Udt { name }, rest)))
+    Ok(Some(Parsed(ElementType::Udt { name }, rest)))
 }
 
 /// An element type other than a structure, and what follows.
@@ -196,9 +194,8 @@ pub(crate) fn element<'a>(
     alloc: Global,
     source: &[u8],
     tokens: &'a [Token],
-) -> Result<Option<(ElementType, &'a [Token])>, AllocError>
-    ensures { IfOk result (λ found. option_map (λ r. (r.0, r.1.now)) found
-        ≡ element_at source.now tokens.now) }
+) -> Result<Option<Parsed<'a, ElementType>>, AllocError>
+    ensures { IfOk result (λ found. found ≡ element_at source.now tokens.now) }
 {
     let [token, rest @ ..] = tokens else {
         return Ok(None);
@@ -216,16 +213,15 @@ fn counted_end<'a>(
     count: u16,
     value: Literal,
     tokens: &'a [Token],
-) -> Option<(Init, &'a [Token])>
-    ensures { option_map (λ r. (r.0, r.1.now)) result
-        ≡ counted_end source.now count value tokens.now }
+) -> Option<Parsed<'a, Init>>
+    ensures { result ≡ counted_end source.now count value tokens.now }
 {
     let [token, rest @ ..] = tokens else {
         return None;
     };
     if is_mark(source, token, Mark::CloseParen) {
         let count = Some(count);
-        Some((Init { count, value }, rest))
+        Some(Parsed(Init { count, value }, rest))
     } else {
         None
     }
@@ -233,8 +229,8 @@ fn counted_end<'a>(
 
 /// `n (value)`, and what follows.
 #[tactic(auto, unfolding(crate::specs::Types::counted_at))]
-fn counted<'a>(source: &[u8], tokens: &'a [Token]) -> Option<(Init, &'a [Token])>
-    ensures { option_map (λ r. (r.0, r.1.now)) result ≡ counted_at source.now tokens.now }
+fn counted<'a>(source: &[u8], tokens: &'a [Token]) -> Option<Parsed<'a, Init>>
+    ensures { result ≡ counted_at source.now tokens.now }
 {
     let [token, open, rest @ ..] = tokens else {
         return None;
@@ -243,28 +239,28 @@ fn counted<'a>(source: &[u8], tokens: &'a [Token]) -> Option<(Init, &'a [Token])
         return None;
     }
     let count = number(source, token)?;
-    let (value, rest) = literal_at(source, rest)?;
+    let Parsed(value, rest) = literal_at(source, rest)?;
     counted_end(source, count, value, rest)
 }
 
 /// An initial value, `n (value)` or a value, and what follows.
 #[tactic(auto, unfolding(crate::specs::Types::init_at))]
-fn init<'a>(source: &[u8], tokens: &'a [Token]) -> Option<(Init, &'a [Token])>
-    ensures { option_map (λ r. (r.0, r.1.now)) result ≡ init_at source.now tokens.now }
+fn init<'a>(source: &[u8], tokens: &'a [Token]) -> Option<Parsed<'a, Init>>
+    ensures { result ≡ init_at source.now tokens.now }
 {
     match counted(source, tokens) {
         Some(found) => Some(found),
         None => {
-            let (value, rest) = literal_at(source, tokens)?;
-            Some((Init { count: None, value }, rest))
+            let Parsed(value, rest) = literal_at(source, tokens)?;
+            Some(Parsed(Init { count: None, value }, rest))
         }
     }
 }
 
 /// A further initial value, behind its comma.
 #[tactic(auto, unfolding(crate::specs::Types::next_init))]
-fn next_init<'a>(source: &[u8], tokens: &'a [Token]) -> Option<(Init, &'a [Token])>
-    ensures { option_map (λ r. (r.0, r.1.now)) result ≡ next_init source.now tokens.now }
+fn next_init<'a>(source: &[u8], tokens: &'a [Token]) -> Option<Parsed<'a, Init>>
+    ensures { result ≡ next_init source.now tokens.now }
 {
     let [token, rest @ ..] = tokens else {
         return None;
@@ -293,24 +289,24 @@ fn further_inits<'a>(
     source: &[u8],
     first: Vec<Init>,
     tokens: &'a [Token],
-) -> Result<Option<(Sequence<Init>, &'a [Token])>, AllocError>
-    ensures { IfOk result (λ found. option_map (λ r. (r.0, r.1.now)) found
+) -> Result<Option<Parsed<'a, Sequence<Init>>>, AllocError>
+    ensures { IfOk result (λ found. found
         ≡ parts_from at_end (next_init source.now) first.items (length tokens.now) tokens.now) }
 {
     let mut read = first;
     let mut rest = tokens;
     for _done in 0..tokens.len() {
         if let Some(end) = at_end(rest) {
-            return Ok(Some((Sequence::from_vec(read), end)));
+            return Ok(Some(Parsed(Sequence::from_vec(read), end)));
         }
-        let Some((init, more)) = next_init(source, rest) else {
+        let Some(Parsed(init, more)) = next_init(source, rest) else {
             return Ok(None);
         };
         read.push(init)?;
         rest = more;
     }
     match at_end(rest) {
-        Some(end) => Ok(Some((Sequence::from_vec(read), end))),
+        Some(end) => Ok(Some(Parsed(Sequence::from_vec(read), end))),
         None => Ok(None),
     }
 }
@@ -324,13 +320,13 @@ fn init_list(
 ) -> Result<Option<Sequence<Init>>, AllocError>
     ensures { IfOk result (λ found. found ≡ init_list source.now tokens.now) }
 {
-    let Some((init, rest)) = init(source, tokens) else {
+    let Some(Parsed(init, rest)) = init(source, tokens) else {
         return Ok(None);
     };
     let mut first = Vec::new(alloc);
     first.push(init)?;
     match further_inits(source, first, rest)? {
-        Some((inits, [])) => Ok(Some(inits)),
+        Some(Parsed(inits, [])) => Ok(Some(inits)),
         _ => Ok(None),
     }
 }
@@ -361,8 +357,7 @@ pub(crate) fn inits(
     element: &ElementType,
     tokens: &[Token],
 ) -> Result<Option<Sequence<Init>>, AllocError>
-    ensures { IfOk result (λ found. found
-        ≡ init_of source.now arrays.now element.now tokens.now) }
+    ensures { IfOk result (λ found. found ≡ init_of source.now arrays.now element.now tokens.now) }
 {
     match arrays {
         [_] => match element {

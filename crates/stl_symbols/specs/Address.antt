@@ -14,46 +14,55 @@ use Rattle.stl_symbols.specs.declared.addresses.Letters.{Letters}
 use Rattle.stl_symbols.specs.declared.addresses.Letters.TheVariants as letters
 use Rattle.stl_symbols.specs.declared.addresses.Address.{Address}
 use Rattle.stl_symbols.specs.declared.addresses.Address.TheVariants.{Names, NoSymbol}
+use Rattle.stl_symbols.specs.declared.languages.Language.{Language}
+use Rattle.stl_symbols.specs.declared.languages.Language.TheVariants.{English, German}
 use Rattle.stl_symbols.specs.declared.targets.Target.TheVariants.{Variable, Timer, Counter, Block}
 
--- the letters of addresses. A variable table, a system function block and a system data block give
--- no symbol
-unfoldable pub address_letters : List (List ℕ × Letters)
+-- the letters of addresses in English and in German, with what they stand for. A variable table, a
+-- system function block and a system data block give no symbol
+unfoldable pub address_letters : List (List ℕ × List ℕ × Letters)
 address_letters =
-    (codes "I", letters.Variable area.I Bit)
-    ∷ (codes "IB", letters.Variable area.I Byte)
-    ∷ (codes "IW", letters.Variable area.I Word)
-    ∷ (codes "ID", letters.Variable area.I Dword)
-    ∷ (codes "Q", letters.Variable area.Q Bit)
-    ∷ (codes "QB", letters.Variable area.Q Byte)
-    ∷ (codes "QW", letters.Variable area.Q Word)
-    ∷ (codes "QD", letters.Variable area.Q Dword)
-    ∷ (codes "M", letters.Variable area.M Bit)
-    ∷ (codes "MB", letters.Variable area.M Byte)
-    ∷ (codes "MW", letters.Variable area.M Word)
-    ∷ (codes "MD", letters.Variable area.M Dword)
-    ∷ (codes "PIB", letters.Variable area.P Byte)
-    ∷ (codes "PIW", letters.Variable area.P Word)
-    ∷ (codes "PID", letters.Variable area.P Dword)
-    ∷ (codes "PQB", letters.Variable area.P Byte)
-    ∷ (codes "PQW", letters.Variable area.P Word)
-    ∷ (codes "PQD", letters.Variable area.P Dword)
-    ∷ (codes "T", letters.Timer)
-    ∷ (codes "C", letters.Counter)
-    ∷ (codes "OB", letters.Block Ob)
-    ∷ (codes "FB", letters.Block Fb)
-    ∷ (codes "FC", letters.Block Fc)
-    ∷ (codes "SFC", letters.Block Sfc)
-    ∷ (codes "DB", letters.Block Db)
-    ∷ (codes "UDT", letters.Block Udt)
-    ∷ (codes "VAT", letters.NoSymbol)
-    ∷ (codes "SFB", letters.NoSymbol)
-    ∷ (codes "SDB", letters.NoSymbol)
+    (codes "I", codes "E", letters.Variable area.I Bit)
+    ∷ (codes "IB", codes "EB", letters.Variable area.I Byte)
+    ∷ (codes "IW", codes "EW", letters.Variable area.I Word)
+    ∷ (codes "ID", codes "ED", letters.Variable area.I Dword)
+    ∷ (codes "Q", codes "A", letters.Variable area.Q Bit)
+    ∷ (codes "QB", codes "AB", letters.Variable area.Q Byte)
+    ∷ (codes "QW", codes "AW", letters.Variable area.Q Word)
+    ∷ (codes "QD", codes "AD", letters.Variable area.Q Dword)
+    ∷ (codes "M", codes "M", letters.Variable area.M Bit)
+    ∷ (codes "MB", codes "MB", letters.Variable area.M Byte)
+    ∷ (codes "MW", codes "MW", letters.Variable area.M Word)
+    ∷ (codes "MD", codes "MD", letters.Variable area.M Dword)
+    ∷ (codes "PIB", codes "PEB", letters.Variable area.P Byte)
+    ∷ (codes "PIW", codes "PEW", letters.Variable area.P Word)
+    ∷ (codes "PID", codes "PED", letters.Variable area.P Dword)
+    ∷ (codes "PQB", codes "PAB", letters.Variable area.P Byte)
+    ∷ (codes "PQW", codes "PAW", letters.Variable area.P Word)
+    ∷ (codes "PQD", codes "PAD", letters.Variable area.P Dword)
+    ∷ (codes "T", codes "T", letters.Timer)
+    ∷ (codes "C", codes "Z", letters.Counter)
+    ∷ (codes "OB", codes "OB", letters.Block Ob)
+    ∷ (codes "FB", codes "FB", letters.Block Fb)
+    ∷ (codes "FC", codes "FC", letters.Block Fc)
+    ∷ (codes "SFC", codes "SFC", letters.Block Sfc)
+    ∷ (codes "DB", codes "DB", letters.Block Db)
+    ∷ (codes "UDT", codes "UDT", letters.Block Udt)
+    ∷ (codes "VAT", codes "VAT", letters.NoSymbol)
+    ∷ (codes "SFB", codes "SFB", letters.NoSymbol)
+    ∷ (codes "SDB", codes "SDB", letters.NoSymbol)
     ∷ []
 
 -- what stands beside the first text of a table that is this word
-unfoldable pub look_up : {X : Type 0} → List (List ℕ × X) → List ℕ → Option X
-look_up table word = option_map (λ e. e.1) (find (λ e. bytes_eq word e.0) table)
+-- the letters as a language spells them
+abbrev pub spelled : Language → (english german : List ℕ) → List ℕ
+spelled English english german = english
+spelled German english german = german
+
+-- what stands beside the first letters of a table that a language spells as this word
+unfoldable pub look_up : Language → List (List ℕ × List ℕ × Letters) → List ℕ → Option Letters
+look_up language table word =
+    option_map (λ e. e.2) (find (λ e. bytes_eq word (spelled language e.0 e.1)) table)
 
 -- the number of an address, 0 to 65,535
 abbrev pub number_of : List ℕ → Option ℕ
@@ -88,12 +97,12 @@ numbered (letters.Block kind) text =
     option_map (λ n. Names (Block (record { kind = kind; number = n }))) (number_of text)
 numbered letters.NoSymbol text = option_map (λ n. NoSymbol) (number_of text)
 
--- the address that a text without blanks is
-unfoldable pub address_of : List ℕ → Option Address
-address_of text =
+-- the address that a text without blanks is in a language
+unfoldable pub address_of : Language → List ℕ → Option Address
+address_of language text =
     let digits = prefix_len (λ b. not (is_ascii_digit b)) text in
     option_and_then (λ l. numbered l (drop digits text))
-    (look_up address_letters (take digits text))
+    (look_up language address_letters (take digits text))
 
 -- the types of a variable, by its width
 unfoldable pub types_of : Width → List (List ℕ)

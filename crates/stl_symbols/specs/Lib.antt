@@ -1,5 +1,6 @@
 pub mod Address
 pub mod Fields
+pub mod Laws
 pub mod Line
 pub mod Names
 pub mod Numbers

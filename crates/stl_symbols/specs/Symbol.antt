@@ -1,7 +1,14 @@
 -- A symbol: a name for a variable, a timer, a counter or a block.
-use Rattle.std.specs.Prelude.{ℕ, List, Option, find}
+use Rattle.std.specs.Prelude.{◌≡◌, ◌≤◌, ◌-◌, ℕ, Bool, true, false, List, length, slice_index, Option, find}
 use Rattle.plc_base.specs.Folding.{is_same_name}
+use Rattle.plc_base.specs.Texts.{is_blank}
+use Rattle.plc_base.specs.declared.places.Area.{Area}
+use Rattle.plc_base.specs.declared.places.Area.TheVariants as area
+use Rattle.plc_base.specs.declared.places.Place.{Place}
+use Rattle.plc_base.specs.declared.places.Width.{Width}
+use Rattle.plc_base.specs.declared.places.Width.TheVariants.{Bit}
 use Rattle.stl_symbols.specs.declared.targets.Target.{Target}
+use Rattle.stl_symbols.specs.declared.targets.Target.TheVariants.{Variable, Timer, Counter, Block}
 
 -- a symbol: its name, and what it names
 pub record Symbol : Type 0 where
@@ -11,3 +18,37 @@ pub record Symbol : Type 0 where
 -- the first symbol of a name
 unfoldable pub symbol_named : List ℕ → List Symbol → Option Symbol
 symbol_named name symbols = find (λ symbol. is_same_name name symbol.name) symbols
+
+-- the areas that have symbols
+abbrev pub has_symbols : Area → Bool
+has_symbols area.I = true
+has_symbols area.Q = true
+has_symbols area.M = true
+has_symbols area.P = true
+has_symbols other = false
+
+-- a bit of its byte where the width is a bit, else bit 0
+abbrev pub IsFirstBit : Width → ℕ → Type 0
+IsFirstBit Bit bit = bit ≤ 7
+IsFirstBit width bit = bit ≡ 0
+
+-- a variable that an address names
+pub record IsVariable (place : Place) (width : Width) : Type 0 where
+  pub area : has_symbols place.area ≡ true
+  pub number : place.number ≡ 0
+  pub byte : place.byte ≤ 65535
+  pub bit : IsFirstBit width place.bit
+
+-- what an address names
+abbrev pub IsTarget : Target → Type 0
+IsTarget (Variable place width) = IsVariable place width
+IsTarget (Timer number) = number ≤ 65535
+IsTarget (Counter number) = number ≤ 65535
+IsTarget (Block id) = id.number ≤ 65535
+
+-- a symbol that a line declares: its name has one to 24 bytes, the last of which is no blank
+pub record IsSymbol (s : Symbol) : Type 0 where
+  pub some : 1 ≤ length s.name
+  pub short : length s.name ≤ 24
+  pub ends : is_blank (slice_index s.name (length s.name - 1)) ≡ false
+  pub target : IsTarget s.target

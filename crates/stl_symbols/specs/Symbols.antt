@@ -13,6 +13,8 @@ use Rattle.stl_symbols.specs.Line.{Columns, columns}
 use Rattle.stl_symbols.specs.Symbol.{Symbol, symbol_named}
 use Rattle.stl_symbols.specs.declared.addresses.Address.{Address}
 use Rattle.stl_symbols.specs.declared.addresses.Address.TheVariants.{Names, NoSymbol}
+use Rattle.stl_symbols.specs.declared.languages.Language.{Language}
+use Rattle.stl_symbols.specs.declared.languages.Language.TheVariants.{English}
 
 -- a symbols file has at most so many bytes
 abbrev pub symbols_limit : ℕ
@@ -39,19 +41,19 @@ abbrev pub declared : List ℕ → Address → Option Symbol
 declared name (Names target) = Some (record { name = name; target = target })
 declared name NoSymbol = None
 
--- the declaration of three columns, if name, address and type are right
-abbrev pub declaration : (name address kind : List ℕ) → Option (Option Symbol)
-declaration name address kind =
+-- the declaration of three columns, the address in a language, if name, address and type are right
+abbrev pub declaration : Language → (name address kind : List ℕ) → Option (Option Symbol)
+declaration language name address kind =
     if is_name name
     then option_and_then (λ a. if has_type a kind then Some (declared name a) else None)
-    (address_of address)
+    (address_of language address)
     else None
 
 -- the same of the columns of a line: blanks and tabs at the end of name and type are dropped, and
 -- all those of the address
-unfoldable pub declaration_of : Columns → Option (Option Symbol)
-declaration_of line =
-    declaration (without_last_blanks line.name) (without_blanks line.address)
+unfoldable pub declaration_of : Language → Columns → Option (Option Symbol)
+declaration_of language line =
+    declaration language (without_last_blanks line.name) (without_blanks line.address)
     (without_last_blanks line.kind)
 
 -- the symbols with one more, or the rule that it breaks: 15 where there are too many, 16 where its
@@ -70,14 +72,15 @@ with_declaration symbols (Some None) = Ok symbols
 with_declaration symbols (Some (Some symbol)) = with_symbol symbols symbol
 
 -- the same, and 14 where the line isn't one record of four fields
-abbrev pub with_columns : List Symbol → Option Columns → Result (List Symbol) ℕ
-with_columns symbols None = Err 14
-with_columns symbols (Some line) = with_declaration symbols (declaration_of line)
+abbrev pub with_columns : Language → List Symbol → Option Columns → Result (List Symbol) ℕ
+with_columns language symbols None = Err 14
+with_columns language symbols (Some line) =
+    with_declaration symbols (declaration_of language line)
 
 -- the same of a line; an empty one declares nothing
-unfoldable pub with_line : List Symbol → List ℕ → Result (List Symbol) ℕ
-with_line symbols [] = Ok symbols
-with_line symbols (byte ∷ line) = with_columns symbols (columns (byte ∷ line))
+unfoldable pub with_line : Language → List Symbol → List ℕ → Result (List Symbol) ℕ
+with_line language symbols [] = Ok symbols
+with_line language symbols (byte ∷ line) = with_columns language symbols (columns (byte ∷ line))
 
 -- what the lines behind one with this number make of the symbols up to it, or its refusal
 abbrev pub and_then_lines : (number : ℕ) → (more : List Symbol → Result (List Symbol) Refusal)
@@ -87,16 +90,21 @@ and_then_lines number more (Err rule) = Err (record { line = number; rule = rule
 
 -- the symbols with those of lines from this number on, or the refusal of the first that breaks a
 -- rule
-unfoldable pub with_lines : (number : ℕ) → List Symbol → (left : List (List ℕ))
+unfoldable pub with_lines : Language → (number : ℕ) → List Symbol → (left : List (List ℕ))
     → Result (List Symbol) Refusal
-with_lines number symbols [] = Ok symbols
-with_lines number symbols (line ∷ more) =
-    and_then_lines number (λ next. with_lines (number + 1) next more) (with_line symbols line)
+with_lines language number symbols [] = Ok symbols
+with_lines language number symbols (line ∷ more) =
+    and_then_lines number (λ next. with_lines language (number + 1) next more)
+    (with_line language symbols line)
 
--- the symbols of a file, or its refusal: the first line that breaks a rule, and the least that it
--- breaks
-unfoldable pub symbols_of : List ℕ → Result (List Symbol) Refusal
-symbols_of bytes = with_lines 1 [] (lines bytes)
+-- the symbols of a file with addresses in a language, or its refusal: the first line that breaks a
+-- rule, and the least that it breaks
+unfoldable pub symbols_in : Language → List ℕ → Result (List Symbol) Refusal
+symbols_in language bytes = with_lines language 1 [] (lines bytes)
+
+-- the same in English
+abbrev pub symbols_of : List ℕ → Result (List Symbol) Refusal
+symbols_of bytes = symbols_in English bytes
 
 -- what a reader answers: the symbols, or the refusal, or that memory is wanting
 abbrev pub Reads : Result (List Symbol) Refusal → Result (List Symbol) SourceFault → Type 0

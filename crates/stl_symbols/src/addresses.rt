@@ -12,10 +12,12 @@ ghost use Rattle.stl_symbols.specs.Address.{
   look_up,
   number_of,
   numbered,
+  spelled,
   types_of,
   variable,
 };
 
+use crate::languages::Language;
 use crate::targets::Target;
 use plc_base::{Area, BlockId, BlockKind, Place, Width, decimal_up_to};
 
@@ -43,10 +45,11 @@ pub(crate) enum Address {
     NoSymbol,
 }
 
-/// The letters of addresses.
-pub static LETTERS: [(&[u8], Letters); 29] = [
+/// The letters of addresses in English and in German.
+pub static LETTERS: [(&[u8], &[u8], Letters); 29] = [
     (
         b"I",
+        b"E",
         Letters::Variable {
             area: Area::I,
             width: Width::Bit,
@@ -54,6 +57,7 @@ pub static LETTERS: [(&[u8], Letters); 29] = [
     ),
     (
         b"IB",
+        b"EB",
         Letters::Variable {
             area: Area::I,
             width: Width::Byte,
@@ -61,6 +65,7 @@ pub static LETTERS: [(&[u8], Letters); 29] = [
     ),
     (
         b"IW",
+        b"EW",
         Letters::Variable {
             area: Area::I,
             width: Width::Word,
@@ -68,6 +73,7 @@ pub static LETTERS: [(&[u8], Letters); 29] = [
     ),
     (
         b"ID",
+        b"ED",
         Letters::Variable {
             area: Area::I,
             width: Width::Dword,
@@ -75,6 +81,7 @@ pub static LETTERS: [(&[u8], Letters); 29] = [
     ),
     (
         b"Q",
+        b"A",
         Letters::Variable {
             area: Area::Q,
             width: Width::Bit,
@@ -82,6 +89,7 @@ pub static LETTERS: [(&[u8], Letters); 29] = [
     ),
     (
         b"QB",
+        b"AB",
         Letters::Variable {
             area: Area::Q,
             width: Width::Byte,
@@ -89,6 +97,7 @@ pub static LETTERS: [(&[u8], Letters); 29] = [
     ),
     (
         b"QW",
+        b"AW",
         Letters::Variable {
             area: Area::Q,
             width: Width::Word,
@@ -96,12 +105,14 @@ pub static LETTERS: [(&[u8], Letters); 29] = [
     ),
     (
         b"QD",
+        b"AD",
         Letters::Variable {
             area: Area::Q,
             width: Width::Dword,
         },
     ),
     (
+        b"M",
         b"M",
         Letters::Variable {
             area: Area::M,
@@ -110,12 +121,14 @@ pub static LETTERS: [(&[u8], Letters); 29] = [
     ),
     (
         b"MB",
+        b"MB",
         Letters::Variable {
             area: Area::M,
             width: Width::Byte,
         },
     ),
     (
+        b"MW",
         b"MW",
         Letters::Variable {
             area: Area::M,
@@ -124,6 +137,7 @@ pub static LETTERS: [(&[u8], Letters); 29] = [
     ),
     (
         b"MD",
+        b"MD",
         Letters::Variable {
             area: Area::M,
             width: Width::Dword,
@@ -131,6 +145,7 @@ pub static LETTERS: [(&[u8], Letters); 29] = [
     ),
     (
         b"PIB",
+        b"PEB",
         Letters::Variable {
             area: Area::P,
             width: Width::Byte,
@@ -138,6 +153,7 @@ pub static LETTERS: [(&[u8], Letters); 29] = [
     ),
     (
         b"PIW",
+        b"PEW",
         Letters::Variable {
             area: Area::P,
             width: Width::Word,
@@ -145,6 +161,7 @@ pub static LETTERS: [(&[u8], Letters); 29] = [
     ),
     (
         b"PID",
+        b"PED",
         Letters::Variable {
             area: Area::P,
             width: Width::Dword,
@@ -152,6 +169,7 @@ pub static LETTERS: [(&[u8], Letters); 29] = [
     ),
     (
         b"PQB",
+        b"PAB",
         Letters::Variable {
             area: Area::P,
             width: Width::Byte,
@@ -159,6 +177,7 @@ pub static LETTERS: [(&[u8], Letters); 29] = [
     ),
     (
         b"PQW",
+        b"PAW",
         Letters::Variable {
             area: Area::P,
             width: Width::Word,
@@ -166,14 +185,16 @@ pub static LETTERS: [(&[u8], Letters); 29] = [
     ),
     (
         b"PQD",
+        b"PAD",
         Letters::Variable {
             area: Area::P,
             width: Width::Dword,
         },
     ),
-    (b"T", Letters::Timer),
-    (b"C", Letters::Counter),
+    (b"T", b"T", Letters::Timer),
+    (b"C", b"Z", Letters::Counter),
     (
+        b"OB",
         b"OB",
         Letters::Block {
             kind: BlockKind::Ob,
@@ -181,11 +202,13 @@ pub static LETTERS: [(&[u8], Letters); 29] = [
     ),
     (
         b"FB",
+        b"FB",
         Letters::Block {
             kind: BlockKind::Fb,
         },
     ),
     (
+        b"FC",
         b"FC",
         Letters::Block {
             kind: BlockKind::Fc,
@@ -193,11 +216,13 @@ pub static LETTERS: [(&[u8], Letters); 29] = [
     ),
     (
         b"SFC",
+        b"SFC",
         Letters::Block {
             kind: BlockKind::Sfc,
         },
     ),
     (
+        b"DB",
         b"DB",
         Letters::Block {
             kind: BlockKind::Db,
@@ -205,39 +230,51 @@ pub static LETTERS: [(&[u8], Letters); 29] = [
     ),
     (
         b"UDT",
+        b"UDT",
         Letters::Block {
             kind: BlockKind::Udt,
         },
     ),
-    (b"VAT", Letters::NoSymbol),
-    (b"SFB", Letters::NoSymbol),
-    (b"SDB", Letters::NoSymbol),
+    (b"VAT", b"VAT", Letters::NoSymbol),
+    (b"SFB", b"SFB", Letters::NoSymbol),
+    (b"SDB", b"SDB", Letters::NoSymbol),
 ];
 
-/// What stands beside a text in a table.
-fn entry_of(table: &[(&[u8], Letters)], word: &[u8]) -> Option<Letters>
-    ensures { result ≡ option_map (λ e. e.1) (find
-        (λ e. bytes_eq word.now e.0.now) table.now) }
+/// The letters as a language spells them.
+fn spelled<'a>(language: Language, english: &'a [u8], german: &'a [u8]) -> &'a [u8]
+    ensures { result.now ≡ spelled language english.now german.now }
+{
+    match language {
+        Language::English => english,
+        Language::German => german,
+    }
+}
+
+/// What stands beside letters in a table.
+fn entry_of(language: Language, table: &[(&[u8], &[u8], Letters)], word: &[u8]) -> Option<Letters>
+    ensures { result ≡ option_map (λ e. e.2) (find
+        (λ e. bytes_eq word.now (spelled language e.0.now e.1.now)) table.now) }
 {
     table
         .iter()
-        .find(|entry| word == entry.0)
-        .map(|entry| entry.1)
+        .find(|entry| word == spelled(language, entry.0, entry.1))
+        .map(|entry| entry.2)
 }
 
-/// The same, where the table is seen with its texts as bytes.
-fn look_up(table: &[(&[u8], Letters)], word: &[u8]) -> Option<Letters>
-    ensures { result ≡ look_up (map (λ e. (e.0.now, e.1)) table.now) word.now }
+/// The same, where the table is seen with its letters as bytes.
+fn look_up(language: Language, table: &[(&[u8], &[u8], Letters)], word: &[u8]) -> Option<Letters>
+    ensures { result
+        ≡ look_up language (map (λ e. (e.0.now, e.1.now, e.2)) table.now) word.now }
 {
-    entry_of(table, word)
+    entry_of(language, table, word)
 }
 
 /// What the letters of an address stand for.
 #[tactic(auto, unfolding(crate::specs::Address::address_letters))]
-fn letters_of(word: &[u8]) -> Option<Letters>
-    ensures { result ≡ look_up address_letters word.now }
+fn letters_of(language: Language, word: &[u8]) -> Option<Letters>
+    ensures { result ≡ look_up language address_letters word.now }
 {
-    look_up(&LETTERS, word)
+    look_up(language, &LETTERS, word)
 }
 
 /// The number of an address.
@@ -342,13 +379,13 @@ fn letters_len(text: &[u8]) -> usize
         .count()
 }
 
-/// The address that a text without blanks is.
+/// The address that a text without blanks is in a language.
 #[tactic(auto, unfolding(crate::specs::Address::address_of))]
-pub(crate) fn address_of(text: &[u8]) -> Option<Address>
-    ensures { result ≡ address_of text.now }
+pub(crate) fn address_of(language: Language, text: &[u8]) -> Option<Address>
+    ensures { result ≡ address_of language text.now }
 {
     let (letters, number) = text.split_at(letters_len(text));
-    numbered(letters_of(letters)?, number)
+    numbered(letters_of(language, letters)?, number)
 }
 
 /// Whether a text is one of these.

@@ -4,14 +4,18 @@
 mod addresses;
 mod columns;
 mod fields;
+mod languages;
+mod laws;
 mod names;
 mod numbers;
 mod reading;
 mod symbols;
 mod targets;
 
+pub use languages::Language;
+pub use laws::law_of_symbols;
 pub use names::Names;
 pub use numbers::Numbers;
-pub use reading::{SYMBOLS_LIMIT, read_symbols};
+pub use reading::{SYMBOLS_LIMIT, read_symbols, read_symbols_german};
 pub use symbols::{Symbol, Symbols};
 pub use targets::Target;

@@ -3,12 +3,14 @@ ghost use Rattle.std.specs.List.{suffix_len};
 ghost use Rattle.plc_base.specs.Texts.{is_blank};
 ghost use Rattle.plc_base.specs.declared.refusals.SourceFault.TheVariants.{Refused};
 ghost use Rattle.stl_symbols.specs.Line.{columns};
+ghost use Rattle.stl_symbols.specs.declared.languages.Language.TheVariants.{German};
 ghost use Rattle.stl_symbols.specs.Symbols.{
   Adds,
   Reads,
   declaration,
   declaration_of,
   is_name,
+  symbols_in,
   symbols_limit,
   symbols_of,
   with_columns,
@@ -21,6 +23,7 @@ ghost use Rattle.stl_symbols.specs.Symbols.{
 
 use crate::addresses::{Address, address_of, has_type};
 use crate::columns::{Columns, read_columns};
+use crate::languages::Language;
 use crate::symbols::{LONGEST_NAME, Symbol, Symbols};
 use plc_base::{Refusal, SourceFault, first_line, is_blank};
 use std::alloc::Global;
@@ -78,13 +81,18 @@ fn is_name(name: &[u8]) -> bool
 
 /// What a line with these columns, cut of their blanks, declares: a symbol, or nothing. `None`
 /// where name, address or type isn't right.
-fn declaration(name: Vec<u8>, address: &[u8], kind: &[u8]) -> Option<Option<Symbol>>
-    ensures { result ≡ declaration name.items address.now kind.now }
+fn declaration(
+    language: Language,
+    name: Vec<u8>,
+    address: &[u8],
+    kind: &[u8],
+) -> Option<Option<Symbol>>
+    ensures { result ≡ declaration language name.items address.now kind.now }
 {
     if !is_name(name.as_slice()) {
         return None;
     }
-    let address = address_of(address)?;
+    let address = address_of(language, address)?;
     if !has_type(address, kind) {
         return None;
     }
@@ -96,8 +104,8 @@ fn declaration(name: Vec<u8>, address: &[u8], kind: &[u8]) -> Option<Option<Symb
 
 /// What a line with these columns declares.
 #[tactic(auto, unfolding(crate::specs::Symbols::declaration_of))]
-fn declaration_of(columns: Columns) -> Option<Option<Symbol>>
-    ensures { result ≡ declaration_of columns }
+fn declaration_of(language: Language, columns: Columns) -> Option<Option<Symbol>>
+    ensures { result ≡ declaration_of language columns }
 {
     let Columns {
         name,
@@ -107,7 +115,7 @@ fn declaration_of(columns: Columns) -> Option<Option<Symbol>>
     let name = without_last_blanks(name);
     let address = without_blanks(address);
     let kind = without_last_blanks(kind);
-    declaration(name, address.as_slice(), kind.as_slice())
+    declaration(language, name, address.as_slice(), kind.as_slice())
 }
 
 /// The refusal of a line.
@@ -142,8 +150,14 @@ fn add_symbol(
 
 /// Adds what a line declares.
 #[tactic(auto, unfolding(crate::specs::Symbols::with_line), using(crate::proofs::ReadingLemmas::short_name))]
-fn add_line(symbols: &mut Symbols, alloc: Global, line: u32, text: &[u8]) -> Result<(), SourceFault>
-    ensures { Adds line (with_line symbols.old text.now) symbols.new result }
+fn add_line(
+    symbols: &mut Symbols,
+    alloc: Global,
+    language: Language,
+    line: u32,
+    text: &[u8],
+) -> Result<(), SourceFault>
+    ensures { Adds line (with_line language symbols.old text.now) symbols.new result }
 {
     if text.is_empty() {
         return Ok(());
@@ -151,7 +165,7 @@ fn add_line(symbols: &mut Symbols, alloc: Global, line: u32, text: &[u8]) -> Res
     let Some(columns) = read_columns(alloc, text)? else {
         return Err(refused(line, NO_RECORD));
     };
-    match declaration_of(columns) {
+    match declaration_of(language, columns) {
         None => Err(refused(line, NO_DECLARATION)),
         Some(None) => Ok(()),
         Some(Some(symbol)) => add_symbol(symbols, alloc, line, symbol),
@@ -160,24 +174,44 @@ fn add_line(symbols: &mut Symbols, alloc: Global, line: u32, text: &[u8]) -> Res
 
 /// Reads a symbols file of at most `SYMBOLS_LIMIT` bytes: each line by itself as CSV, with the
 /// name, the address and the type of a symbol and a comment.
-///
-/// # Errors
-///
-/// The first line that breaks rule 14, 15 or 16 and the least that it breaks, exactly where there
-/// is such a line; or want of memory.
-#[tactic(auto, unfolding(crate::specs::Symbols::symbols_of), using(crate::proofs::ReadingLemmas::line_added, crate::proofs::ReadingLemmas::line_refused, crate::proofs::ReadingLemmas::no_line))]
-pub fn read_symbols(alloc: Global, bytes: &[u8]) -> Result<Symbols, SourceFault>
+#[tactic(auto, unfolding(crate::specs::Symbols::symbols_in), using(crate::proofs::ReadingLemmas::line_added, crate::proofs::ReadingLemmas::line_refused, crate::proofs::ReadingLemmas::no_line))]
+fn symbols_in(alloc: Global, language: Language, bytes: &[u8]) -> Result<Symbols, SourceFault>
     requires { length bytes.now ≤ symbols_limit }
-    ensures { Reads (symbols_of bytes.now) result }
+    ensures { Reads (symbols_in language bytes.now) result }
 {
     let mut symbols = Symbols::new(alloc);
     let mut left = bytes;
     let mut number = 1;
     while !left.is_empty() {
         let (line, rest) = first_line(left);
-        add_line(&mut symbols, alloc, number, line)?;
+        add_line(&mut symbols, alloc, language, number, line)?;
         number += 1;
         left = rest;
     }
     Ok(symbols)
+}
+
+/// Reads a symbols file of at most `SYMBOLS_LIMIT` bytes.
+///
+/// # Errors
+///
+/// The first line that breaks rule 14, 15 or 16 and the least that it breaks, exactly where there
+/// is such a line; or want of memory.
+pub fn read_symbols(alloc: Global, bytes: &[u8]) -> Result<Symbols, SourceFault>
+    requires { length bytes.now ≤ symbols_limit }
+    ensures { Reads (symbols_of bytes.now) result }
+{
+    symbols_in(alloc, Language::English, bytes)
+}
+
+/// The same with German addresses, as `E 0.0`.
+///
+/// # Errors
+///
+/// Those of `read_symbols`.
+pub fn read_symbols_german(alloc: Global, bytes: &[u8]) -> Result<Symbols, SourceFault>
+    requires { length bytes.now ≤ symbols_limit }
+    ensures { Reads (symbols_in German bytes.now) result }
+{
+    symbols_in(alloc, Language::German, bytes)
 }

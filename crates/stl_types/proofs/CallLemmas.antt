@@ -12,7 +12,7 @@ use Rattle.plc_base.proofs.LeastLemmas.{least-append, lesser_assoc, lesser_nothi
 use Rattle.stl_types.specs.Joined.{broken_call, broken_statement, dates_of, in_statements, rules_of_calls, rules_of_jumps, rules_of_zones}
 use Rattle.stl_types.specs.Actuals.{formal_named}
 use Rattle.stl_types.specs.Calls.{by_callee, call_37, calls_unknown, has_wrong_instance, is_bare_call, lacks_actual, misfits, rule_24_of_actuals, rule_34, rule_35, rule_36, rule_37, rule_38, rule_40, rule_46, sees_date, supplied_twice, unnamed}
-use Rattle.stl_types.specs.Seen.{seen}
+use Rattle.stl_types.specs.Resolution.{seen}
 use Rattle.stl_types.specs.declared.parameters.Formal.{Formal}
 use Rattle.stl_types.specs.Context.{Context}
 use Rattle.stl_types.specs.Brackets.{rule_29, rule_30, rule_31}

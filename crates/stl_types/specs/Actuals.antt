@@ -14,14 +14,14 @@ use Rattle.plc_base.specs.Folding.{folded}
 use Rattle.block_layout.specs.Fits.{fits}
 use Rattle.block_layout.specs.Offsets.{width_of}
 use Rattle.stl_types.specs.Context.{Context}
-use Rattle.stl_types.specs.Seen.{seen}
+use Rattle.stl_types.specs.Resolution.{seen}
 use Rattle.stl_types.specs.declared.parameters.Formal.{Formal}
-use Rattle.stl_types.specs.declared.views.Seen.{Seen}
-use Rattle.stl_types.specs.declared.views.Seen.TheVariants.{Sees, Unknown, Rests}
+use Rattle.stl_types.specs.declared.views.Resolution.{Resolution}
+use Rattle.stl_types.specs.declared.views.Resolution.TheVariants.{Resolved, Unknown, Unjudged}
 use Rattle.stl_types.specs.declared.views.Side.{Side}
 use Rattle.stl_types.specs.declared.views.Side.TheVariants as side
-use Rattle.stl_types.specs.declared.views.View.{View}
-use Rattle.stl_types.specs.declared.views.View.TheVariants as view
+use Rattle.stl_types.specs.declared.views.ResolvedOperand.{ResolvedOperand}
+use Rattle.stl_types.specs.declared.views.ResolvedOperand.TheVariants as view
 
 -- the parameter of this name
 abbrev pub formal_named : List Formal → List ℕ → Option Formal
@@ -68,7 +68,7 @@ fits_type f w None = is_same_width w (width_of f.kind)
 fits_type f w (Some declared) = is_same_type declared f.kind
 
 -- what an actual parameter names fits a parameter
-unfoldable pub fits_view : Formal → View → Bool
+unfoldable pub fits_view : Formal → ResolvedOperand → Bool
 fits_view f (view.Direct place w side declared) =
     fits_type f w declared && takes_side f.section side
 fits_view f (view.Parameter index own declared) =
@@ -76,10 +76,10 @@ fits_view f (view.Parameter index own declared) =
 fits_view f _ = false
 
 -- an operand that isn't there or isn't checked breaks no further rule
-abbrev pub fits_seen : Formal → Seen → Bool
-fits_seen f (Sees v) = fits_view f v
+abbrev pub fits_seen : Formal → Resolution → Bool
+fits_seen f (Resolved v) = fits_view f v
 fits_seen f Unknown = true
-fits_seen f Rests = true
+fits_seen f Unjudged = true
 
 -- a constant fits an IN parameter by its type
 unfoldable pub fits_operand : Context → Formal → Operand → Bool

@@ -6,12 +6,12 @@ use Rattle.plc_base.specs.declared.places.Area.TheVariants as area
 use Rattle.plc_base.specs.declared.places.Width.{Width}
 use Rattle.stl_ast.specs.declared.operands.Letters.{Letters}
 use Rattle.stl_ast.specs.declared.operands.Letters.TheVariants as letters
-use Rattle.stl_types.specs.declared.views.Seen.{Seen}
-use Rattle.stl_types.specs.declared.views.Seen.TheVariants.{Sees, Rests}
+use Rattle.stl_types.specs.declared.views.Resolution.{Resolution}
+use Rattle.stl_types.specs.declared.views.Resolution.TheVariants.{Resolved, Unjudged}
 use Rattle.stl_types.specs.declared.views.Side.{Side}
 use Rattle.stl_types.specs.declared.views.Side.TheVariants as side
-use Rattle.stl_types.specs.declared.views.View.{View}
-use Rattle.stl_types.specs.declared.views.View.TheVariants as view
+use Rattle.stl_types.specs.declared.views.ResolvedOperand.{ResolvedOperand}
+use Rattle.stl_types.specs.declared.views.ResolvedOperand.TheVariants as view
 
 -- the area that letters name: PI and PQ are one
 abbrev pub area_of : Letters → Area
@@ -35,12 +35,12 @@ abbrev pub area_left : Option Letters → Option Area
 area_left a = option_map area_of a
 
 -- an address; `number` is that of the data block before it, else 0
-abbrev pub address : (number : ℕ) → Letters → Width → (byte bit : ℕ) → View
+abbrev pub address : (number : ℕ) → Letters → Width → (byte bit : ℕ) → ResolvedOperand
 address number a width byte bit =
     view.Direct (record { area = area_of a; number = number; byte = byte; bit = bit }) width
     (side_of a) None
 
 -- an address in a data block, where that doesn't break a rule itself
-abbrev pub address_in : Option ℕ → Letters → Width → (byte bit : ℕ) → Seen
-address_in None a width byte bit = Rests
-address_in (Some number) a width byte bit = Sees (address number a width byte bit)
+abbrev pub address_in : Option ℕ → Letters → Width → (byte bit : ℕ) → Resolution
+address_in None a width byte bit = Unjudged
+address_in (Some number) a width byte bit = Resolved (address number a width byte bit)

@@ -26,10 +26,10 @@ use Rattle.stl_types.specs.Bodies.{in_contexts}
 use Rattle.stl_types.specs.Context.{Context, whole_data_place}
 use Rattle.stl_types.specs.Kinds.{is_date}
 use Rattle.stl_types.specs.Parameters.{Callee, callee_of, system_formals}
-use Rattle.stl_types.specs.Seen.{seen}
+use Rattle.stl_types.specs.Resolution.{seen}
 use Rattle.stl_types.specs.declared.parameters.Formal.{Formal}
-use Rattle.stl_types.specs.declared.views.Seen.{Seen}
-use Rattle.stl_types.specs.declared.views.Seen.TheVariants.{Sees}
+use Rattle.stl_types.specs.declared.views.Resolution.{Resolution}
+use Rattle.stl_types.specs.declared.views.Resolution.TheVariants.{Resolved}
 
 -- what the calls of a body break, by the block that is called
 abbrev pub by_callee : (Callee → Statement → List Refusal) → Statement → Option Callee
@@ -110,8 +110,8 @@ unfoldable pub rule_37 : Context → List Block → List Refusal
 rule_37 c blocks = in_calls call_37 c blocks
 
 -- 24: a DATE_AND_TIME as an actual parameter, whatever is called
-abbrev pub sees_date : Seen → Bool
-sees_date (Sees v) = is_date v
+abbrev pub sees_date : Resolution → Bool
+sees_date (Resolved v) = is_date v
 sees_date _ = false
 
 -- the actual parameters of a body

@@ -3,8 +3,8 @@ use Rattle.std.specs.Prelude.{ℕ, ℤ, pos, negsuc, nat_le, Bool, true, false, 
 use Rattle.stl_ast.specs.declared.literals.Literal.{Literal}
 use Rattle.stl_ast.specs.declared.literals.Literal.TheVariants as literal
 use Rattle.block_layout.specs.Fits.{fits}
-use Rattle.stl_types.specs.declared.forms.Form.{Form}
-use Rattle.stl_types.specs.declared.forms.Form.TheVariants as form
+use Rattle.stl_types.specs.declared.forms.OperandRule.{OperandRule}
+use Rattle.stl_types.specs.declared.forms.OperandRule.TheVariants as form
 
 -- a number from 0 to a greatest one
 abbrev pub is_up_to : (most : ℕ) → ℤ → Bool
@@ -29,7 +29,7 @@ is_truth _ = false
 
 -- L takes each constant but TRUE and FALSE; NOP, BLD, INC, DEC and the shifts take a count; + takes a decimal number or
 -- L#; word logic takes what fits WORD or DWORD
-unfoldable pub takes_constant : Form → Literal → Bool
+unfoldable pub takes_constant : OperandRule → Literal → Bool
 takes_constant form.Loads value = not (is_truth value)
 takes_constant (form.Counts most) value = is_count most value
 takes_constant (form.Shifts most) value = is_count most value

@@ -13,7 +13,7 @@ use Rattle.stl_types.specs.Labels.{rule_26, rule_27}
 use Rattle.stl_types.specs.Landings.{rule_33}
 use Rattle.stl_types.specs.Lists.{rule_32}
 use Rattle.stl_types.specs.Parameters.{Callee, callee_of}
-use Rattle.stl_types.specs.Seen.{seen}
+use Rattle.stl_types.specs.Resolution.{seen}
 use Rattle.stl_types.specs.Zones.{rule_47, rule_48, rule_49}
 
 -- what each statement breaks by itself, in all bodies

@@ -9,21 +9,21 @@ use Rattle.plc_base.specs.declared.places.Width.TheVariants as width
 use Rattle.stl_ast.specs.declared.operands.Numbered.TheVariants as numbered
 use Rattle.block_layout.specs.Offsets.{width_of}
 use Rattle.stl_types.specs.declared.views.Register.TheVariants as register
-use Rattle.stl_types.specs.declared.views.View.{View}
-use Rattle.stl_types.specs.declared.views.View.TheVariants as view
+use Rattle.stl_types.specs.declared.views.ResolvedOperand.{ResolvedOperand}
+use Rattle.stl_types.specs.declared.views.ResolvedOperand.TheVariants as view
 
 -- no operand
-abbrev pub is_nothing : View → Bool
+abbrev pub is_nothing : ResolvedOperand → Bool
 is_nothing view.Nothing = true
 is_nothing _ = false
 
 -- a place with an address of its own
-abbrev pub is_direct : View → Bool
+abbrev pub is_direct : ResolvedOperand → Bool
 is_direct (view.Direct place width side declared) = true
 is_direct _ = false
 
 -- a place in memory: direct, a parameter of a function, or by a pointer
-abbrev pub is_in_memory : View → Bool
+abbrev pub is_in_memory : ResolvedOperand → Bool
 is_in_memory (view.Direct place width side declared) = true
 is_in_memory (view.Parameter index section declared) = true
 is_in_memory (view.ByMemory a width from byte) = true
@@ -31,74 +31,74 @@ is_in_memory (view.ByRegister a width register bits) = true
 is_in_memory _ = false
 
 -- a timer, also one whose number stands in memory
-abbrev pub is_timer : View → Bool
+abbrev pub is_timer : ResolvedOperand → Bool
 is_timer (view.Timer number) = true
 is_timer (view.NumberBy numbered.Timer from byte) = true
 is_timer _ = false
 
 -- a counter, also one whose number stands in memory
-abbrev pub is_counter : View → Bool
+abbrev pub is_counter : ResolvedOperand → Bool
 is_counter (view.Counter number) = true
 is_counter (view.NumberBy numbered.Counter from byte) = true
 is_counter _ = false
 
 -- a data block that is opened
-abbrev pub is_opened : View → Bool
+abbrev pub is_opened : ResolvedOperand → Bool
 is_opened (view.OpenBlock di number) = true
 is_opened (view.NumberBy numbered.Db from byte) = true
 is_opened (view.NumberBy numbered.Di from byte) = true
 is_opened _ = false
 
 -- a condition of the status word
-abbrev pub is_condition : View → Bool
+abbrev pub is_condition : ResolvedOperand → Bool
 is_condition (view.OfStatus flag) = true
 is_condition _ = false
 
 -- a pointer constant
-abbrev pub is_pointer : View → Bool
+abbrev pub is_pointer : ResolvedOperand → Bool
 is_pointer (view.Pointer a byte bit) = true
 is_pointer _ = false
 
 -- a label
-abbrev pub is_label : View → Bool
+abbrev pub is_label : ResolvedOperand → Bool
 is_label view.Label = true
 is_label _ = false
 
 -- STW
-abbrev pub is_status_word : View → Bool
+abbrev pub is_status_word : ResolvedOperand → Bool
 is_status_word (view.Register register.Stw) = true
 is_status_word _ = false
 
 -- AR2
-abbrev pub is_second_register : View → Bool
+abbrev pub is_second_register : ResolvedOperand → Bool
 is_second_register (view.Register register.Ar2) = true
 is_second_register _ = false
 
 -- a register that can be loaded: the status word, numbers and lengths of the open data blocks
-abbrev pub is_loaded : View → Bool
+abbrev pub is_loaded : ResolvedOperand → Bool
 is_loaded (view.Register register.Ar2) = false
 is_loaded (view.Register which) = true
 is_loaded _ = false
 
 -- a function, a function block or a system function; only a function block has an instance
-abbrev pub is_called : View → Bool
+abbrev pub is_called : ResolvedOperand → Bool
 is_called (view.Called id None) = is_callable id.kind
 is_called (view.Called id (Some instance)) = is_function_block id.kind
 is_called _ = false
 
 -- a structure, an array or a DATE_AND_TIME
-abbrev pub is_composite : View → Bool
+abbrev pub is_composite : ResolvedOperand → Bool
 is_composite view.Composite = true
 is_composite view.Date = true
 is_composite _ = false
 
 -- a DATE_AND_TIME
-abbrev pub is_date : View → Bool
+abbrev pub is_date : ResolvedOperand → Bool
 is_date view.Date = true
 is_date _ = false
 
 -- the width of a place in memory
-abbrev pub width_in : View → Option Width
+abbrev pub width_in : ResolvedOperand → Option Width
 width_in (view.Direct place width side declared) = Some width
 width_in (view.Parameter index section declared) = Some (width_of declared)
 width_in (view.ByMemory a width from byte) = Some width

@@ -1,7 +1,7 @@
 pub mod Context
 pub mod Addresses
 pub mod Variables
-pub mod Seen
+pub mod Resolution
 pub mod Forms
 pub mod Constants
 pub mod Kinds

@@ -14,17 +14,17 @@ use Rattle.stl_types.specs.Constants.{takes_constant}
 use Rattle.stl_types.specs.Context.{Context}
 use Rattle.stl_types.specs.Forms.{form_of}
 use Rattle.stl_types.specs.Kinds.{is_nothing, is_direct, is_in_memory, is_timer, is_counter, is_opened, is_condition, is_pointer, is_label, is_status_word, is_second_register, is_loaded, is_called, is_composite, is_date, width_in, is_bit, is_double_word, is_peripheral, is_peripheral_area}
-use Rattle.stl_types.specs.Seen.{seen}
-use Rattle.stl_types.specs.declared.forms.Form.{Form}
-use Rattle.stl_types.specs.declared.forms.Form.TheVariants as form
-use Rattle.stl_types.specs.declared.views.Seen.{Seen}
-use Rattle.stl_types.specs.declared.views.Seen.TheVariants.{Sees}
+use Rattle.stl_types.specs.Resolution.{seen}
+use Rattle.stl_types.specs.declared.forms.OperandRule.{OperandRule}
+use Rattle.stl_types.specs.declared.forms.OperandRule.TheVariants as form
+use Rattle.stl_types.specs.declared.views.Resolution.{Resolution}
+use Rattle.stl_types.specs.declared.views.Resolution.TheVariants.{Resolved}
 use Rattle.stl_types.specs.declared.views.Side.TheVariants as side
-use Rattle.stl_types.specs.declared.views.View.{View}
-use Rattle.stl_types.specs.declared.views.View.TheVariants as view
+use Rattle.stl_types.specs.declared.views.ResolvedOperand.{ResolvedOperand}
+use Rattle.stl_types.specs.declared.views.ResolvedOperand.TheVariants as view
 
 -- the operands but constants that a form takes, whatever their width
-unfoldable pub takes : Form → View → Bool
+unfoldable pub takes : OperandRule → ResolvedOperand → Bool
 takes form.Bare v = is_nothing v
 takes form.ReadsBit v = is_in_memory v || is_timer v || is_counter v || is_condition v
 takes form.ReadsBitOrBare v =
@@ -52,7 +52,7 @@ takes form.Calls v = is_called v
 takes form.Opens v = is_opened v
 
 -- what takes a place in memory, of whatever width
-unfoldable pub takes_places : Form → Bool
+unfoldable pub takes_places : OperandRule → Bool
 takes_places form.ReadsBit = true
 takes_places form.ReadsBitOrBare = true
 takes_places form.WritesBit = true
@@ -67,7 +67,7 @@ takes_places form.StoresAr2 = true
 takes_places _ = false
 
 -- bit instructions take a bit, L and T a byte, a word or a double word, those of address registers a double word
-unfoldable pub takes_width : Form → Option Width → Bool
+unfoldable pub takes_width : OperandRule → Option Width → Bool
 takes_width form.ReadsBit w = is_bit w
 takes_width form.ReadsBitOrBare w = is_bit w
 takes_width form.WritesBit w = is_bit w
@@ -82,12 +82,12 @@ takes_width form.StoresAr2 w = is_double_word w
 takes_width _ w = true
 
 -- only a place in memory has a width
-abbrev pub has_width : Form → Option Width → Bool
+abbrev pub has_width : OperandRule → Option Width → Bool
 has_width f None = true
 has_width f (Some w) = takes_width f (Some w)
 
 -- what writes its operand
-abbrev pub writes : Form → Bool
+abbrev pub writes : OperandRule → Bool
 writes form.WritesBit = true
 writes form.Sets = true
 writes form.Resets = true
@@ -97,7 +97,7 @@ writes form.StoresAr2 = true
 writes _ = false
 
 -- the peripheral area has inputs to read and outputs to write, and no pointer leads there by an area of its own
-abbrev pub is_on_wrong_side : Form → View → Bool
+abbrev pub is_on_wrong_side : OperandRule → ResolvedOperand → Bool
 is_on_wrong_side f (view.Direct place width side.Inputs declared) = writes f
 is_on_wrong_side f (view.Direct place width side.Outputs declared) = not (writes f)
 is_on_wrong_side f (view.ByMemory a width from byte) = is_peripheral a
@@ -105,16 +105,16 @@ is_on_wrong_side f (view.ByRegister a width register bits) = is_peripheral_area 
 is_on_wrong_side f _ = false
 
 -- an input parameter of a function
-abbrev pub is_input : View → Bool
+abbrev pub is_input : ResolvedOperand → Bool
 is_input (view.Parameter index part.Input declared) = true
 is_input _ = false
 
 -- a structure or an array has no width that fits, where the form takes places at all; a DATE_AND_TIME never has one
-abbrev pub composite_rule : Form → View → ℕ
+abbrev pub composite_rule : OperandRule → ResolvedOperand → ℕ
 composite_rule f v = if is_date v || takes_places f then 24 else 25
 
 -- the rule that an instruction breaks by its operand: of one that the form takes, the width comes before the side
-unfoldable pub rule_of : Form → View → Option ℕ
+unfoldable pub rule_of : OperandRule → ResolvedOperand → Option ℕ
 rule_of f v =
     if is_composite v then Some (composite_rule f v)
     else if not (takes f v) then Some 25
@@ -124,12 +124,12 @@ rule_of f v =
     else None
 
 -- the same of what an operand comes to; a constant is checked by itself, and nothing where the operand isn't seen
-abbrev pub rule_seen : Form → Seen → Option ℕ
-rule_seen f (Sees v) = rule_of f v
+abbrev pub rule_seen : OperandRule → Resolution → Option ℕ
+rule_seen f (Resolved v) = rule_of f v
 rule_seen f _ = None
 
 -- the rule that an operand breaks with an instruction of a form
-abbrev pub operand_rule : Context → Form → Operand → Option ℕ
+abbrev pub operand_rule : Context → OperandRule → Operand → Option ℕ
 operand_rule c f (operand.Constant value) = if takes_constant f value then None else Some 25
 operand_rule c f o = rule_seen f (seen c o)
 

@@ -4,16 +4,16 @@ use Rattle.std.specs.Option.{is_none}
 use Rattle.stl_ast.specs.declared.statements.Statement.{Statement}
 use Rattle.stl_types.specs.Context.{Context}
 use Rattle.stl_types.specs.Operands.{statement_rule}
-use Rattle.stl_types.specs.Seen.{seen}
-use Rattle.stl_types.specs.declared.views.Seen.{Seen}
-use Rattle.stl_types.specs.declared.views.Seen.TheVariants.{Sees}
-use Rattle.stl_types.specs.declared.views.View.{View}
+use Rattle.stl_types.specs.Resolution.{seen}
+use Rattle.stl_types.specs.declared.views.Resolution.{Resolution}
+use Rattle.stl_types.specs.declared.views.Resolution.TheVariants.{Resolved}
+use Rattle.stl_types.specs.declared.views.ResolvedOperand.{ResolvedOperand}
 
 -- what is seen, if something is
-abbrev pub seen_view : Seen → Option View
-seen_view (Sees v) = Some v
+abbrev pub seen_view : Resolution → Option ResolvedOperand
+seen_view (Resolved v) = Some v
 seen_view _ = None
 
 -- what the operand of a statement names, where its instruction takes it
-unfoldable pub resolved : Context → Statement → Option View
+unfoldable pub resolved : Context → Statement → Option ResolvedOperand
 resolved c s = if is_none (statement_rule c s) then seen_view (seen c s.operand) else None

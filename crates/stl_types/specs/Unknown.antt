@@ -8,16 +8,16 @@ use Rattle.block_layout.specs.Operands.{Judged, in_body}
 use Rattle.block_layout.specs.Paths.{folded_path, walked_data}
 use Rattle.block_layout.specs.Settings.{on_settings}
 use Rattle.block_layout.specs.declared.blocks.BlockLayout.{BlockLayout}
-use Rattle.block_layout.specs.declared.walks.Walk.{Walk}
-use Rattle.block_layout.specs.declared.walks.Walk.TheVariants as walk
+use Rattle.block_layout.specs.declared.walks.PathEnd.{PathEnd}
+use Rattle.block_layout.specs.declared.walks.PathEnd.TheVariants as walk
 use Rattle.stl_types.specs.Bodies.{in_contexts}
 use Rattle.stl_types.specs.Context.{Context}
-use Rattle.stl_types.specs.Seen.{seen}
-use Rattle.stl_types.specs.declared.views.Seen.{Seen}
-use Rattle.stl_types.specs.declared.views.Seen.TheVariants.{Unknown}
+use Rattle.stl_types.specs.Resolution.{seen}
+use Rattle.stl_types.specs.declared.views.Resolution.{Resolution}
+use Rattle.stl_types.specs.declared.views.Resolution.TheVariants.{Unknown}
 
 -- a name or a component that isn't there
-abbrev pub is_unknown : Seen → Bool
+abbrev pub is_unknown : Resolution → Bool
 is_unknown Unknown = true
 is_unknown _ = false
 
@@ -26,7 +26,7 @@ abbrev pub operand_20 : Context → Judged → List Refusal
 operand_20 c o = broken_if (is_unknown (seen c o.operand)) o.line 20
 
 -- a path to a component that isn't there
-abbrev pub leads_nowhere : Walk → Bool
+abbrev pub leads_nowhere : PathEnd → Bool
 leads_nowhere walk.Unknown = true
 leads_nowhere _ = false
 

@@ -14,30 +14,30 @@ use Rattle.block_layout.specs.Paths.{cells_at, elementary_at, walked_data, walke
 use Rattle.block_layout.specs.declared.cells.Cell.{Cell}
 use Rattle.block_layout.specs.declared.cells.Element.{Element}
 use Rattle.block_layout.specs.declared.cells.Element.TheVariants as element
-use Rattle.block_layout.specs.declared.walks.Spot.{Spot}
-use Rattle.block_layout.specs.declared.walks.Walk.{Walk}
-use Rattle.block_layout.specs.declared.walks.Walk.TheVariants as walk
+use Rattle.block_layout.specs.declared.walks.ComponentAt.{ComponentAt}
+use Rattle.block_layout.specs.declared.walks.PathEnd.{PathEnd}
+use Rattle.block_layout.specs.declared.walks.PathEnd.TheVariants as walk
 use Rattle.stl_types.specs.Context.{Context, data_place, data_number, in_function}
-use Rattle.stl_types.specs.declared.views.Seen.{Seen}
-use Rattle.stl_types.specs.declared.views.Seen.TheVariants.{Sees, Unknown, Rests}
+use Rattle.stl_types.specs.declared.views.Resolution.{Resolution}
+use Rattle.stl_types.specs.declared.views.Resolution.TheVariants.{Resolved, Unknown, Unjudged}
 use Rattle.stl_types.specs.declared.views.Side.TheVariants as side
-use Rattle.stl_types.specs.declared.views.View.{View}
-use Rattle.stl_types.specs.declared.views.View.TheVariants as view
+use Rattle.stl_types.specs.declared.views.ResolvedOperand.{ResolvedOperand}
+use Rattle.stl_types.specs.declared.views.ResolvedOperand.TheVariants as view
 
 -- what isn't elementary
-abbrev pub date_or_composite : Element → View
+abbrev pub date_or_composite : Element → ResolvedOperand
 date_or_composite element.DateAndTime = view.Date
 date_or_composite _ = view.Composite
 
 -- the same of the component at a spot
-abbrev pub composite : Option Cell → View
+abbrev pub composite : Option Cell → ResolvedOperand
 composite None = view.Composite
 composite (Some c) = date_or_composite c.of
 
 -- a variable in an area; none that is sound lies past the addresses
-abbrev pub in_area : Simple → Option (Place × Width) → Seen
-in_area kind None = Rests
-in_area kind (Some p) = Sees (view.Direct p.0 p.1 side.Both (Some kind))
+abbrev pub in_area : Simple → Option (Place × Width) → Resolution
+in_area kind None = Unjudged
+in_area kind (Some p) = Resolved (view.Direct p.0 p.1 side.Both (Some kind))
 
 -- the place of a parameter in a call: those declared in their order, and the return value, which is the first of the
 -- components, behind them
@@ -51,12 +51,12 @@ parameter_index count place None = place
 parameter_index count place (Some b) = behind_others count place b.result
 
 -- a parameter of a function, which is the component at this place
-abbrev pub parameter : (index : ℕ) → Simple → Option Cell → Seen
-parameter index kind None = Rests
-parameter index kind (Some c) = Sees (view.Parameter index c.section kind)
+abbrev pub parameter : (index : ℕ) → Simple → Option Cell → Resolution
+parameter index kind None = Unjudged
+parameter index kind (Some c) = Resolved (view.Parameter index c.section kind)
 
 -- a parameter of the function that has the body
-abbrev pub parameter_at : Context → Spot → Simple → Seen
+abbrev pub parameter_at : Context → ComponentAt → Simple → Resolution
 parameter_at c spot kind =
     parameter
     (parameter_index (length (cells_at c.layouts c.block false)) spot.place
@@ -70,48 +70,48 @@ is_temporary c name =
 
 -- a variable of the block: a temporary one lies in the local data, a parameter of a function is bound at its call, and
 -- each variable of a function block lies in the data block of the DI register
-abbrev pub own_elementary : Context → (temporary : Bool) → Spot → Simple → Seen
+abbrev pub own_elementary : Context → (temporary : Bool) → ComponentAt → Simple → Resolution
 own_elementary c temporary spot kind =
     if temporary then in_area kind (placed area.L 0 spot.offset (Some kind))
     else if in_function c then parameter_at c spot kind
     else in_area kind (placed area.Di 0 spot.offset (Some kind))
 
 -- the component at a spot in the block's own variables; of what isn't elementary no place is seen
-abbrev pub own_at : Context → (temporary : Bool) → Spot → Option Simple → Seen
+abbrev pub own_at : Context → (temporary : Bool) → ComponentAt → Option Simple → Resolution
 own_at c temporary spot None =
-    Sees (composite (slice_get (cells_at c.layouts spot.block spot.temporary) spot.place))
+    Resolved (composite (slice_get (cells_at c.layouts spot.block spot.temporary) spot.place))
 own_at c temporary spot (Some kind) = own_elementary c temporary spot kind
 
 -- and where a path in them leads, which may be unknown or rest on what breaks a rule itself
-abbrev pub own_walked : Context → (temporary : Bool) → Walk → Seen
+abbrev pub own_walked : Context → (temporary : Bool) → PathEnd → Resolution
 own_walked c temporary (walk.Reaches spot) =
     own_at c temporary spot (elementary_at c.layouts spot)
 own_walked c temporary walk.Unknown = Unknown
-own_walked c temporary walk.Rests = Rests
+own_walked c temporary walk.Rests = Unjudged
 
 -- a path into the block's own variables
-abbrev pub own_variable : Context → List ℕ → List PathStep → Seen
+abbrev pub own_variable : Context → List ℕ → List PathStep → Resolution
 own_variable c name steps =
     own_walked c (is_temporary c name) (walked_local c.layouts c.block name steps)
 
 -- a component of the data block with this number; of what isn't elementary no place is seen
-abbrev pub data_at : Context → (number : ℕ) → Spot → Option Simple → Seen
+abbrev pub data_at : Context → (number : ℕ) → ComponentAt → Option Simple → Resolution
 data_at c number spot None =
-    Sees (composite (slice_get (cells_at c.layouts spot.block spot.temporary) spot.place))
+    Resolved (composite (slice_get (cells_at c.layouts spot.block spot.temporary) spot.place))
 data_at c number spot (Some kind) = in_area kind (placed area.Db number spot.offset (Some kind))
 
 -- and where a path in it leads
-abbrev pub data_walked : Context → (number : ℕ) → Walk → Seen
+abbrev pub data_walked : Context → (number : ℕ) → PathEnd → Resolution
 data_walked c number (walk.Reaches spot) = data_at c number spot (elementary_at c.layouts spot)
 data_walked c number walk.Unknown = Unknown
-data_walked c number walk.Rests = Rests
+data_walked c number walk.Rests = Unjudged
 
 -- a path into the data block with this number, at this place
-abbrev pub data_path : Context → List PathStep → Option ℕ → Option ℕ → Seen
+abbrev pub data_path : Context → List PathStep → Option ℕ → Option ℕ → Resolution
 data_path c steps (Some number) (Some block) =
     data_walked c number (walked_data c.layouts block steps)
-data_path c steps _ _ = Rests
+data_path c steps _ _ = Unjudged
 
 -- a path into a data block, where that doesn't break a rule itself
-abbrev pub data_variable : Context → BlockName → List PathStep → Seen
+abbrev pub data_variable : Context → BlockName → List PathStep → Resolution
 data_variable c name steps = data_path c steps (data_number c name) (data_place c name)

@@ -11,7 +11,7 @@ ghost use Rattle.stl_types.specs.Actuals.{
 };
 
 use crate::parameters::Formal;
-use crate::views::{Side, View};
+use crate::views::{ResolvedOperand, Side};
 use block_layout::width_of;
 use plc_base::Width;
 use stl_ast::{PartKind, Simple};
@@ -80,17 +80,17 @@ fn fits_type(formal: &Formal, width: Width, declared: Option<Simple>) -> bool
 
 /// Whether what an actual parameter names fits a parameter.
 #[tactic(auto, unfolding(crate::specs::Actuals::fits_view))]
-pub(crate) fn fits_view(formal: &Formal, view: View) -> bool
+pub(crate) fn fits_view(formal: &Formal, view: ResolvedOperand) -> bool
     ensures { result ≡ fits_view formal.now view }
 {
     match view {
-        View::Direct {
+        ResolvedOperand::Direct {
             width,
             side,
             declared,
             ..
         } => fits_type(formal, width, declared) && takes_side(formal.section, side),
-        View::Parameter {
+        ResolvedOperand::Parameter {
             section,
             declared,
             ..

@@ -7,7 +7,7 @@ ghost use Rattle.stl_types.specs.Constants.{
   takes_constant,
 };
 
-use crate::forms::Form;
+use crate::forms::OperandRule;
 use block_layout::fits;
 use stl_ast::Literal;
 
@@ -40,15 +40,15 @@ fn is_truth(value: &Literal) -> bool
 
 /// Whether an instruction of a form takes a constant.
 #[tactic(auto, unfolding(crate::specs::Constants::takes_constant))]
-pub(crate) fn takes_constant(form: Form, value: &Literal) -> bool
+pub(crate) fn takes_constant(form: OperandRule, value: &Literal) -> bool
     ensures { result ≡ takes_constant form value.now }
 {
     match form {
-        Form::Loads => !is_truth(value),
-        Form::Counts { most } => is_count(most, value),
-        Form::Shifts { most } => is_count(most, value),
-        Form::Adds => is_added(value),
-        Form::Combines { of } => fits(value, of),
+        OperandRule::Loads => !is_truth(value),
+        OperandRule::Counts { most } => is_count(most, value),
+        OperandRule::Shifts { most } => is_count(most, value),
+        OperandRule::Adds => is_added(value),
+        OperandRule::Combines { of } => fits(value, of),
         _ => false,
     }
 }

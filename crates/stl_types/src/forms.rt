@@ -5,7 +5,7 @@ use stl_ast::{Mnemonic, Simple};
 
 /// The operands that an instruction takes; instructions of one form take the same ones.
 #[derive(Clone, Copy, Debug, PartialEq, Eq)]
-pub enum Form {
+pub enum OperandRule {
     /// No operand: the empty statement, `A(` to `)`, SET, `MCR(`, +I, BEU and many others.
     Bare,
     /// A, AN, ON, X, XN.
@@ -53,31 +53,32 @@ pub enum Form {
 
 /// The form of an instruction.
 #[tactic(auto, unfolding(crate::specs::Forms::form_of))]
-pub(crate) fn form_of(code: Mnemonic) -> Form
+pub(crate) fn form_of(code: Mnemonic) -> OperandRule
     ensures { result ≡ form_of code }
 {
     match code {
-        Mnemonic::Nop => Form::Counts { most: 1 },
-        Mnemonic::Bld | Mnemonic::Inc | Mnemonic::Dec => Form::Counts { most: 255 },
-        Mnemonic::A | Mnemonic::An | Mnemonic::On | Mnemonic::X | Mnemonic::Xn => Form::ReadsBit,
-        Mnemonic::O => Form::ReadsBitOrBare,
-        Mnemonic::Assign | Mnemonic::Fp | Mnemonic::Fn => Form::WritesBit,
-        Mnemonic::S => Form::Sets,
-        Mnemonic::R => Form::Resets,
-        Mnemonic::L => Form::Loads,
-        Mnemonic::T => Form::Transfers,
-        Mnemonic::Lc => Form::LoadsBcd,
-        Mnemonic::Lar1 => Form::LoadsAr1,
-        Mnemonic::Lar2 => Form::LoadsAr2,
-        Mnemonic::Tar1 => Form::StoresAr1,
-        Mnemonic::Tar2 => Form::StoresAr2,
-        Mnemonic::AddAr1 | Mnemonic::AddAr2 => Form::AddsToAr,
-        Mnemonic::Add => Form::Adds,
-        Mnemonic::Aw | Mnemonic::Ow | Mnemonic::Xow => Form::Combines { of: Simple::Word },
-        Mnemonic::Ad | Mnemonic::Od | Mnemonic::Xod => Form::Combines { of: Simple::Dword },
-        Mnemonic::Ssi | Mnemonic::Slw | Mnemonic::Srw => Form::Shifts { most: 15 },
+        Mnemonic::Nop => OperandRule::Counts { most: 1 },
+        Mnemonic::Bld | Mnemonic::Inc | Mnemonic::Dec => OperandRule::Counts { most: 255 },
+        Mnemonic::A | Mnemonic::An | Mnemonic::On | Mnemonic::X | Mnemonic::Xn =>
+            OperandRule::ReadsBit,
+        Mnemonic::O => OperandRule::ReadsBitOrBare,
+        Mnemonic::Assign | Mnemonic::Fp | Mnemonic::Fn => OperandRule::WritesBit,
+        Mnemonic::S => OperandRule::Sets,
+        Mnemonic::R => OperandRule::Resets,
+        Mnemonic::L => OperandRule::Loads,
+        Mnemonic::T => OperandRule::Transfers,
+        Mnemonic::Lc => OperandRule::LoadsBcd,
+        Mnemonic::Lar1 => OperandRule::LoadsAr1,
+        Mnemonic::Lar2 => OperandRule::LoadsAr2,
+        Mnemonic::Tar1 => OperandRule::StoresAr1,
+        Mnemonic::Tar2 => OperandRule::StoresAr2,
+        Mnemonic::AddAr1 | Mnemonic::AddAr2 => OperandRule::AddsToAr,
+        Mnemonic::Add => OperandRule::Adds,
+        Mnemonic::Aw | Mnemonic::Ow | Mnemonic::Xow => OperandRule::Combines { of: Simple::Word },
+        Mnemonic::Ad | Mnemonic::Od | Mnemonic::Xod => OperandRule::Combines { of: Simple::Dword },
+        Mnemonic::Ssi | Mnemonic::Slw | Mnemonic::Srw => OperandRule::Shifts { most: 15 },
         Mnemonic::Ssd | Mnemonic::Sld | Mnemonic::Srd | Mnemonic::Rld | Mnemonic::Rrd => {
-            Form::Shifts { most: 32 }
+            OperandRule::Shifts { most: 32 }
         }
         Mnemonic::Ju
         | Mnemonic::Jl
@@ -96,14 +97,14 @@ pub(crate) fn form_of(code: Mnemonic) -> Form
         | Mnemonic::Jpz
         | Mnemonic::Jmz
         | Mnemonic::Juo
-        | Mnemonic::Loop => Form::Jumps,
+        | Mnemonic::Loop => OperandRule::Jumps,
         Mnemonic::Sp | Mnemonic::Se | Mnemonic::Sd | Mnemonic::Ss | Mnemonic::Sf => {
-            Form::StartsTimer
+            OperandRule::StartsTimer
         }
-        Mnemonic::Fr => Form::Enables,
-        Mnemonic::Cu | Mnemonic::Cd => Form::StepsCounter,
-        Mnemonic::Call | Mnemonic::Uc | Mnemonic::Cc => Form::Calls,
-        Mnemonic::Opn => Form::Opens,
+        Mnemonic::Fr => OperandRule::Enables,
+        Mnemonic::Cu | Mnemonic::Cd => OperandRule::StepsCounter,
+        Mnemonic::Call | Mnemonic::Uc | Mnemonic::Cc => OperandRule::Calls,
+        Mnemonic::Opn => OperandRule::Opens,
         Mnemonic::Empty
         | Mnemonic::AOpen
         | Mnemonic::AnOpen
@@ -115,8 +116,9 @@ pub(crate) fn form_of(code: Mnemonic) -> Form
         | Mnemonic::Set
         | Mnemonic::Clr
         | Mnemonic::Not
-        | Mnemonic::Save => Form::Bare,
-        Mnemonic::Mcra | Mnemonic::Mcrd | Mnemonic::McrOpen | Mnemonic::McrClose => Form::Bare,
+        | Mnemonic::Save => OperandRule::Bare,
+        Mnemonic::Mcra | Mnemonic::Mcrd | Mnemonic::McrOpen | Mnemonic::McrClose =>
+            OperandRule::Bare,
         Mnemonic::Car
         | Mnemonic::Tak
         | Mnemonic::Push
@@ -128,7 +130,7 @@ pub(crate) fn form_of(code: Mnemonic) -> Form
         | Mnemonic::Be
         | Mnemonic::Bec
         | Mnemonic::Beu
-        | Mnemonic::Cdb => Form::Bare,
+        | Mnemonic::Cdb => OperandRule::Bare,
         Mnemonic::AddI
         | Mnemonic::SubI
         | Mnemonic::MulI
@@ -141,7 +143,7 @@ pub(crate) fn form_of(code: Mnemonic) -> Form
         | Mnemonic::Invi
         | Mnemonic::Invd
         | Mnemonic::Negi
-        | Mnemonic::Negd => Form::Bare,
+        | Mnemonic::Negd => OperandRule::Bare,
         Mnemonic::EqI
         | Mnemonic::NeI
         | Mnemonic::GtI
@@ -153,7 +155,8 @@ pub(crate) fn form_of(code: Mnemonic) -> Form
         | Mnemonic::GtD
         | Mnemonic::LtD
         | Mnemonic::GeD
-        | Mnemonic::LeD => Form::Bare,
-        Mnemonic::Bti | Mnemonic::Itb | Mnemonic::Btd | Mnemonic::Dtb | Mnemonic::Itd => Form::Bare,
+        | Mnemonic::LeD => OperandRule::Bare,
+        Mnemonic::Bti | Mnemonic::Itb | Mnemonic::Btd | Mnemonic::Dtb | Mnemonic::Itd =>
+            OperandRule::Bare,
     }
 }

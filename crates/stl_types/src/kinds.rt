@@ -22,120 +22,120 @@ ghost use Rattle.stl_types.specs.Kinds.{
   width_in,
 };
 
-use crate::views::{Register, View};
+use crate::views::{Register, ResolvedOperand};
 use block_layout::width_of;
 use plc_base::{BlockKind, Width};
 use stl_ast::Numbered;
 
-pub(crate) fn is_nothing(view: View) -> bool
+pub(crate) fn is_nothing(view: ResolvedOperand) -> bool
     ensures { result ≡ is_nothing view }
 {
-    matches!(view, View::Nothing)
+    matches!(view, ResolvedOperand::Nothing)
 }
 
 /// Whether a place has an address of its own.
-pub(crate) fn is_direct(view: View) -> bool
+pub(crate) fn is_direct(view: ResolvedOperand) -> bool
     ensures { result ≡ is_direct view }
 {
-    matches!(view, View::Direct { .. })
+    matches!(view, ResolvedOperand::Direct { .. })
 }
 
 /// Whether a place in memory is meant: direct, a parameter of a function, or by a pointer.
-pub(crate) fn is_in_memory(view: View) -> bool
+pub(crate) fn is_in_memory(view: ResolvedOperand) -> bool
     ensures { result ≡ is_in_memory view }
 {
     matches!(
         view,
-        View::Direct { .. }
-            | View::Parameter { .. }
-            | View::ByMemory { .. }
-            | View::ByRegister { .. }
+        ResolvedOperand::Direct { .. }
+            | ResolvedOperand::Parameter { .. }
+            | ResolvedOperand::ByMemory { .. }
+            | ResolvedOperand::ByRegister { .. }
     )
 }
 
-pub(crate) fn is_timer(view: View) -> bool
+pub(crate) fn is_timer(view: ResolvedOperand) -> bool
     ensures { result ≡ is_timer view }
 {
     match view {
-        View::Timer { .. } => true,
-        View::NumberBy { what, .. } => matches!(what, Numbered::Timer),
+        ResolvedOperand::Timer { .. } => true,
+        ResolvedOperand::NumberBy { what, .. } => matches!(what, Numbered::Timer),
         _ => false,
     }
 }
 
-pub(crate) fn is_counter(view: View) -> bool
+pub(crate) fn is_counter(view: ResolvedOperand) -> bool
     ensures { result ≡ is_counter view }
 {
     match view {
-        View::Counter { .. } => true,
-        View::NumberBy { what, .. } => matches!(what, Numbered::Counter),
+        ResolvedOperand::Counter { .. } => true,
+        ResolvedOperand::NumberBy { what, .. } => matches!(what, Numbered::Counter),
         _ => false,
     }
 }
 
 /// Whether a data block is opened.
-pub(crate) fn is_opened(view: View) -> bool
+pub(crate) fn is_opened(view: ResolvedOperand) -> bool
     ensures { result ≡ is_opened view }
 {
     match view {
-        View::OpenBlock { .. } => true,
-        View::NumberBy { what, .. } => matches!(what, Numbered::Db | Numbered::Di),
+        ResolvedOperand::OpenBlock { .. } => true,
+        ResolvedOperand::NumberBy { what, .. } => matches!(what, Numbered::Db | Numbered::Di),
         _ => false,
     }
 }
 
-pub(crate) fn is_condition(view: View) -> bool
+pub(crate) fn is_condition(view: ResolvedOperand) -> bool
     ensures { result ≡ is_condition view }
 {
-    matches!(view, View::OfStatus { .. })
+    matches!(view, ResolvedOperand::OfStatus { .. })
 }
 
-pub(crate) fn is_pointer(view: View) -> bool
+pub(crate) fn is_pointer(view: ResolvedOperand) -> bool
     ensures { result ≡ is_pointer view }
 {
-    matches!(view, View::Pointer { .. })
+    matches!(view, ResolvedOperand::Pointer { .. })
 }
 
-pub(crate) fn is_label(view: View) -> bool
+pub(crate) fn is_label(view: ResolvedOperand) -> bool
     ensures { result ≡ is_label view }
 {
-    matches!(view, View::Label)
+    matches!(view, ResolvedOperand::Label)
 }
 
-pub(crate) fn is_status_word(view: View) -> bool
+pub(crate) fn is_status_word(view: ResolvedOperand) -> bool
     ensures { result ≡ is_status_word view }
 {
     match view {
-        View::Register { which } => matches!(which, Register::Stw),
+        ResolvedOperand::Register { which } => matches!(which, Register::Stw),
         _ => false,
     }
 }
 
-pub(crate) fn is_second_register(view: View) -> bool
+pub(crate) fn is_second_register(view: ResolvedOperand) -> bool
     ensures { result ≡ is_second_register view }
 {
     match view {
-        View::Register { which } => matches!(which, Register::Ar2),
+        ResolvedOperand::Register { which } => matches!(which, Register::Ar2),
         _ => false,
     }
 }
 
 /// Whether a register can be loaded by L.
-pub(crate) fn is_loaded(view: View) -> bool
+pub(crate) fn is_loaded(view: ResolvedOperand) -> bool
     ensures { result ≡ is_loaded view }
 {
     match view {
-        View::Register { which } => !matches!(which, Register::Ar2),
+        ResolvedOperand::Register { which } => !matches!(which, Register::Ar2),
         _ => false,
     }
 }
 
 /// Whether a block can be called so: only a function block has an instance.
-pub(crate) fn is_called(view: View) -> bool
+pub(crate) fn is_called(view: ResolvedOperand) -> bool
     ensures { result ≡ is_called view }
 {
     match view {
-        View::Called { block, instance } => match instance {
+        ResolvedOperand::Called { block, instance } => match instance {
             None => block.kind.is_callable(),
             Some(_) => matches!(block.kind, BlockKind::Fb),
         },
@@ -143,27 +143,27 @@ pub(crate) fn is_called(view: View) -> bool
     }
 }
 
-pub(crate) fn is_composite(view: View) -> bool
+pub(crate) fn is_composite(view: ResolvedOperand) -> bool
     ensures { result ≡ is_composite view }
 {
-    matches!(view, View::Composite | View::Date)
+    matches!(view, ResolvedOperand::Composite | ResolvedOperand::Date)
 }
 
-pub(crate) fn is_date(view: View) -> bool
+pub(crate) fn is_date(view: ResolvedOperand) -> bool
     ensures { result ≡ is_date view }
 {
-    matches!(view, View::Date)
+    matches!(view, ResolvedOperand::Date)
 }
 
 /// The width of a place in memory.
-pub(crate) fn width_in(view: View) -> Option<Width>
+pub(crate) fn width_in(view: ResolvedOperand) -> Option<Width>
     ensures { result ≡ width_in view }
 {
     match view {
-        View::Direct { width, .. } => Some(width),
-        View::Parameter { declared, .. } => Some(width_of(declared)),
-        View::ByMemory { width, .. } => Some(width),
-        View::ByRegister { width, .. } => Some(width),
+        ResolvedOperand::Direct { width, .. } => Some(width),
+        ResolvedOperand::Parameter { declared, .. } => Some(width_of(declared)),
+        ResolvedOperand::ByMemory { width, .. } => Some(width),
+        ResolvedOperand::ByRegister { width, .. } => Some(width),
         _ => None,
     }
 }

@@ -29,7 +29,7 @@ mod zones;
 
 pub use brackets::Bracket;
 pub use checking::{Checked, check};
-pub use forms::Form;
+pub use forms::OperandRule;
 pub use parameters::{Callee, Formal};
 pub use scopes::Scope;
-pub use views::{Register, Seen, Side, View};
+pub use views::{Register, Resolution, ResolvedOperand, Side};

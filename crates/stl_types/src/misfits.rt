@@ -5,14 +5,14 @@ ghost use Rattle.std.specs.Str.{bytes_eq};
 ghost use Rattle.plc_base.specs.Least.{broken_if, least};
 ghost use Rattle.stl_types.specs.Actuals.{fits_operand, fits_seen, formal_named};
 ghost use Rattle.stl_types.specs.Calls.{misfits, sees_date};
-ghost use Rattle.stl_types.specs.Seen.{seen};
+ghost use Rattle.stl_types.specs.Resolution.{seen};
 
 use crate::actuals::{fits_view, is_input_section};
 use crate::calls::is_named;
 use crate::kinds::is_date;
 use crate::parameters::Formal;
 use crate::scopes::Scope;
-use crate::views::Seen;
+use crate::views::Resolution;
 use block_layout::fits;
 use plc_base::{Refusal, broken_if, try_least_of};
 use std::alloc::{AllocError, Global};
@@ -26,12 +26,12 @@ fn formal_named<'f>(formals: &'f [Formal], upper: &[u8]) -> Option<&'f Formal>
 }
 
 /// An operand that isn't there or isn't checked breaks no further rule.
-fn fits_seen(formal: &Formal, seen: Seen) -> bool
+fn fits_seen(formal: &Formal, seen: Resolution) -> bool
     ensures { result ≡ fits_seen formal.now seen }
 {
     match seen {
-        Seen::Sees { view } => fits_view(formal, view),
-        Seen::Unknown | Seen::Rests => true,
+        Resolution::Resolved { view } => fits_view(formal, view),
+        Resolution::Unknown | Resolution::Unjudged => true,
     }
 }
 
@@ -98,11 +98,11 @@ pub(crate) fn least_misfit(
     try_least_of(actuals, |a: &Actual| misfit_here(scope, alloc, formals, a))
 }
 
-fn sees_date(seen: Seen) -> bool
+fn sees_date(seen: Resolution) -> bool
     ensures { result ≡ sees_date seen }
 {
     match seen {
-        Seen::Sees { view } => is_date(view),
+        Resolution::Resolved { view } => is_date(view),
         _ => false,
     }
 }

@@ -12,99 +12,105 @@ ghost use Rattle.stl_types.specs.Operands.{
   writes,
 };
 
-use crate::forms::Form;
+use crate::forms::OperandRule;
 use crate::kinds::{
     is_bit, is_called, is_composite, is_condition, is_counter, is_date, is_direct, is_double_word,
     is_in_memory, is_label, is_loaded, is_nothing, is_opened, is_pointer, is_second_register,
     is_status_word, is_timer, width_in,
 };
-use crate::views::{Side, View};
+use crate::views::{ResolvedOperand, Side};
 use plc_base::{Area, Width};
 use stl_ast::PartKind;
 
 /// Whether a form takes an operand that is no constant, whatever its width.
 #[tactic(auto, unfolding(crate::specs::Operands::takes))]
-fn takes(form: Form, view: View) -> bool
+fn takes(form: OperandRule, view: ResolvedOperand) -> bool
     ensures { result ≡ takes form view }
 {
     match form {
-        Form::Bare | Form::Shifts { .. } | Form::Combines { .. } => is_nothing(view),
-        Form::ReadsBit => {
+        OperandRule::Bare | OperandRule::Shifts { .. } | OperandRule::Combines { .. } => is_nothing(
+            view,
+        ),
+        OperandRule::ReadsBit => {
             is_in_memory(view) || is_timer(view) || is_counter(view) || is_condition(view)
         }
-        Form::ReadsBitOrBare => {
+        OperandRule::ReadsBitOrBare => {
             is_nothing(view)
                 || is_in_memory(view)
                 || is_timer(view)
                 || is_counter(view)
                 || is_condition(view)
         }
-        Form::WritesBit => is_in_memory(view),
-        Form::Sets => is_in_memory(view) || is_counter(view),
-        Form::Resets => is_in_memory(view) || is_timer(view) || is_counter(view),
-        Form::Loads => {
+        OperandRule::WritesBit => is_in_memory(view),
+        OperandRule::Sets => is_in_memory(view) || is_counter(view),
+        OperandRule::Resets => is_in_memory(view) || is_timer(view) || is_counter(view),
+        OperandRule::Loads => {
             is_in_memory(view)
                 || is_timer(view)
                 || is_counter(view)
                 || is_pointer(view)
                 || is_loaded(view)
         }
-        Form::Transfers => is_in_memory(view) || is_status_word(view),
-        Form::LoadsBcd | Form::Enables => is_timer(view) || is_counter(view),
-        Form::LoadsAr1 => {
+        OperandRule::Transfers => is_in_memory(view) || is_status_word(view),
+        OperandRule::LoadsBcd | OperandRule::Enables => is_timer(view) || is_counter(view),
+        OperandRule::LoadsAr1 => {
             is_nothing(view) || is_pointer(view) || is_direct(view) || is_second_register(view)
         }
-        Form::LoadsAr2 => is_nothing(view) || is_pointer(view) || is_direct(view),
-        Form::StoresAr1 => is_nothing(view) || is_direct(view) || is_second_register(view),
-        Form::StoresAr2 => is_nothing(view) || is_direct(view),
-        Form::AddsToAr => is_nothing(view) || is_pointer(view),
-        Form::Counts { .. } | Form::Adds => false,
-        Form::Jumps => is_label(view),
-        Form::StartsTimer => is_timer(view),
-        Form::StepsCounter => is_counter(view),
-        Form::Calls => is_called(view),
-        Form::Opens => is_opened(view),
+        OperandRule::LoadsAr2 => is_nothing(view) || is_pointer(view) || is_direct(view),
+        OperandRule::StoresAr1 => is_nothing(view) || is_direct(view) || is_second_register(view),
+        OperandRule::StoresAr2 => is_nothing(view) || is_direct(view),
+        OperandRule::AddsToAr => is_nothing(view) || is_pointer(view),
+        OperandRule::Counts { .. } | OperandRule::Adds => false,
+        OperandRule::Jumps => is_label(view),
+        OperandRule::StartsTimer => is_timer(view),
+        OperandRule::StepsCounter => is_counter(view),
+        OperandRule::Calls => is_called(view),
+        OperandRule::Opens => is_opened(view),
     }
 }
 
 /// Whether a form takes a place in memory, of whatever width.
 #[tactic(auto, unfolding(crate::specs::Operands::takes_places))]
-fn takes_places(form: Form) -> bool
+fn takes_places(form: OperandRule) -> bool
     ensures { result ≡ takes_places form }
 {
     matches!(
         form,
-        Form::ReadsBit
-            | Form::ReadsBitOrBare
-            | Form::WritesBit
-            | Form::Sets
-            | Form::Resets
-            | Form::Loads
-            | Form::Transfers
-            | Form::LoadsAr1
-            | Form::LoadsAr2
-            | Form::StoresAr1
-            | Form::StoresAr2
+        OperandRule::ReadsBit
+            | OperandRule::ReadsBitOrBare
+            | OperandRule::WritesBit
+            | OperandRule::Sets
+            | OperandRule::Resets
+            | OperandRule::Loads
+            | OperandRule::Transfers
+            | OperandRule::LoadsAr1
+            | OperandRule::LoadsAr2
+            | OperandRule::StoresAr1
+            | OperandRule::StoresAr2
     )
 }
 
 #[tactic(auto, unfolding(crate::specs::Operands::takes_width))]
-fn takes_width(form: Form, width: Option<Width>) -> bool
+fn takes_width(form: OperandRule, width: Option<Width>) -> bool
     ensures { result ≡ takes_width form width }
 {
     match form {
-        Form::ReadsBit | Form::ReadsBitOrBare | Form::WritesBit | Form::Sets | Form::Resets =>
-            is_bit(width),
-        Form::Loads | Form::Transfers => !is_bit(width),
-        Form::LoadsAr1 | Form::LoadsAr2 | Form::StoresAr1 | Form::StoresAr2 => {
-            is_double_word(width)
-        }
+        OperandRule::ReadsBit
+        | OperandRule::ReadsBitOrBare
+        | OperandRule::WritesBit
+        | OperandRule::Sets
+        | OperandRule::Resets => is_bit(width),
+        OperandRule::Loads | OperandRule::Transfers => !is_bit(width),
+        OperandRule::LoadsAr1
+        | OperandRule::LoadsAr2
+        | OperandRule::StoresAr1
+        | OperandRule::StoresAr2 => { is_double_word(width) }
         _ => true,
     }
 }
 
 /// Only a place in memory has a width.
-fn has_width(form: Form, width: Option<Width>) -> bool
+fn has_width(form: OperandRule, width: Option<Width>) -> bool
     ensures { result ≡ has_width form width }
 {
     match width {
@@ -114,17 +120,17 @@ fn has_width(form: Form, width: Option<Width>) -> bool
 }
 
 /// Whether instructions of a form write their operand.
-fn writes(form: Form) -> bool
+fn writes(form: OperandRule) -> bool
     ensures { result ≡ writes form }
 {
     matches!(
         form,
-        Form::WritesBit
-            | Form::Sets
-            | Form::Resets
-            | Form::Transfers
-            | Form::StoresAr1
-            | Form::StoresAr2
+        OperandRule::WritesBit
+            | OperandRule::Sets
+            | OperandRule::Resets
+            | OperandRule::Transfers
+            | OperandRule::StoresAr1
+            | OperandRule::StoresAr2
     )
 }
 
@@ -143,31 +149,31 @@ fn is_peripheral_area(area: Option<Area>) -> bool
     }
 }
 
-fn is_on_wrong_side(form: Form, view: View) -> bool
+fn is_on_wrong_side(form: OperandRule, view: ResolvedOperand) -> bool
     ensures { result ≡ is_on_wrong_side form view }
 {
     match view {
-        View::Direct { side, .. } => match side {
+        ResolvedOperand::Direct { side, .. } => match side {
             Side::Both => false,
             Side::Inputs => writes(form),
             Side::Outputs => !writes(form),
         },
-        View::ByMemory { area, .. } => is_peripheral(area),
-        View::ByRegister { area, .. } => is_peripheral_area(area),
+        ResolvedOperand::ByMemory { area, .. } => is_peripheral(area),
+        ResolvedOperand::ByRegister { area, .. } => is_peripheral_area(area),
         _ => false,
     }
 }
 
-fn is_input(view: View) -> bool
+fn is_input(view: ResolvedOperand) -> bool
     ensures { result ≡ is_input view }
 {
     match view {
-        View::Parameter { section, .. } => matches!(section, PartKind::Input),
+        ResolvedOperand::Parameter { section, .. } => matches!(section, PartKind::Input),
         _ => false,
     }
 }
 
-fn composite_rule(form: Form, view: View) -> u16
+fn composite_rule(form: OperandRule, view: ResolvedOperand) -> u16
     ensures { result ≡ composite_rule form view }
 {
     if is_date(view) || takes_places(form) {
@@ -179,7 +185,7 @@ fn composite_rule(form: Form, view: View) -> u16
 
 /// The rule that an instruction breaks by an operand that is no constant.
 #[tactic(auto, unfolding(crate::specs::Operands::rule_of))]
-pub(crate) fn rule_of(form: Form, view: View) -> Option<u16>
+pub(crate) fn rule_of(form: OperandRule, view: ResolvedOperand) -> Option<u16>
     ensures { result ≡ rule_of form view }
 {
     if is_composite(view) {

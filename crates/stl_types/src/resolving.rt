@@ -11,13 +11,13 @@ ghost use Rattle.stl_types.specs.Operands.{
   statement_rule,
 };
 ghost use Rattle.stl_types.specs.Resolved.{resolved, seen_view};
-ghost use Rattle.stl_types.specs.Seen.{seen};
+ghost use Rattle.stl_types.specs.Resolution.{seen};
 
 use crate::constants::takes_constant;
-use crate::forms::{Form, form_of};
+use crate::forms::{OperandRule, form_of};
 use crate::operands::rule_of;
 use crate::scopes::Scope;
-use crate::views::{Seen, View};
+use crate::views::{Resolution, ResolvedOperand};
 use block_layout::Layouts;
 use plc_base::{Refusal, lesser, try_least_of};
 use std::alloc::{AllocError, Global};
@@ -25,17 +25,17 @@ use stl_ast::{Block, Operand, Statement, Tree};
 use stl_symbols::Symbols;
 
 /// The rule that an instruction breaks by what its operand comes to.
-fn rule_seen(form: Form, seen: Seen) -> Option<u16>
+fn rule_seen(form: OperandRule, seen: Resolution) -> Option<u16>
     ensures { result ≡ rule_seen form seen }
 {
     match seen {
-        Seen::Sees { view } => rule_of(form, view),
+        Resolution::Resolved { view } => rule_of(form, view),
         _ => None,
     }
 }
 
 /// The rule that an instruction breaks by its operand, which comes to `found`.
-fn operand_rule(form: Form, operand: &Operand, found: Seen) -> Option<u16>
+fn operand_rule(form: OperandRule, operand: &Operand, found: Resolution) -> Option<u16>
     ensures { (c : Context) → found ≡ seen c operand.now
         → result ≡ operand_rule c form operand.now }
 {
@@ -52,11 +52,11 @@ fn operand_rule(form: Form, operand: &Operand, found: Seen) -> Option<u16>
 }
 
 /// What is seen, if something is.
-fn seen_view(seen: Seen) -> Option<View>
+fn seen_view(seen: Resolution) -> Option<ResolvedOperand>
     ensures { result ≡ seen_view seen }
 {
     match seen {
-        Seen::Sees { view } => Some(view),
+        Resolution::Resolved { view } => Some(view),
         _ => None,
     }
 }
@@ -79,7 +79,11 @@ impl<'a> Scope<'a> {
     ///
     /// Want of memory.
     #[tactic(auto, unfolding(crate::specs::Resolved::resolved))]
-    pub fn resolved(&self, alloc: Global, statement: &Statement) -> Result<Option<View>, AllocError>
+    pub fn resolved(
+        &self,
+        alloc: Global,
+        statement: &Statement,
+    ) -> Result<Option<ResolvedOperand>, AllocError>
         ensures { IfOk result (λ v. v ≡ resolved self.now statement.now) }
     {
         let seen = self.seen(alloc, &statement.operand)?;

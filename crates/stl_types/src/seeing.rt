@@ -5,7 +5,7 @@ ghost use Rattle.stl_symbols.specs.Symbol.{symbol_named};
 ghost use Rattle.block_layout.specs.Blocks.{named_block};
 ghost use Rattle.stl_types.specs.Addresses.{address, address_in, area_left, area_of, side_of};
 ghost use Rattle.stl_types.specs.Context.{data_number};
-ghost use Rattle.stl_types.specs.Seen.{
+ghost use Rattle.stl_types.specs.Resolution.{
   called_seen,
   direct_seen,
   instance_number,
@@ -17,11 +17,11 @@ ghost use Rattle.stl_types.specs.Seen.{
   target_view,
   whole_block,
 };
-ghost use Rattle.stl_types.specs.declared.views.Seen.TheVariants.{Sees};
-ghost use Rattle.stl_types.specs.declared.views.View.TheVariants as view;
+ghost use Rattle.stl_types.specs.declared.views.Resolution.TheVariants.{Resolved};
+ghost use Rattle.stl_types.specs.declared.views.ResolvedOperand.TheVariants as view;
 
 use crate::scopes::Scope;
-use crate::views::{Register, Seen, Side, View};
+use crate::views::{Register, Resolution, ResolvedOperand, Side};
 use block_layout::{Path, named_block};
 use plc_base::{Area, BlockId, Place, Width};
 use std::alloc::{AllocError, Global};
@@ -63,10 +63,10 @@ fn area_left(letters: Option<Letters>) -> Option<Area>
 }
 
 /// An address; `number` is that of the data block before it, else 0.
-fn address(number: u16, letters: Letters, width: Width, byte: u16, bit: u8) -> View
+fn address(number: u16, letters: Letters, width: Width, byte: u16, bit: u8) -> ResolvedOperand
     ensures { result ≡ address number letters width byte bit }
 {
-    View::Direct {
+    ResolvedOperand::Direct {
         place: Place {
             area: area_of(letters),
             number,
@@ -79,31 +79,31 @@ fn address(number: u16, letters: Letters, width: Width, byte: u16, bit: u8) -> V
     }
 }
 
-fn address_in(number: Option<u16>, letters: Letters, width: Width, byte: u16, bit: u8) -> Seen
+fn address_in(number: Option<u16>, letters: Letters, width: Width, byte: u16, bit: u8) -> Resolution
     ensures { result ≡ address_in number letters width byte bit }
 {
     match number {
-        None => Seen::Rests,
-        Some(number) => Seen::Sees {
+        None => Resolution::Unjudged,
+        Some(number) => Resolution::Resolved {
             view: address(number, letters, width, byte, bit),
         },
     }
 }
 
 /// What a symbol stands for.
-fn target_view(target: Target) -> View
+fn target_view(target: Target) -> ResolvedOperand
     ensures { result ≡ target_view target }
 {
     match target {
-        Target::Variable { place, width } => View::Direct {
+        Target::Variable { place, width } => ResolvedOperand::Direct {
             place,
             width,
             side: Side::Both,
             declared: None,
         },
-        Target::Timer { number } => View::Timer { number },
-        Target::Counter { number } => View::Counter { number },
-        Target::Block { .. } => View::Block,
+        Target::Timer { number } => ResolvedOperand::Timer { number },
+        Target::Counter { number } => ResolvedOperand::Counter { number },
+        Target::Block { .. } => ResolvedOperand::Block,
     }
 }
 
@@ -137,39 +137,39 @@ fn register_of(alloc: Global, name: &Name) -> Result<Register, AllocError>
     Ok(Register::Ar2)
 }
 
-fn sees(view: View) -> Seen
-    ensures { result ≡ Sees view }
+fn sees(view: ResolvedOperand) -> Resolution
+    ensures { result ≡ Resolved view }
 {
-    Seen::Sees { view }
+    Resolution::Resolved { view }
 }
 
-fn register_seen(alloc: Global, name: &Name) -> Result<Seen, AllocError>
-    ensures { IfOk result (λ s. s ≡ Sees (view.Register (register_of name.now))) }
+fn register_seen(alloc: Global, name: &Name) -> Result<Resolution, AllocError>
+    ensures { IfOk result (λ s. s ≡ Resolved (view.Register (register_of name.now))) }
 {
     let which = register_of(alloc, name)?;
-    Ok(sees(View::Register { which }))
+    Ok(sees(ResolvedOperand::Register { which }))
 }
 
 /// A data block that is opened, by its number.
-fn opened_seen(di: bool, number: Option<u16>) -> Seen
+fn opened_seen(di: bool, number: Option<u16>) -> Resolution
     ensures { result ≡ opened_seen di number }
 {
     match number {
-        None => Seen::Rests,
-        Some(number) => Seen::Sees {
-            view: View::OpenBlock { di, number },
+        None => Resolution::Unjudged,
+        Some(number) => Resolution::Resolved {
+            view: ResolvedOperand::OpenBlock { di, number },
         },
     }
 }
 
 impl<'a> Scope<'a> {
     /// A quoted name that is the whole operand.
-    fn symbol_seen(&self, name: &Name) -> Seen
+    fn symbol_seen(&self, name: &Name) -> Resolution
         ensures { result ≡ symbol_seen (symbol_named name.now self.now.symbols) }
     {
         match self.symbols().lookup(name.as_bytes()) {
-            None => Seen::Unknown,
-            Some(target) => Seen::Sees {
+            None => Resolution::Unknown,
+            Some(target) => Resolution::Resolved {
                 view: target_view(target),
             },
         }
@@ -181,7 +181,7 @@ impl<'a> Scope<'a> {
         alloc: Global,
         head: &PathHead,
         steps: &[PathStep],
-    ) -> Result<Seen, AllocError>
+    ) -> Result<Resolution, AllocError>
         ensures { IfOk result (λ s. s ≡ path_seen self.now head.now steps.now) }
     {
         match head {
@@ -206,11 +206,11 @@ impl<'a> Scope<'a> {
         width: Width,
         byte: u16,
         bit: u8,
-    ) -> Seen
+    ) -> Resolution
         ensures { result ≡ direct_seen self.now block.now letters width byte bit }
     {
         match block {
-            None => Seen::Sees {
+            None => Resolution::Resolved {
                 view: address(0, letters, width, byte, bit),
             },
             Some(name) => address_in(self.data_number(name), letters, width, byte, bit),
@@ -232,24 +232,24 @@ impl<'a> Scope<'a> {
     }
 
     /// A called block, with the number of its instance.
-    fn called_seen(&self, id: Option<BlockId>, instance: &Option<BlockName>) -> Seen
+    fn called_seen(&self, id: Option<BlockId>, instance: &Option<BlockName>) -> Resolution
         ensures { result ≡ called_seen id instance.now (instance_number self.now instance.now) }
     {
         let Some(block) = id else {
-            return Seen::Rests;
+            return Resolution::Unjudged;
         };
         let Some(name) = instance else {
-            return Seen::Sees {
-                view: View::Called {
+            return Resolution::Resolved {
+                view: ResolvedOperand::Called {
                     block,
                     instance: None,
                 },
             };
         };
         match self.data_number(name) {
-            None => Seen::Rests,
-            Some(number) => Seen::Sees {
-                view: View::Called {
+            None => Resolution::Unjudged,
+            Some(number) => Resolution::Resolved {
+                view: ResolvedOperand::Called {
                     block,
                     instance: Some(number),
                 },
@@ -262,12 +262,12 @@ impl<'a> Scope<'a> {
     /// # Errors
     ///
     /// Want of memory.
-    #[tactic(auto, unfolding(crate::specs::Seen::seen))]
-    pub fn seen(&self, alloc: Global, operand: &Operand) -> Result<Seen, AllocError>
+    #[tactic(auto, unfolding(crate::specs::Resolution::seen))]
+    pub fn seen(&self, alloc: Global, operand: &Operand) -> Result<Resolution, AllocError>
         ensures { IfOk result (λ s. s ≡ seen self.now operand.now) }
     {
         match operand {
-            Operand::Nothing => Ok(sees(View::Nothing)),
+            Operand::Nothing => Ok(sees(ResolvedOperand::Nothing)),
             Operand::Direct {
                 block,
                 area,
@@ -275,21 +275,21 @@ impl<'a> Scope<'a> {
                 byte,
                 bit,
             } => Ok(self.direct_seen(block, *area, *width, *byte, *bit)),
-            Operand::Timer { number } => Ok(sees(View::Timer { number: *number })),
-            Operand::Counter { number } => Ok(sees(View::Counter { number: *number })),
+            Operand::Timer { number } => Ok(sees(ResolvedOperand::Timer { number: *number })),
+            Operand::Counter { number } => Ok(sees(ResolvedOperand::Counter { number: *number })),
             Operand::Named { head, steps } => self.path_seen(alloc, head, steps.as_slice()),
             Operand::ByMemory {
                 area,
                 width,
                 from,
                 byte,
-            } => Ok(sees(View::ByMemory {
+            } => Ok(sees(ResolvedOperand::ByMemory {
                 area: area_of(*area),
                 width: *width,
                 from: area_of(*from),
                 byte: *byte,
             })),
-            Operand::NumberBy { what, from, byte } => Ok(sees(View::NumberBy {
+            Operand::NumberBy { what, from, byte } => Ok(sees(ResolvedOperand::NumberBy {
                 what: *what,
                 from: area_of(*from),
                 byte: *byte,
@@ -299,20 +299,20 @@ impl<'a> Scope<'a> {
                 width,
                 register,
                 bits,
-            } => Ok(sees(View::ByRegister {
+            } => Ok(sees(ResolvedOperand::ByRegister {
                 area: area_left(*area),
                 width: *width,
                 register: *register,
                 bits: *bits,
             })),
-            Operand::Pointer { area, byte, bit } => Ok(sees(View::Pointer {
+            Operand::Pointer { area, byte, bit } => Ok(sees(ResolvedOperand::Pointer {
                 area: area_left(*area),
                 byte: *byte,
                 bit: *bit,
             })),
-            Operand::Constant { .. } => Ok(sees(View::Constant)),
-            Operand::Label { .. } => Ok(sees(View::Label)),
-            Operand::OfStatus { flag } => Ok(sees(View::OfStatus { flag: *flag })),
+            Operand::Constant { .. } => Ok(sees(ResolvedOperand::Constant)),
+            Operand::Label { .. } => Ok(sees(ResolvedOperand::Label)),
+            Operand::OfStatus { flag } => Ok(sees(ResolvedOperand::OfStatus { flag: *flag })),
             Operand::Other { name } => register_seen(alloc, name),
             Operand::OpenBlock { di, name } => Ok(opened_seen(*di, self.data_number(name))),
             Operand::Called { name, instance } => {

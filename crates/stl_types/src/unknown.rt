@@ -13,23 +13,23 @@ ghost use Rattle.stl_types.specs.Unknown.{
 };
 
 use crate::scopes::Scope;
-use crate::views::Seen;
-use block_layout::{Layouts, Path, Walk};
+use crate::views::Resolution;
+use block_layout::{Layouts, Path, PathEnd};
 use plc_base::{Refusal, broken_if, lesser, try_least_of};
 use std::alloc::{AllocError, Global};
 use stl_ast::{Actual, Block, Operand, Setting, Statement, Tree};
 use stl_symbols::Symbols;
 
-fn is_unknown(seen: Seen) -> bool
+fn is_unknown(seen: Resolution) -> bool
     ensures { result ≡ is_unknown seen }
 {
-    matches!(seen, Seen::Unknown)
+    matches!(seen, Resolution::Unknown)
 }
 
-fn leads_nowhere(walk: Walk) -> bool
+fn leads_nowhere(walk: PathEnd) -> bool
     ensures { result ≡ leads_nowhere walk }
 {
-    matches!(walk, Walk::Unknown)
+    matches!(walk, PathEnd::Unknown)
 }
 
 fn unknown_target(

@@ -19,29 +19,29 @@ ghost use Rattle.stl_types.specs.Variables.{
 };
 
 use crate::scopes::Scope;
-use crate::views::{Seen, Side, View};
-use block_layout::{Element, Path, Spot, Walk, placed};
+use crate::views::{Resolution, ResolvedOperand, Side};
+use block_layout::{ComponentAt, Element, Path, PathEnd, placed};
 use plc_base::{Area, Place, Width};
 use stl_ast::{BlockName, Simple};
 
 /// What isn't elementary.
-fn date_or_composite(of: Element) -> View
+fn date_or_composite(of: Element) -> ResolvedOperand
     ensures { result ≡ date_or_composite of }
 {
     match of {
-        Element::DateAndTime => View::Date,
-        _ => View::Composite,
+        Element::DateAndTime => ResolvedOperand::Date,
+        _ => ResolvedOperand::Composite,
     }
 }
 
 /// A variable of a type in an area.
-fn in_area(kind: Simple, found: Option<(Place, Width)>) -> Seen
+fn in_area(kind: Simple, found: Option<(Place, Width)>) -> Resolution
     ensures { result ≡ in_area kind found }
 {
     match found {
-        None => Seen::Rests,
-        Some((place, width)) => Seen::Sees {
-            view: View::Direct {
+        None => Resolution::Unjudged,
+        Some((place, width)) => Resolution::Resolved {
+            view: ResolvedOperand::Direct {
                 place,
                 width,
                 side: Side::Both,
@@ -70,12 +70,12 @@ fn behind_others(count: usize, place: usize, returned: Option<Simple>) -> usize
 
 impl<'a> Scope<'a> {
     /// The structure, the array or the DATE_AND_TIME at a spot.
-    fn composite(&self, spot: Spot) -> View
+    fn composite(&self, spot: ComponentAt) -> ResolvedOperand
         ensures { result ≡ composite
             (slice_get (cells_at self.now.layouts spot.block spot.temporary) spot.place) }
     {
         match self.layouts().cell_at(spot) {
-            None => View::Composite,
+            None => ResolvedOperand::Composite,
             Some(cell) => date_or_composite(cell.of),
         }
     }
@@ -92,15 +92,15 @@ impl<'a> Scope<'a> {
     }
 
     /// A parameter of the function that has the body.
-    fn parameter_at(&self, spot: Spot, kind: Simple) -> Seen
+    fn parameter_at(&self, spot: ComponentAt, kind: Simple) -> Resolution
         ensures { result ≡ parameter_at self.now spot kind }
     {
         let cells = self.layouts().cells(self.block(), false);
         let index = self.parameter_index(cells.len(), spot.place);
         match cells.get(spot.place) {
-            None => Seen::Rests,
-            Some(cell) => Seen::Sees {
-                view: View::Parameter {
+            None => Resolution::Unjudged,
+            Some(cell) => Resolution::Resolved {
+                view: ResolvedOperand::Parameter {
                     index,
                     section: cell.section,
                     declared: kind,
@@ -119,7 +119,7 @@ impl<'a> Scope<'a> {
     /// An elementary variable of the block: a temporary one lies in the local data, a parameter of a
     /// function is bound at its call, and each variable of a function block lies in the data block of
     /// the DI register.
-    fn own_elementary(&self, temporary: bool, spot: Spot, kind: Simple) -> Seen
+    fn own_elementary(&self, temporary: bool, spot: ComponentAt, kind: Simple) -> Resolution
         ensures { result ≡ own_elementary self.now temporary spot kind }
     {
         if temporary {
@@ -131,67 +131,67 @@ impl<'a> Scope<'a> {
         in_area(kind, placed(Area::Di, 0, spot.offset, kind))
     }
 
-    fn own_at(&self, temporary: bool, spot: Spot) -> Seen
+    fn own_at(&self, temporary: bool, spot: ComponentAt) -> Resolution
         ensures { result
             ≡ own_at self.now temporary spot (elementary_at self.now.layouts spot) }
     {
         match self.layouts().elementary_at(spot) {
-            None => Seen::Sees {
+            None => Resolution::Resolved {
                 view: self.composite(spot),
             },
             Some(kind) => self.own_elementary(temporary, spot, kind),
         }
     }
 
-    fn own_walked(&self, temporary: bool, walk: Walk) -> Seen
+    fn own_walked(&self, temporary: bool, walk: PathEnd) -> Resolution
         ensures { result ≡ own_walked self.now temporary walk }
     {
         match walk {
-            Walk::Reaches { spot } => self.own_at(temporary, spot),
-            Walk::Unknown => Seen::Unknown,
-            Walk::Rests => Seen::Rests,
+            PathEnd::Reaches { spot } => self.own_at(temporary, spot),
+            PathEnd::Unknown => Resolution::Unknown,
+            PathEnd::Rests => Resolution::Unjudged,
         }
     }
 
     /// What a path into the block's own variables names: a name in upper case, and the steps behind
     /// it.
-    pub(crate) fn own_variable(&self, name: &[u8], path: &Path) -> Seen
+    pub(crate) fn own_variable(&self, name: &[u8], path: &Path) -> Resolution
         ensures { result ≡ own_variable self.now name.now path.now }
     {
         let walk = self.layouts().walk_local(self.block(), name, path);
         self.own_walked(self.is_temporary(name), walk)
     }
 
-    fn data_at(&self, number: u16, spot: Spot) -> Seen
+    fn data_at(&self, number: u16, spot: ComponentAt) -> Resolution
         ensures { result ≡ data_at self.now number spot (elementary_at self.now.layouts spot) }
     {
         match self.layouts().elementary_at(spot) {
-            None => Seen::Sees {
+            None => Resolution::Resolved {
                 view: self.composite(spot),
             },
             Some(kind) => in_area(kind, placed(Area::Db, number, spot.offset, kind)),
         }
     }
 
-    fn data_walked(&self, number: u16, walk: Walk) -> Seen
+    fn data_walked(&self, number: u16, walk: PathEnd) -> Resolution
         ensures { result ≡ data_walked self.now number walk }
     {
         match walk {
-            Walk::Reaches { spot } => self.data_at(number, spot),
-            Walk::Unknown => Seen::Unknown,
-            Walk::Rests => Seen::Rests,
+            PathEnd::Reaches { spot } => self.data_at(number, spot),
+            PathEnd::Unknown => Resolution::Unknown,
+            PathEnd::Rests => Resolution::Unjudged,
         }
     }
 
     /// What a path into a data block names.
-    pub(crate) fn data_variable(&self, name: &BlockName, path: &Path) -> Seen
+    pub(crate) fn data_variable(&self, name: &BlockName, path: &Path) -> Resolution
         ensures { result ≡ data_variable self.now name.now path.now }
     {
         let Some(number) = self.data_number(name) else {
-            return Seen::Rests;
+            return Resolution::Unjudged;
         };
         let Some(block) = self.data_place(name) else {
-            return Seen::Rests;
+            return Resolution::Unjudged;
         };
         self.data_walked(number, self.layouts().walk_data(block, path))
     }

@@ -31,7 +31,7 @@ pub enum Register {
 /// - `Constant`: its value stands in the operand. `Pointer`: a pointer constant.
 /// - `OpenBlock`: the data block that OPN opens. `Block`: a symbol of a block.
 #[derive(Clone, Copy, Debug, PartialEq, Eq)]
-pub enum View {
+pub enum ResolvedOperand {
     Nothing,
     Direct {
         place: Place,
@@ -93,11 +93,11 @@ pub enum View {
     Block,
 }
 
-/// What an operand comes to. `Unknown` has a name or a component that isn't there. `Rests` isn't
-/// judged: it stands on a declaration or a block that breaks a rule itself, or that is absent.
+/// What an operand comes to. `Unknown` has a name or a component that isn't there. `Unjudged` isn't
+/// checked: it stands on a declaration or a block that breaks a rule itself, or that is absent.
 #[derive(Clone, Copy, Debug, PartialEq, Eq)]
-pub enum Seen {
-    Sees { view: View },
+pub enum Resolution {
+    Resolved { view: ResolvedOperand },
     Unknown,
-    Rests,
+    Unjudged,
 }

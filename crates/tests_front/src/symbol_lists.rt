@@ -1,5 +1,5 @@
 use crate::compare::same;
-use crate::symbol_calls::read;
+use crate::symbol_calls::{read, read_german};
 use plc_base::{Area, BlockId, BlockKind, Place, Width};
 use std::test::Fail;
 use stl_symbols::Target;
@@ -99,5 +99,30 @@ fn names_as_the_file_has_them(rt: HostRuntime) -> Result<(), Fail> {
     same(&rt, "the name with a quote", quoted, Some(expected[0].1));
     let other = symbols.lookup(b"\xE4");
     same(&rt, "a letter that is no ASCII one", other, None);
+    Ok(())
+}
+
+// The letters of inputs, outputs and counters are others in German.
+#[test]
+fn a_file_with_german_addresses(rt: HostRuntime) -> Result<(), Fail> {
+    let symbols = read_german(
+        rt.alloc(),
+        b"\"Enable\",\"E       0.0\",\"BOOL\",\"\"\nLamp,A4.0,BOOL,\nSpeed,PEW 256,INT,\nValve,PAB 3,BYTE,\n\
+Pieces,Z 7,COUNTER,\nTotal,MD 20,DINT,\nDelay,T 5,TIMER,\n",
+    )?;
+    let expected: [(&[u8], Target); 7] = [
+        (b"Enable", variable(Area::I, Width::Bit, 0, 0)),
+        (b"Lamp", variable(Area::Q, Width::Bit, 4, 0)),
+        (b"Speed", variable(Area::P, Width::Word, 256, 0)),
+        (b"Valve", variable(Area::P, Width::Byte, 3, 0)),
+        (b"Pieces", Target::Counter { number: 7 }),
+        (b"Total", variable(Area::M, Width::Dword, 20, 0)),
+        (b"Delay", Target::Timer { number: 5 }),
+    ];
+    same(&rt, "symbols", symbols.list().len(), expected.len());
+    for (symbol, (name, target)) in symbols.list().iter().zip(expected.iter()) {
+        let found = (symbol.name.as_slice(), symbol.target);
+        same(&rt, name, found, (*name, *target));
+    }
     Ok(())
 }

@@ -1,5 +1,5 @@
 use crate::compare::same;
-use crate::symbol_calls::verdict;
+use crate::symbol_calls::{verdict, verdict_german};
 use csv::{ByteRecord, ReaderBuilder};
 use std::alloc::Global;
 use std::process::Abort;
@@ -149,6 +149,38 @@ static NAMES: [Row; 12] = [
     (b"a,M0.0,BOOL,\na,M0.0,BOOL,,\na,M0.0,BOOL,", 2, 14),
 ];
 
+// Letters of the other language are none, those that both languages have are right in either.
+static GERMAN: [Row; 12] = [
+    (
+        b"a,E 0.0,BOOL,\nb,A 124.7,BOOL,\nc,EB 0,BYTE,\nd,AW 2,WORD,",
+        0,
+        0,
+    ),
+    (
+        b"a,ED 0,DWORD,\nb,PEB 1,BYTE,\nc,PED 4,DWORD,\nd,PAW 2,WORD,",
+        0,
+        0,
+    ),
+    (
+        b"a,Z 1,COUNTER,\nb,T 1,TIMER,\nc,M 0.0,BOOL,\nd,VAT 1,,",
+        0,
+        0,
+    ),
+    (
+        b"a,OB 1,,\nb,FB 1,,\nc,FC 1,,\nd,SFC 1,,\ne,DB 1,,\nf,UDT 1,,",
+        0,
+        0,
+    ),
+    (b"a,I 0.0,BOOL,", 1, 15),
+    (b"a,QW 2,WORD,", 1, 15),
+    (b"a,C 1,COUNTER,", 1, 15),
+    (b"a,PIB 1,BYTE,", 1, 15),
+    (b"a,PQW 2,WORD,", 1, 15),
+    (b"a,E 0.0,BYTE,", 1, 15),
+    (b"a,AX 0.0,BOOL,", 1, 15),
+    (b"a,E 0.0,BOOL,\nA,A 0.0,BOOL,", 2, 16),
+];
+
 fn are_refused<R: Abort>(rt: &R, alloc: Global, rows: &[Row]) {
     for (file, line, rule) in rows {
         same(rt, file, verdict(alloc, file), (*line, *rule));
@@ -165,6 +197,13 @@ fn is_record_of_four(alloc: Global, line: &[u8]) -> Result<bool, csv::Error> {
     let found = reader.read_byte_record(&mut record)?;
     let fields = record.len();
     Ok(found && fields == 4 && !reader.read_byte_record(&mut record)?)
+}
+
+#[test]
+fn german_addresses(rt: HostRuntime) {
+    for (file, line, rule) in &GERMAN {
+        same(&rt, file, verdict_german(rt.alloc(), file), (*line, *rule));
+    }
 }
 
 #[test]

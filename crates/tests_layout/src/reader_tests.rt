@@ -1,8 +1,8 @@
 use crate::calls::{Step, at, laid_sound, path_of, symbols_of};
 use crate::compare::same;
 use block_layout::{
-    Cell, Layouts, Member, Path, Spot, Walk, bits_of, fits, is_parameter, named_block, placed,
-    plain_bits, width_of,
+    Cell, ComponentAt, Layouts, Member, Path, PathEnd, bits_of, fits, is_parameter, named_block,
+    placed, plain_bits, width_of,
 };
 use plc_base::{Area, BlockId, BlockKind, Width};
 use std::process::Abort;
@@ -309,20 +309,20 @@ static TEMPORARY: Row = (&[], 1, 0, 16, b"F", Some(Simple::Dint));
 fn reaches(
     rt: &impl Abort,
     layouts: &Layouts,
-    walk: Walk,
+    walk: PathEnd,
     block: usize,
     temporary: bool,
     row: &Row,
 ) {
     let (path, place, depth, offset, name, kind) = row;
-    let spot = Spot {
+    let spot = ComponentAt {
         block,
         temporary,
         place: *place,
         depth: *depth,
         offset: *offset,
     };
-    same(rt, *path, walk, Walk::Reaches { spot });
+    same(rt, *path, walk, PathEnd::Reaches { spot });
     same(rt, *path, layouts.elementary_at(spot), *kind);
     let cell = layouts.cell_at(spot).map(|cell| cell.name.as_bytes());
     same(rt, *path, cell, Some(*name));
@@ -347,14 +347,14 @@ fn where_paths_lead(rt: HostRuntime) -> Result<(), Fail> {
         layouts.walk_local(0, b"G", &none),
         layouts.walk_local(2, b"A", &none),
     );
-    same(&rt, "G and A", local, (Walk::Unknown, Walk::Rests));
+    same(&rt, "G and A", local, (PathEnd::Unknown, PathEnd::Rests));
     let path = path_of(alloc, &[(b"a", 0)])?;
     let data = (layouts.walk_data(1, &path), layouts.walk_data(2, &path));
     same(
         &rt,
         "a in DB 1 and DB 0",
         data,
-        (Walk::Unknown, Walk::Rests),
+        (PathEnd::Unknown, PathEnd::Rests),
     );
     Ok(())
 }

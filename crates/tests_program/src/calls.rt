@@ -181,7 +181,7 @@ fn runs_and_refusals(rt: HostRuntime) -> Result<(), Fail> {
 fn check_by_itself(rt: HostRuntime) -> Result<(), Fail> {
     let mut files = two_files(rt.alloc(), RUNG, b"")?;
     let mut out = MemSink::new(rt.alloc(), 64);
-    let status = cmd_check(rt.alloc(), "source", None, &mut files, &mut out);
+    let status = cmd_check(rt.alloc(), "source", None, false, &mut files, &mut out);
     let told = (status.code, out.taken.as_slice());
     same(&rt, "check", told, (0, b"OK\n".as_slice()));
     Ok(())
@@ -191,7 +191,15 @@ fn check_by_itself(rt: HostRuntime) -> Result<(), Fail> {
 fn go_by_itself(rt: HostRuntime) -> Result<(), Fail> {
     let mut files = two_files(rt.alloc(), RUNG, ONE_RUN)?;
     let mut out = MemSink::new(rt.alloc(), 64);
-    let status = cmd_go(rt.alloc(), "source", "history", None, &mut files, &mut out);
+    let status = cmd_go(
+        rt.alloc(),
+        "source",
+        "history",
+        None,
+        false,
+        &mut files,
+        &mut out,
+    );
     let told = (status.code, out.taken.as_slice());
     let text = b"@7 PQ 4 = 01\nEND 7 RUN\n".as_slice();
     same(&rt, "go", told, (0, text));

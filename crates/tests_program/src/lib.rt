@@ -45,6 +45,8 @@ mod run_tests;
 #[cfg(test)]
 mod symbols_tests;
 #[cfg(test)]
+mod translate_tests;
+#[cfg(test)]
 mod upgrade_tests;
 #[cfg(test)]
 mod watch_status_tests;

@@ -39,7 +39,7 @@ fn is_told<R: Abort + Threads + Wait + Sync>(
 // No command, or a count of words behind it that isn't its own.
 #[test]
 fn commands(rt: HostRuntime) -> Result<(), Fail> {
-    let calls: [&[&str]; 35] = [
+    let calls: [&[&str]; 39] = [
         &[],
         &["help"],
         &["go"],
@@ -56,6 +56,10 @@ fn commands(rt: HostRuntime) -> Result<(), Fail> {
         &["upgrade"],
         &["upgrade", "image"],
         &["upgrade", "image", "upgraded", "more"],
+        &["english", "source"],
+        &["english", "source", "text", "more"],
+        &["german"],
+        &["german", "source"],
         &["bound", "image"],
         &["bound", "image", "certificate", "more"],
         &["recheck"],
@@ -89,7 +93,7 @@ fn commands(rt: HostRuntime) -> Result<(), Fail> {
 // Help and the version are asked for elsewhere.
 #[test]
 fn options(rt: HostRuntime) -> Result<(), Fail> {
-    let calls: [&[&str]; 17] = [
+    let calls: [&[&str]; 21] = [
         &["-x"],
         &["go", "source", "history", "-x"],
         &["--symbols"],
@@ -102,6 +106,10 @@ fn options(rt: HostRuntime) -> Result<(), Fail> {
         &["--symbols=none", "check", "--symbols", "none", "source"],
         &["check", "source", "--symbols=none", "--symbols=none"],
         &["--symbols", "none", "go", "source"],
+        &["check", "source", "--german", "--german"],
+        &["check", "source", "--german=true"],
+        &["check", "source", "--germ"],
+        &["--german"],
         &[
             "live", "image", "stimuli", "ops", "--steps", "5", "--steps", "5",
         ],
@@ -113,10 +121,11 @@ fn options(rt: HostRuntime) -> Result<(), Fail> {
     is_told(&rt, rt.alloc(), &calls, 1, REFUSED)
 }
 
-// `--symbols` goes with the commands that have a source, `--steps` with `live` and `watch`, which need it.
+// `--symbols` and `--german` go with the commands that compile a source, `--steps` with `live` and `watch`, which need
+// it.
 #[test]
 fn options_of_others(rt: HostRuntime) -> Result<(), Fail> {
-    let calls: [&[&str]; 19] = [
+    let calls: [&[&str]; 28] = [
         &["watch", "image", "stimuli", "vars", "ops"],
         &[
             "watch",
@@ -143,6 +152,15 @@ fn options_of_others(rt: HostRuntime) -> Result<(), Fail> {
             "--steps",
             "5",
         ],
+        &["run", "image", "history", "--german"],
+        &["--german", "upgrade", "image", "upgraded"],
+        &["bound", "--german", "image", "certificate"],
+        &["recheck", "image", "certificate", "--german"],
+        &["gen", "1", "--german"],
+        &["english", "source", "text", "--german"],
+        &["german", "source", "text", "--german"],
+        &["german", "source", "text", "--symbols=none"],
+        &["live", "image", "stimuli", "ops", "--steps=5", "--german"],
         &["--steps", "5", "go", "source", "history"],
         &["check", "--steps", "5", "source"],
         &["compile", "source", "image", "--steps=5"],
@@ -218,6 +236,29 @@ fn symbols(rt: HostRuntime) -> Result<(), Fail> {
         &["compile", "source", "image", "--symbols=none"],
     ];
     is_told(&rt, rt.alloc(), &judged, 0, OK)
+}
+
+// The flag may stand anywhere too, and beside `--symbols`. The source has words of English mnemonics alone in its first statement,
+// so that each call refuses it.
+#[test]
+fn german(rt: HostRuntime) -> Result<(), Fail> {
+    let calls: [&[&str]; 6] = [
+        &["--german", "go", "source", "history"],
+        &["go", "--german", "source", "history"],
+        &["go", "source", "history", "--german"],
+        &["check", "source", "--german", "--symbols=none"],
+        &["--symbols", "none", "--german", "check", "source"],
+        &["compile", "source", "--german", "--", "-x"],
+    ];
+    let refused = "source refused: line 3 rule 17\n";
+    is_told(&rt, rt.alloc(), &calls, 2, refused)?;
+    // Behind `--` it is a file, which isn't there.
+    let files: [&[&str]; 2] = [
+        &["check", "--", "--german"],
+        &["english", "none", "--", "--german"],
+    ];
+    is_told(&rt, rt.alloc(), &files[..1], 5, READ_FAULT)?;
+    is_told(&rt, rt.alloc(), &files[1..], 0, OK)
 }
 
 // A value behind a `=` may be anything, and a hyphen alone is a word like any other: each names a

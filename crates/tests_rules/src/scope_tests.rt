@@ -9,13 +9,13 @@ use std::process::Abort;
 use std::test::Fail;
 use stl_ast::{PartKind, Simple, Tree};
 use stl_symbols::Symbols;
-use stl_types::{Callee, Register, Scope, Seen, Side, View, check};
+use stl_types::{Callee, Register, Resolution, ResolvedOperand, Scope, Side, check};
 
 /// What a statement comes to.
 #[derive(Drop)]
 struct Found {
-    seen: Seen,
-    resolved: Option<View>,
+    seen: Resolution,
+    resolved: Option<ResolvedOperand>,
     callee: Option<Callee>,
 }
 
@@ -48,8 +48,8 @@ fn last_statement(alloc: Global, body: &[u8]) -> Result<Found, Fail> {
 }
 
 /// A place of no type with its side.
-fn at(area: Area, byte: u16, width: Width, side: Side) -> View {
-    View::Direct {
+fn at(area: Area, byte: u16, width: Width, side: Side) -> ResolvedOperand {
+    ResolvedOperand::Direct {
         place: Place {
             area,
             number: 0,
@@ -63,8 +63,8 @@ fn at(area: Area, byte: u16, width: Width, side: Side) -> View {
 }
 
 /// A variable of a type: a component of DB 1, or a temporary one with the number 0.
-fn variable(area: Area, number: u16, byte: u16, width: Width, of: Simple) -> View {
-    View::Direct {
+fn variable(area: Area, number: u16, byte: u16, width: Width, of: Simple) -> ResolvedOperand {
+    ResolvedOperand::Direct {
         place: Place {
             area,
             number,
@@ -77,29 +77,29 @@ fn variable(area: Area, number: u16, byte: u16, width: Width, of: Simple) -> Vie
     }
 }
 
-fn parameter(index: usize, section: PartKind, declared: Simple) -> View {
-    View::Parameter {
+fn parameter(index: usize, section: PartKind, declared: Simple) -> ResolvedOperand {
+    ResolvedOperand::Parameter {
         index,
         section,
         declared,
     }
 }
 
-fn called(kind: BlockKind, number: u16, instance: Option<u16>) -> View {
-    View::Called {
+fn called(kind: BlockKind, number: u16, instance: Option<u16>) -> ResolvedOperand {
+    ResolvedOperand::Called {
         block: BlockId { kind, number },
         instance,
     }
 }
 
 /// A statement with what its operand names.
-type Row = (&'static str, View);
+type Row = (&'static str, ResolvedOperand);
 
 /// Each statement's operand names what stands beside it.
 fn are_named(rt: &impl Abort, alloc: Global, rows: &[Row]) -> Result<(), Fail> {
     for (body, view) in rows {
         let found = last_statement(alloc, body.as_bytes())?;
-        let seen = Seen::Sees { view: *view };
+        let seen = Resolution::Resolved { view: *view };
         same(rt, *body, (found.seen, found.resolved), (seen, Some(*view)));
     }
     Ok(())
@@ -116,8 +116,8 @@ fn addresses_and_symbols(rt: HostRuntime) -> Result<(), Fail> {
         ("T PQB 4;", at(Area::P, 4, Width::Byte, Side::Outputs)),
         ("T \"Outside\";", at(Area::P, 4, Width::Word, Side::Both)),
         ("L DIW 6;", at(Area::Di, 6, Width::Word, Side::Both)),
-        ("L \"Delay\";", View::Timer { number: 5 }),
-        ("A C 7;", View::Counter { number: 7 }),
+        ("L \"Delay\";", ResolvedOperand::Timer { number: 5 }),
+        ("A C 7;", ResolvedOperand::Counter { number: 7 }),
     ];
     are_named(&rt, rt.alloc(), &rows)
 }
@@ -143,11 +143,11 @@ fn variables_and_parameters(rt: HostRuntime) -> Result<(), Fail> {
 
 #[test]
 fn other_operands(rt: HostRuntime) -> Result<(), Fail> {
-    let data = View::OpenBlock {
+    let data = ResolvedOperand::OpenBlock {
         di: false,
         number: 2,
     };
-    let by_memory = View::ByMemory {
+    let by_memory = ResolvedOperand::ByMemory {
         area: Area::M,
         width: Width::Word,
         from: Area::M,
@@ -156,11 +156,11 @@ fn other_operands(rt: HostRuntime) -> Result<(), Fail> {
     let which = Register::Dbno;
     let instance = called(BlockKind::Fb, 1, Some(2));
     let rows = [
-        ("SET;", View::Nothing),
-        ("L 5;", View::Constant),
-        ("x: JU x;", View::Label),
-        ("A BR;", View::OfStatus { flag: Flag::Br }),
-        ("L DBNO;", View::Register { which }),
+        ("SET;", ResolvedOperand::Nothing),
+        ("L 5;", ResolvedOperand::Constant),
+        ("x: JU x;", ResolvedOperand::Label),
+        ("A BR;", ResolvedOperand::OfStatus { flag: Flag::Br }),
+        ("L DBNO;", ResolvedOperand::Register { which }),
         ("OPN \"Data\";", data),
         ("L MW [MD 4];", by_memory),
         ("CALL \"Block\", \"Data\";", instance),
@@ -176,12 +176,12 @@ fn unresolved_operands(rt: HostRuntime) -> Result<(), Fail> {
     let word = at(Area::M, 2, Width::Word, Side::Both);
     let input = at(Area::P, 4, Width::Byte, Side::Inputs);
     for (body, seen) in [
-        ("A \"Motro\";", Seen::Unknown),
-        ("L #own.other;", Seen::Unknown),
-        ("OPN DB 9;", Seen::Rests),
-        ("CALL FC 9;", Seen::Rests),
-        ("A MW 2;", Seen::Sees { view: word }),
-        ("T PIB 4;", Seen::Sees { view: input }),
+        ("A \"Motro\";", Resolution::Unknown),
+        ("L #own.other;", Resolution::Unknown),
+        ("OPN DB 9;", Resolution::Unjudged),
+        ("CALL FC 9;", Resolution::Unjudged),
+        ("A MW 2;", Resolution::Resolved { view: word }),
+        ("T PIB 4;", Resolution::Resolved { view: input }),
     ] {
         let found = last_statement(rt.alloc(), body.as_bytes())?;
         same(&rt, body, (found.seen, found.resolved), (seen, None));

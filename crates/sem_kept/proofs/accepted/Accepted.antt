@@ -54,7 +54,7 @@ use Rattle.stl_types.specs.Landings.{crossing_jumps, landings_at_labels, outside
 use Rattle.stl_types.specs.Lists.{lists_from, rule_32}
 use Rattle.stl_types.specs.Operands.{at_line, operands_24, rules_24_25_39, statement_rule}
 use Rattle.stl_types.specs.Parameters.{Callee, callee_of}
-use Rattle.stl_types.specs.Seen.{seen}
+use Rattle.stl_types.specs.Resolution.{seen}
 use Rattle.stl_types.specs.Table.{refusals_by as statement_refusals_by, statement_refusals}
 use Rattle.stl_types.specs.Unknown.{is_unknown, operand_20, rule_20, sets_unknown}
 use Rattle.stl_types.specs.Zones.{ends_none, is_ninth, rule_47, rule_48, rule_49, with_zones, zones_left_open}

@@ -102,7 +102,7 @@ got_some P xs i x h e = subst (λ (o : Option _). IfSome o P) e (got_holds P xs 
 -- THE CODE OF AN ACCEPTED SOURCE
 pub are_coded : AreCoded
 are_coded source file symbols t accepted bytes =
-    let fit = symbols_fit file symbols accepted.named in
+    let fit = symbols_fit accepted.language file symbols accepted.named in
     let tree = right_tree source file symbols t accepted in
     let has = tree_has source accepted.tokens t bytes accepted.parsed in
     mapped_coded (code_blocks_of t symbols (layouts_of t symbols))

@@ -1,5 +1,5 @@
 -- The bits of constants, and which instruction takes which constant.
-use Rattle.std.proofs.Common.{◌≡◌, ℕ, ◌+◌, ◌*◌, ◌/◌, ◌%◌, ◌≤◌, true, false, leb, List, [], ◌∷◌, length, Option, Some, None, ℤ, pos, negsuc, refl, ⊎_elim, arith}
+use Rattle.std.proofs.Common.{◌≡◌, ℕ, ◌+◌, ◌*◌, ◌/◌, ◌%◌, ◌≤◌, ◌<◌, ◌^◌, true, false, leb, List, [], ◌∷◌, length, Option, Some, None, ℤ, pos, negsuc, refl, ⊎_elim, arith}
 use Rattle.std.specs.Option.{option_map}
 use Rattle.std.proofs.lemmas.Bool.{eqb-true, leb-true, le-leb}
 use Rattle.plc_base.specs.Bcd.{bcd_digits}
@@ -9,6 +9,7 @@ use Rattle.plc_base.specs.declared.s5times.TimeBase.TheVariants as base
 use Rattle.flat_code.specs.Table.{admits, takes_of_operation}
 use Rattle.flat_code.specs.declared.operands.Operand.TheVariants as flat
 use Rattle.stl_ast.specs.Literals.{AreBytes, IsDecimal, IsLiteral, IsLong}
+use Rattle.stl_ast.specs.declared.declarations.Simple.{Simple}
 use Rattle.stl_ast.specs.declared.declarations.Simple.TheVariants as simple
 use Rattle.stl_ast.specs.declared.literals.Literal.{Literal}
 use Rattle.stl_ast.specs.declared.literals.Literal.TheVariants as literal
@@ -16,9 +17,10 @@ use Rattle.stl_ast.specs.declared.mnemonics.Mnemonic.{Mnemonic}
 use Rattle.stl_ast.specs.declared.mnemonics.Mnemonic.TheVariants as code
 use Rattle.stl_ast.specs.declared.operands.Operand.TheVariants as operand
 use Rattle.block_layout.specs.Fits.{bits_of, fits, number_from, or_0, twos}
+use Rattle.block_layout.specs.Sizes.{plain_bits}
 use Rattle.stl_types.specs.Constants.{is_count, takes_constant}
 use Rattle.stl_types.specs.Forms.{form_of}
-use Rattle.stl_types.specs.declared.views.View.TheVariants as view
+use Rattle.stl_types.specs.declared.views.ResolvedOperand.TheVariants as view
 use Rattle.stl_codegen.specs.Operations.{add_operation, operation_for}
 use Rattle.sem_kept.specs.Coded.{HasBytes}
 
@@ -100,6 +102,54 @@ word_small (literal.S5time n) is has h = time_small n
 word_small (literal.Characters bytes) is has h =
     two_small bytes (eqb-true (length bytes) 2 h) has
 word_small _ is has h = absurd cc
+
+one_small : (bytes : List ℕ) → length bytes ≡ 1 → AreBytes bytes → number_from 0 bytes ≤ 255
+one_small [] one h = omega arith
+one_small (a ∷ []) one h = omega (arith, h.0)
+one_small (a ∷ b ∷ more) one h = absurd (omega (arith, one))
+
+-- and the bits of a type what fits it
+pub value_fits : (value : Literal) (kind : Simple) → IsLiteral value → HasBytes value
+    → fits value kind ≡ true → bits_of value < 2 ^ plain_bits kind
+unfolding bits_of fits
+value_fits (literal.Truth true) simple.Bool is has e = omega arith
+value_fits (literal.Truth false) simple.Bool is has e = omega arith
+value_fits (literal.Truth value) _ is has e = absurd cc
+value_fits (literal.Number (pos n)) simple.Int is has e = let h = leb-true n 32767 e in omega (arith, h)
+value_fits (literal.Number (pos n)) simple.Word is has e = let h = leb-true n 65535 e in omega (arith, h)
+value_fits (literal.Number (pos n)) simple.Byte is has e = let h = leb-true n 255 e in omega (arith, h)
+value_fits (literal.Number (pos n)) _ is has e = absurd cc
+value_fits (literal.Number (negsuc n)) simple.Int is has e = omega arith
+value_fits (literal.Number (negsuc n)) _ is has e = absurd cc
+value_fits (literal.Binary n) simple.Byte is has e = let h = leb-true n 255 e in omega (arith, h)
+value_fits (literal.Binary n) simple.Word is has e = let h = leb-true n 65535 e in omega (arith, h)
+value_fits (literal.Binary n) simple.Dword is has e = is
+value_fits (literal.Binary n) _ is has e = absurd cc
+value_fits (literal.Byte n) simple.Byte is has e = omega (arith, is)
+value_fits (literal.Byte n) _ is has e = absurd cc
+value_fits (literal.Word n) simple.Byte is has e = let h = leb-true n 255 e in omega (arith, h)
+value_fits (literal.Word n) simple.Word is has e = omega (arith, is)
+value_fits (literal.Word n) _ is has e = absurd cc
+value_fits (literal.Dword n) simple.Dword is has e = is
+value_fits (literal.Dword n) simple.Dint is has e = is
+value_fits (literal.Dword n) _ is has e = absurd cc
+value_fits (literal.Long n) simple.Dint is has e = let h = long_small n is in omega (arith, h)
+value_fits (literal.Long n) _ is has e = absurd cc
+value_fits (literal.Count n) simple.Word is has e = let h = digits_small n in omega (arith, h)
+value_fits (literal.Count n) _ is has e = absurd cc
+value_fits (literal.Time ms) simple.Time is has e = let h = long_small ms is in omega (arith, h)
+value_fits (literal.Time ms) _ is has e = absurd cc
+value_fits (literal.S5time ms) simple.S5time is has e = let h = time_small ms in omega (arith, h)
+value_fits (literal.S5time ms) simple.Word is has e = let h = time_small ms in omega (arith, h)
+value_fits (literal.S5time ms) _ is has e = absurd cc
+value_fits (literal.Characters bytes) simple.Char is has e =
+    let h = one_small bytes (eqb-true (length bytes) 1 e) has in omega (arith, h)
+value_fits (literal.Characters bytes) simple.Word is has e =
+    let h = two_small bytes (eqb-true (length bytes) 2 e) has in omega (arith, h)
+value_fits (literal.Characters bytes) simple.Dword is has e =
+    let h = characters_small bytes is.1 has in omega (arith, h)
+value_fits (literal.Characters bytes) _ is has e = absurd cc
+value_fits (literal.Bytes bytes) kind is has e = absurd cc
 
 -- ---- by instruction
 

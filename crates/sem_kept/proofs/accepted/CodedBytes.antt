@@ -1,7 +1,7 @@
 -- The characters of the constants of a source are bytes, as the source's are.
-use Rattle.std.proofs.Common.{ℕ, zero, suc, ◌-◌, ◌^◌, Bool, true, false, ◌&&◌, List, [], ◌∷◌, ◌++◌, length, take, drop, map, filter, cond, Option, Some, None, sym, subst}
+use Rattle.std.proofs.Common.{◌≡◌, refl, ℕ, zero, suc, ◌-◌, ◌^◌, Bool, true, false, ◌&&◌, List, [], ◌∷◌, ◌++◌, length, take, drop, map, filter, cond, Option, Some, None, sym, subst}
 use Rattle.std.specs.Prelude.{◌==◌, nat_lt, not, slice_range}
-use Rattle.std.specs.List.{AllByRecursion, flat_map}
+use Rattle.std.specs.List.{AllByRecursion, flat_map, slice_get}
 use Rattle.std.specs.Option.{option_map, option_and_then, IfSome}
 use Rattle.plc_base.specs.Decimal.{decimal_up_to}
 use Rattle.plc_base.specs.declared.places.Width.{Width}
@@ -19,7 +19,19 @@ use Rattle.stl_lexer.specs.declared.marks.Mark.TheVariants as mark
 use Rattle.stl_ast.specs.Declarations.{is_elementary}
 use Rattle.stl_ast.specs.Literals.{AreBytes}
 use Rattle.stl_ast.specs.declared.blocks.Block.{Block}
+use Rattle.stl_ast.specs.WellFormed.{IsDataType, IsShapeOf}
+use Rattle.stl_ast.specs.declared.blocks.Part.{Part}
+use Rattle.stl_ast.specs.declared.blocks.PathStep.{PathStep}
+use Rattle.stl_ast.specs.declared.blocks.Setting.{Setting}
 use Rattle.stl_ast.specs.declared.blocks.Tree.{Tree}
+use Rattle.stl_ast.specs.declared.declarations.Bounds.{Bounds}
+use Rattle.stl_ast.specs.declared.declarations.Declaration.{Declaration}
+use Rattle.stl_ast.specs.declared.declarations.ElementType.{ElementType}
+use Rattle.stl_ast.specs.declared.declarations.ElementType.TheVariants as element
+use Rattle.stl_ast.specs.declared.declarations.Init.{Init}
+use Rattle.stl_ast.specs.declared.declarations.TypeTree.{TypeTree}
+use Rattle.plc_base.specs.declared.blocks.BlockKind.{BlockKind}
+use Rattle.plc_base.specs.declared.blocks.BlockKind.TheVariants as kinds
 use Rattle.stl_ast.specs.declared.literals.Literal.{Literal}
 use Rattle.stl_ast.specs.declared.mnemonics.Mnemonic.{Mnemonic}
 use Rattle.stl_ast.specs.declared.mnemonics.Mnemonic.TheVariants as mnemonic
@@ -36,13 +48,14 @@ use Rattle.stl_ast.specs.declared.statements.Actual.{Actual}
 use Rattle.stl_ast.specs.declared.statements.Statement.{Statement}
 use Rattle.stl_parser.specs.Addresses.{address_at, bit_of, block_at}
 use Rattle.stl_parser.specs.Clauses as clauses
-use Rattle.stl_parser.specs.Declarations.{declaration_of, structure_at}
+use Rattle.stl_parser.specs.Declarations.{after_struct, declaration_of, declared_at, init_behind, structure_at}
+use Rattle.stl_parser.specs.Types.{arrays_at, at_end, counted_at, counted_end, element_at, init_at, init_list, init_of, next_init, single_init}
 use Rattle.stl_parser.specs.Literals.{byte_of, bytes_at, bytes_behind, characters_of, last_bytes, literal_at, literal_of, literal_token, long_literal, truth_of, unquoted}
 use Rattle.stl_parser.specs.Numbers.{number_of, signed_at}
 use Rattle.stl_parser.specs.Operands as reads
 use Rattle.stl_parser.specs.Parts.{parts_from, whole}
 use Rattle.stl_parser.specs.Source.{IsTree, Reads}
-use Rattle.stl_parser.specs.Spelling.{is_kept, spelled_block, spelled_part, spelled_shape}
+use Rattle.stl_parser.specs.Spelling.{is_kept, spelled_block, spelled_part, spelled_shape, spelled_type}
 use Rattle.stl_parser.specs.Statements as states
 use Rattle.stl_parser.specs.Tables.{addresses, flags, head_words, keywords, look_up, mnemonics, opening_mnemonics, registers}
 use Rattle.stl_parser.specs.Terminals.{has_kind, is_key, is_mark}
@@ -55,8 +68,8 @@ use Rattle.stl_parser.specs.declared.places.ClausePlace.TheVariants as place
 use Rattle.stl_parser.specs.declared.statements.BareStatement.{BareStatement}
 use Rattle.stl_parser.specs.declared.tables.Address.{Address}
 use Rattle.stl_parser.specs.declared.tables.Address.TheVariants as address
-use Rattle.stl_parser.specs.declared.tables.Form.{Form}
-use Rattle.stl_parser.specs.declared.tables.Form.TheVariants as form
+use Rattle.stl_parser.specs.declared.tables.OperandSyntax.{OperandSyntax}
+use Rattle.stl_parser.specs.declared.tables.OperandSyntax.TheVariants as form
 use Rattle.stl_parser.specs.declared.tables.HeadWord.{HeadWord}
 use Rattle.stl_parser.specs.declared.tables.Keyword.{Keyword}
 use Rattle.stl_parser.specs.declared.tables.Keyword.TheVariants as keyword
@@ -515,7 +528,7 @@ call_has source code tokens h =
     (λ i. mapped (states.actuals_of source i.1) _ AreHeld BareHas (actuals_has source i.1 h)
     (λ actuals k. record { operand = tt; actuals = k })))
 
-behind_word_has : (source : List ℕ) (f : Form) (code : Mnemonic) (tokens : List Token)
+behind_word_has : (source : List ℕ) (f : OperandSyntax) (code : Mnemonic) (tokens : List Token)
     → AreBytes source → IfSome (states.behind_word source f code tokens) BareHas
 unfolding states.behind_word
 behind_word_has source form.Operand code tokens h = with_operand_has source code tokens h
@@ -582,10 +595,139 @@ statement_has source line (w ∷ colon ∷ rest) h =
     both (has_kind w kind.Word && is_mark source colon mark.Colon) _ _ ReadHas
     (labelled_has source line w rest h) (unlabelled_has source line (w ∷ colon ∷ rest) h)
 
+-- ---- initial values
+
+abbrev pub InitsHave : List Init → Type 0
+InitsHave init = AllByRecursion (λ i. HasBytes i.value) init
+
+abbrev FirstInitHas : Init × List Token → Type 0
+FirstInitHas r = HasBytes r.0.value
+
+counted_end_has : (source : List ℕ) (count : ℕ) (value : Literal) (tokens : List Token)
+    → HasBytes value → IfSome (counted_end source count value tokens) FirstInitHas
+unfolding counted_end
+counted_end_has source count value [] h = tt
+counted_end_has source count value (t ∷ rest) h =
+    passed (is_mark source t mark.CloseParen) _ FirstInitHas (λ test. h)
+
+counted_has : (source : List ℕ) (tokens : List Token) → AreBytes source
+    → IfSome (counted_at source tokens) FirstInitHas
+unfolding counted_at
+counted_has source (n ∷ open_ ∷ rest) h =
+    passed (is_mark source open_ mark.OpenParen) _ FirstInitHas
+    (λ test. then_made (number_of source n) _ FirstInitHas
+    (λ count. chained (literal_at source rest) _ FirstHasBytes FirstInitHas
+    (literal_at_has source rest h) (λ r k. counted_end_has source count r.0 r.1 k)))
+counted_has source [] h = tt
+counted_has source (n ∷ []) h = tt
+
+init_at_has : (source : List ℕ) (tokens : List Token) → AreBytes source
+    → IfSome (init_at source tokens) FirstInitHas
+unfolding init_at
+init_at_has source tokens h =
+    either (counted_at source tokens) _ FirstInitHas (counted_has source tokens h)
+    (mapped (literal_at source tokens) _ FirstHasBytes FirstInitHas (literal_at_has source tokens h)
+    (λ r k. k))
+
+next_init_has : (source : List ℕ) (tokens : List Token) → AreBytes source
+    → IfSome (next_init source tokens) FirstInitHas
+unfolding next_init
+next_init_has source [] h = tt
+next_init_has source (t ∷ rest) h =
+    passed (is_mark source t mark.Comma) _ FirstInitHas (λ test. init_at_has source rest h)
+
+init_list_has : (source : List ℕ) (tokens : List Token) → AreBytes source
+    → IfSome (init_list source tokens) InitsHave
+unfolding init_list
+init_list_has source tokens h =
+    chained (init_at source tokens) _ FirstInitHas InitsHave (init_at_has source tokens h)
+    (λ r k.
+    whole_holds (parts_from at_end (next_init source) (r.0 ∷ []) (length r.1) r.1) InitsHave
+    (parts_hold at_end (next_init source) (r.0 ∷ []) (length r.1) r.1 (λ xs ts. InitsHave xs)
+    InitsHave (k, tt)
+    (λ xs ts all. one_more xs (next_init source ts) (next_init_has source ts h) all)
+    (λ xs ts all. all)))
+  where
+    one_more : (xs : List Init) (found : Option (Init × List Token))
+        → IfSome found FirstInitHas → InitsHave xs → IfSome found (λ r. InitsHave (xs ++ r.0 ∷ []))
+    one_more xs None k all = tt
+    one_more xs (Some r) k all = all_push (λ (i : Init). HasBytes i.value) xs r.0 all k
+
+single_init_has : (source : List ℕ) (tokens : List Token) → AreBytes source
+    → IfSome (single_init source tokens) InitsHave
+unfolding single_init
+single_init_has source tokens h =
+    mapped (literal_of source tokens) _ HasBytes InitsHave (literal_has source tokens h)
+    (λ l k. (k, tt))
+
+init_of_has : (source : List ℕ) (arrays : List Bounds) (e : ElementType) (tokens : List Token)
+    → AreBytes source → IfSome (init_of source arrays e tokens) InitsHave
+unfolding init_of
+init_of_has source [] e tokens h = single_init_has source tokens h
+init_of_has source (b ∷ []) (element.Plain k) tokens h = init_list_has source tokens h
+init_of_has source (b ∷ []) element.Structure tokens h = single_init_has source tokens h
+init_of_has source (b ∷ []) element.DateAndTime tokens h = single_init_has source tokens h
+init_of_has source (b ∷ []) (element.Udt name) tokens h = single_init_has source tokens h
+init_of_has source (b ∷ c ∷ bs) e tokens h = single_init_has source tokens h
+
+init_behind_has : (source : List ℕ) (arrays : List Bounds) (e : ElementType) (tokens : List Token)
+    → AreBytes source → IfSome (init_behind source arrays e tokens) InitsHave
+unfolding init_behind
+init_behind_has source arrays e [] h = tt
+init_behind_has source arrays e (t ∷ rest) h =
+    passed (is_mark source t mark.Assign) _ InitsHave (λ test. init_of_has source arrays e rest h)
+
+abbrev pub DeclarationHas : Declaration → Type 0
+DeclarationHas d = InitsHave d.init
+
+declaration_has : (source : List ℕ) (level : ℕ) (tokens : List Token) → AreBytes source
+    → IfSome (declaration_of source level tokens) DeclarationHas
+unfolding declaration_of
+declaration_has source level tokens h =
+    then_made (declared_at source tokens) _ DeclarationHas
+    (λ d. then_made (arrays_at source d.1) _ DeclarationHas
+    (λ a. then_made (element_at source a.1) _ DeclarationHas
+    (λ e. mapped (init_behind source a.0 e.0 e.1) _ InitsHave DeclarationHas
+    (init_behind_has source a.0 e.0 e.1 h) (λ init k. k))))
+
+abbrev FirstDeclarationHas : Declaration × List Token → Type 0
+FirstDeclarationHas r = DeclarationHas r.0
+
+opens_has : (source : List ℕ) (level : ℕ) (tokens : List Token)
+    → IfSome (structure_at source level tokens) FirstDeclarationHas
+unfolding structure_at
+opens_has source level tokens =
+    then_made (declared_at source tokens) _ FirstDeclarationHas
+    (λ d. then_made (arrays_at source d.1) _ FirstDeclarationHas
+    (λ a. made (after_struct source a.1) _ FirstDeclarationHas (λ rest. tt)))
+
+abbrev pub SettingHas : Setting → Type 0
+SettingHas s = HasBytes s.value
+
+set_value_has : (source : List ℕ) (line : ℕ) (path : List PathStep) (tokens : List Token)
+    → AreBytes source → IfSome (clauses.value_behind source line path tokens) SettingHas
+unfolding clauses.value_behind
+set_value_has source line path [] h = tt
+set_value_has source line path (t ∷ rest) h =
+    passed (is_mark source t mark.Assign) _ SettingHas
+    (λ test. mapped (literal_of source rest) _ HasBytes SettingHas (literal_has source rest h)
+    (λ v k. k))
+
+setting_has : (source : List ℕ) (line : ℕ) (tokens : List Token) → AreBytes source
+    → IfSome (clauses.setting_of source line tokens) SettingHas
+unfolding clauses.setting_of
+setting_has source line [] h = tt
+setting_has source line (t ∷ rest) h =
+    then_made (clauses.first_step source t t.kind) _ SettingHas
+    (λ first. then_made (reads.steps_from source (first ∷ []) rest) _ SettingHas
+    (λ r. set_value_has source line r.0 r.1 h))
+
 -- ---- clauses
 
 abbrev ClauseHas : Clause → Type 0
 ClauseHas (clause.Runs s) = StatementHasBytes s
+ClauseHas (clause.Declares d) = DeclarationHas d
+ClauseHas (clause.Sets s) = SettingHas s
 ClauseHas _ = Unit {0}
 
 abbrev FirstClauseHas : Clause × List Token × Bool → Type 0
@@ -599,12 +741,14 @@ inside_has : (source : List ℕ) (p : ClausePlace) (line : ℕ) (inside : List T
 unfolding clauses.inside_clause clauses.declaration_clause clauses.statement_clause clauses.setting_clause
 inside_has source p line inside h =
     either (clauses.declaration_clause source p inside) _ InsideHas
-    (then_made (declaration_of source (clauses.level_at p) inside) _ InsideHas
-    (λ d. both (clauses.takes_parameters p && not (is_elementary d)) None _ InsideHas tt tt))
+    (chained (declaration_of source (clauses.level_at p) inside) _ DeclarationHas InsideHas
+    (declaration_has source (clauses.level_at p) inside h)
+    (λ d k. both (clauses.takes_parameters p && not (is_elementary d)) None _ InsideHas tt k))
     (either (clauses.statement_clause source line inside) _ InsideHas
     (mapped (states.statement_of source line inside) _ ReadHas InsideHas
     (statement_has source line inside h) (λ r k. k))
-    (made (clauses.setting_of source line inside) _ InsideHas (λ s. tt)))
+    (mapped (clauses.setting_of source line inside) _ SettingHas InsideHas
+    (setting_has source line inside h) (λ s k. k)))
 
 plain_has : (source : List ℕ) (p : ClausePlace) (line : ℕ) (tokens : List Token) → AreBytes source
     → IfSome (clauses.plain_clause source p line tokens) FirstClauseHas
@@ -612,7 +756,8 @@ unfolding clauses.plain_clause clauses.structure_clause clauses.semicolon_clause
 plain_has source p line tokens h =
     either (clauses.structure_clause source p tokens) _ FirstClauseHas
     (both (clauses.takes_parameters p) None _ FirstClauseHas tt
-    (made (structure_at source (clauses.level_at p) tokens) _ FirstClauseHas (λ r. tt)))
+    (mapped (structure_at source (clauses.level_at p) tokens) _ FirstDeclarationHas FirstClauseHas
+    (opens_has source (clauses.level_at p) tokens) (λ r k. k)))
     (then_made (clauses.until_semicolon source tokens) _ FirstClauseHas
     (λ cut.
     mapped (clauses.inside_clause source p line cut.0) _ InsideHas FirstClauseHas
@@ -733,6 +878,109 @@ pub tree_has : (source : List ℕ) (tokens : List Token) (t : Tree) → AreBytes
     → IsTree source tokens t → TreeHasBytes t
 tree_has source tokens t h is =
     blocks_have t.blocks
+    (subst (AllByRecursion ClauseHas) (sym is.those)
+    (kept_has is.clauses
+    (reads_has source place.Outside tokens is.clauses place.Outside [] h is.reads)))
+
+-- ---- and the initial values
+
+declared_have : (ds : List Declaration) → AllByRecursion ClauseHas (map clause.Declares ds)
+    → AllByRecursion DeclarationHas ds
+declared_have [] h = tt
+declared_have (d ∷ ds) h = (h.0, declared_have ds h.1)
+
+set_have : (ss : List Setting) → AllByRecursion ClauseHas (map clause.Sets ss)
+    → AllByRecursion SettingHas ss
+set_have [] h = tt
+set_have (s ∷ ss) h = (h.0, set_have ss h.1)
+
+parts_have : (ps : List Part) → AllByRecursion ClauseHas (flat_map spelled_part ps)
+    → AllByRecursion (λ p. AllByRecursion DeclarationHas p.items) ps
+parts_have [] h = tt
+parts_have (p ∷ ps) h = (
+  declared_have p.items (all_front ClauseHas (spelled_part p) (flat_map spelled_part ps) h).1,
+  parts_have ps (all_back ClauseHas (spelled_part p) (flat_map spelled_part ps) h),
+)
+
+type_has : (arrays : List Bounds) (of : ElementType) (components : List Declaration)
+    → arrays ≡ [] → of ≡ element.Structure
+    → AllByRecursion ClauseHas (spelled_type arrays of components)
+    → AllByRecursion DeclarationHas components
+type_has [] element.Structure components e f h = declared_have components h.1
+type_has [] (element.Plain k) components e f h = absurd cc
+type_has [] element.DateAndTime components e f h = absurd cc
+type_has [] (element.Udt name) components e f h = absurd cc
+type_has (b ∷ bs) of components e f h = absurd cc
+
+none_has : (ds : List Declaration) → ds ≡ [] → AllByRecursion DeclarationHas ds
+none_has [] e = tt
+none_has (d ∷ ds) e = absurd cc
+
+data_has : (arrays : List Bounds) (of : ElementType) (components : List Declaration)
+    → arrays ≡ [] → IsDataType of components
+    → AllByRecursion ClauseHas (spelled_type arrays of components)
+    → AllByRecursion DeclarationHas components
+data_has arrays element.Structure components e f h =
+    type_has arrays element.Structure components e refl h
+data_has arrays (element.Udt name) components e f h = none_has components f.1
+data_has arrays (element.Plain k) components e f h = absurd f
+data_has arrays element.DateAndTime components e f h = absurd f
+
+shape_has : (k : BlockKind) (shape : Option TypeTree) (instance : Option BlockName)
+    (components : List Declaration) → IsShapeOf k shape instance components
+    → AllByRecursion ClauseHas (spelled_shape shape instance components)
+    → AllByRecursion DeclarationHas components
+shape_has kinds.Db (Some t) None components is h = data_has t.arrays t.of components is.0 is.1 h
+shape_has kinds.Db None (Some name) components is h = none_has components is.1
+shape_has kinds.Db None None components is h = absurd is
+shape_has kinds.Db (Some t) (Some name) components is h = absurd is
+shape_has kinds.Udt (Some t) None components is h = type_has t.arrays t.of components is.0 is.1 h
+shape_has kinds.Udt None instance components is h = absurd is
+shape_has kinds.Udt (Some t) (Some name) components is h = absurd is
+shape_has kinds.Ob shape instance components is h = none_has components is.2
+shape_has kinds.Fc shape instance components is h = none_has components is.2
+shape_has kinds.Fb shape instance components is h = none_has components is.2
+shape_has kinds.Sfc shape instance components is h = none_has components is.2
+
+-- the characters of the initial values that a block declares and sets are bytes
+pub record ValuesHaveBytes (b : Block) : Type 0 where
+  pub parts : AllByRecursion (λ p. AllByRecursion DeclarationHas p.items) b.parts
+  pub components : AllByRecursion DeclarationHas b.components
+  pub settings : AllByRecursion SettingHas b.settings
+
+values_have : (b : Block) → IsShapeOf b.kind b.shape b.instance_of b.components
+    → AllByRecursion ClauseHas (spelled_block b) → ValuesHaveBytes b
+values_have b shaped h =
+    let ends = clause.Ends b.end_line b.kind ∷ [] in
+    let runs = map clause.Runs b.body ++ ends in
+    let sets = map clause.Sets b.settings ++ runs in
+    let shapes = spelled_shape b.shape b.instance_of b.components ++ sets in
+    let behind = all_back ClauseHas (flat_map spelled_part b.parts) shapes h.1 in
+    let set = all_back ClauseHas (spelled_shape b.shape b.instance_of b.components) sets behind in
+    record {
+      parts = parts_have b.parts (all_front ClauseHas (flat_map spelled_part b.parts) shapes h.1);
+      components = shape_has b.kind b.shape b.instance_of b.components shaped
+          (all_front ClauseHas (spelled_shape b.shape b.instance_of b.components) sets behind);
+      settings = set_have b.settings (all_front ClauseHas (map clause.Sets b.settings) runs set);
+    }
+
+each_value : (bs : List Block) → AllByRecursion ClauseHas (flat_map spelled_block bs) → (k : ℕ)
+    (b : Block) → slice_get bs k ≡ Some b
+    → IsShapeOf b.kind b.shape b.instance_of b.components → ValuesHaveBytes b
+each_value [] h k b there shaped = absurd cc
+each_value (x ∷ bs) h zero b there shaped =
+    values_have b shaped
+    (subst (λ (z : Block). AllByRecursion ClauseHas (spelled_block z))
+    (let same : x ≡ b = cc in same)
+    (all_front ClauseHas (spelled_block x) (flat_map spelled_block bs) h))
+each_value (x ∷ bs) h (suc k) b there shaped =
+    each_value bs (all_back ClauseHas (spelled_block x) (flat_map spelled_block bs) h) k b there shaped
+
+pub values_are_bytes : (source : List ℕ) (tokens : List Token) (t : Tree) → AreBytes source
+    → IsTree source tokens t → (k : ℕ) (b : Block) → slice_get t.blocks k ≡ Some b
+    → IsShapeOf b.kind b.shape b.instance_of b.components → ValuesHaveBytes b
+values_are_bytes source tokens t h is =
+    each_value t.blocks
     (subst (AllByRecursion ClauseHas) (sym is.those)
     (kept_has is.clauses
     (reads_has source place.Outside tokens is.clauses place.Outside [] h is.reads)))

@@ -46,15 +46,15 @@ use Rattle.stl_types.specs.Forms.{form_of}
 use Rattle.stl_types.specs.Operands.{is_on_wrong_side, operand_rule, rule_of, rule_seen, statement_rule, takes as form_takes}
 use Rattle.stl_types.specs.Parameters.{Callee, callee_of}
 use Rattle.stl_types.specs.Resolved.{resolved, seen_view}
-use Rattle.stl_types.specs.Seen.{seen}
-use Rattle.stl_types.specs.declared.forms.Form.{Form}
-use Rattle.stl_types.specs.declared.forms.Form.TheVariants as form
+use Rattle.stl_types.specs.Resolution.{seen}
+use Rattle.stl_types.specs.declared.forms.OperandRule.{OperandRule}
+use Rattle.stl_types.specs.declared.forms.OperandRule.TheVariants as form
 use Rattle.stl_types.specs.declared.parameters.Formal.{Formal}
 use Rattle.stl_types.specs.declared.views.Register.TheVariants as register
-use Rattle.stl_types.specs.declared.views.Seen.{Seen}
-use Rattle.stl_types.specs.declared.views.Seen.TheVariants.{Sees, Unknown, Rests}
-use Rattle.stl_types.specs.declared.views.View.{View}
-use Rattle.stl_types.specs.declared.views.View.TheVariants as view
+use Rattle.stl_types.specs.declared.views.Resolution.{Resolution}
+use Rattle.stl_types.specs.declared.views.Resolution.TheVariants.{Resolved, Unknown, Unjudged}
+use Rattle.stl_types.specs.declared.views.ResolvedOperand.{ResolvedOperand}
+use Rattle.stl_types.specs.declared.views.ResolvedOperand.TheVariants as view
 use Rattle.stl_codegen.proofs.OpLemmas.{jumps, jump_ops}
 use Rattle.stl_codegen.specs.Compiled.{aimed}
 use Rattle.stl_codegen.specs.Emitted.{call_op, end_op, ending, instance_number, jump_op, opening, ops_of, passing, preparing}
@@ -110,18 +110,18 @@ alone op good last = record {
 -- ---- instructions that go on
 
 -- what the rules say of an operand and what it names
-abbrev IsAllowed : Form → Operand → View → Type 0
+abbrev IsAllowed : OperandRule → Operand → ResolvedOperand → Type 0
 IsAllowed f (operand.Constant value) v = (takes_constant f value ≡ true) × (v ≡ view.Constant)
 IsAllowed f _ v = rule_of f v ≡ None
 
-record IsTaken (f : Form) (v : View) : Type 0 where
+record IsTaken (f : OperandRule) (v : ResolvedOperand) : Type 0 where
   takes : form_takes f v ≡ true
   side : is_on_wrong_side f v ≡ false
 
-rule_parts : (f : Form) (v : View) → rule_of f v ≡ None → IsTaken f v
+rule_parts : (f : OperandRule) (v : ResolvedOperand) → rule_of f v ≡ None → IsTaken f v
 rule_parts f v h = let all = allowed f v h in record { takes = all.taken; side = all.side }
 
-still_view : (o : Operand) (v : View) (f : ℕ → ℕ) → aimed f (operand_of o v) ≡ operand_of o v
+still_view : (o : Operand) (v : ResolvedOperand) (f : ℕ → ℕ) → aimed f (operand_of o v) ≡ operand_of o v
 unfolding operand_of
 still_view o (view.NumberBy numbered.Timer from byte) f = refl
 still_view o (view.NumberBy numbered.Counter from byte) f = refl
@@ -134,7 +134,7 @@ still_view o (view.Register register.Dino) f = refl
 still_view o (view.Register _) f = refl
 still_view o _ f = refl
 
-by_rule : (m : Mnemonic) (o : Operand) (v : View) → jump_of m ≡ None → call_of m ≡ None
+by_rule : (m : Mnemonic) (o : Operand) (v : ResolvedOperand) → jump_of m ≡ None → call_of m ≡ None
     → end_of m ≡ None → is_empty m ≡ false → ViewFits o v → rule_of (form_of m) v ≡ None
     → is_instruction (operation_for m o v) (operand_of o v) ≡ true
 unfolding is_instruction
@@ -158,12 +158,12 @@ by_constant m value is has h =
     (ltb (bits_of value) 4294967296) (constant_taken m value is has h)
     (lt-ltb (bits_of value) 4294967296 (omega (arith, small)))
 
-is_taken : (m : Mnemonic) (o : Operand) (v : View) → jump_of m ≡ None → call_of m ≡ None
+is_taken : (m : Mnemonic) (o : Operand) (v : ResolvedOperand) → jump_of m ≡ None → call_of m ≡ None
     → end_of m ≡ None → is_empty m ≡ false → IsOperand o → OperandHasBytes o → ViewFits o v
     → IsAllowed (form_of m) o v → is_instruction (operation_for m o v) (operand_of o v) ≡ true
 is_taken m (operand.Constant value) v j c e n is has fits allowed =
     subst
-    (λ (x : View).
+    (λ (x : ResolvedOperand).
     is_instruction (operation_for m (operand.Constant value) x) (operand_of (operand.Constant value) x)
     ≡ true)
     (sym allowed.1) (by_constant m value is has allowed.0)
@@ -197,8 +197,8 @@ is_taken m (operand.Called name instance) v j c e n is has fits allowed =
     by_rule m (operand.Called name instance) v j c e n fits allowed
 
 -- what stands in the source
-seen_rule : (f : Form) (s : Seen) (v : View) → s ≡ Sees v → rule_seen f s ≡ None → rule_of f v ≡ None
-seen_rule f s v e h = subst (λ (x : Seen). rule_seen f x ≡ None) e h
+seen_rule : (f : OperandRule) (s : Resolution) (v : ResolvedOperand) → s ≡ Resolved v → rule_seen f s ≡ None → rule_of f v ≡ None
+seen_rule f s v e h = subst (λ (x : Resolution). rule_seen f x ≡ None) e h
 
 abbrev constant_by : Bool → Option ℕ
 constant_by b = if b then None else Some 25
@@ -207,12 +207,12 @@ constant_rule : (b : Bool) → constant_by b ≡ None → b ≡ true
 constant_rule true h = refl
 constant_rule false h = absurd cc
 
-abbrev the_view : View → Seen → View
-the_view d (Sees v) = v
+abbrev the_view : ResolvedOperand → Resolution → ResolvedOperand
+the_view d (Resolved v) = v
 the_view d _ = d
 
-allowed_by : (c : Context) (f : Form) (o : Operand) (v : View) → operand_rule c f o ≡ None
-    → seen c o ≡ Sees v → IsAllowed f o v
+allowed_by : (c : Context) (f : OperandRule) (o : Operand) (v : ResolvedOperand) → operand_rule c f o ≡ None
+    → seen c o ≡ Resolved v → IsAllowed f o v
 unfolding seen
 allowed_by c f (operand.Constant value) v h e =
     (constant_rule (takes_constant f value) h, sym (ap (the_view view.Constant) e))
@@ -241,7 +241,7 @@ allowed_by c f (operand.Called name instance) v h e =
 
 -- ---- one that opens a data block first
 
-opened_fits : (o : Operand) (v : View) → ViewFits o v → IfSome (opened_by v) IsWord
+opened_fits : (o : Operand) (v : ResolvedOperand) → ViewFits o v → IfSome (opened_by v) IsWord
 opened_fits o (view.Direct place w side declared) fits = by (is_in_named_block place)
   where
     by : (b : Bool) → IfSome (if b then Some place.number else None) IsWord
@@ -314,7 +314,7 @@ place_passed place w fits = by (is_in_named_block place)
     by true = and_from (ltb place.number 65536) _ (word_fits place.number fits.0) inside
     by false = inside
 
-view_passed : (o : Operand) (v : View) → ViewFits o v
+view_passed : (o : Operand) (v : ResolvedOperand) → ViewFits o v
     → IfSome (passed_view o v) (λ p. actual_fits p ≡ true)
 view_passed o (view.Direct place w side declared) fits = place_passed place w fits
 view_passed o (view.Parameter index section declared) fits =
@@ -323,11 +323,11 @@ view_passed o view.Constant fits =
     lt-ltb (constant_bits o) 4294967296 (omega (arith, fits))
 view_passed o _ fits = tt
 
-seen_passed : (o : Operand) (s : Seen) → SeenFits o s
+seen_passed : (o : Operand) (s : Resolution) → SeenFits o s
     → IfSome (passed_seen o s) (λ p. actual_fits p ≡ true)
-seen_passed o (Sees v) fits = view_passed o v fits
+seen_passed o (Resolved v) fits = view_passed o v fits
 seen_passed o Unknown fits = tt
-seen_passed o Rests fits = tt
+seen_passed o Unjudged fits = tt
 
 -- what a call passes for the parameters from an index on
 record IsGoodPassing (most : ℕ) (ps : List Passing) : Type 0 where
@@ -461,15 +461,15 @@ actual_seen c (a ∷ actuals) fit are has =
     (seen_fits c a.value fit are.0.value has.0, actual_seen c actuals fit are.1 has.1)
 
 -- what is called can be
-abbrev CallsCallable : View → Type 0
+abbrev CallsCallable : ResolvedOperand → Type 0
 CallsCallable (view.Called id instance) = is_callable_kind id.kind ≡ true
 CallsCallable _ = Unit {0}
 
-calls_callable : (v : View) → rule_of form.Calls v ≡ None → CallsCallable v
+calls_callable : (v : ResolvedOperand) → rule_of form.Calls v ≡ None → CallsCallable v
 calls_callable (view.Called id instance) h = rule_callable id instance h
 calls_callable _ h = tt
 
-call_view_good : (c : Context) (s : Statement) (how : CallOperation) (v : View) → IsFit c
+call_view_good : (c : Context) (s : Statement) (how : CallOperation) (v : ResolvedOperand) → IsFit c
     → IsGoodSource c s → ViewFits s.operand v → CallsCallable v
     → IsGoodStatement (ops_of (call_instr c s how v))
 call_view_good c s how (view.Called id instance) fit good fits calls =
@@ -478,9 +478,9 @@ call_view_good c s how (view.Called id instance) fit good fits calls =
     (actual_seen c s.actuals fit good.formed.actuals good.has.actuals) good.callee)
 call_view_good c s how _ fit good fits calls = filler_good
 
-view_good : (c : Context) (s : Statement) (v : View) → IsFit c → IsGoodSource c s
+view_good : (c : Context) (s : Statement) (v : ResolvedOperand) → IsFit c → IsGoodSource c s
     → is_empty s.code ≡ false → jump_of s.code ≡ None → statement_rule c s ≡ None
-    → seen c s.operand ≡ Sees v → IsGoodStatement (ops_of (view_instr c s v (call_of s.code)))
+    → seen c s.operand ≡ Resolved v → IsGoodStatement (ops_of (view_instr c s v (call_of s.code)))
 view_good c s v fit good some no_jump rule e = by (call_of s.code) refl
   where
     fits : ViewFits s.operand v
@@ -504,27 +504,27 @@ view_good c s v fit good some no_jump rule e = by (call_of s.code) refl
         call_view_good c s how v fit good fits
         (calls_callable v
         (rule_there c form.Calls s.operand v no_call_constant
-        (ap (λ (f : Form). operand_rule c f s.operand) (sym (call_form s.code how is)) ∙ rule) e))
+        (ap (λ (f : OperandRule). operand_rule c f s.operand) (sym (call_form s.code how is)) ∙ rule) e))
     by None is = ended (end_of s.code) is refl
 
-record IsResolved (c : Context) (s : Statement) (v : View) : Type 0 where
+record IsResolved (c : Context) (s : Statement) (v : ResolvedOperand) : Type 0 where
   rule : statement_rule c s ≡ None
-  seen : seen c s.operand ≡ Sees v
+  seen : seen c s.operand ≡ Resolved v
 
-resolved_parts : (c : Context) (s : Statement) (v : View) → resolved c s ≡ Some v
+resolved_parts : (c : Context) (s : Statement) (v : ResolvedOperand) → resolved c s ≡ Some v
     → IsResolved c s v
 unfolding resolved
 resolved_parts c s v e = by (statement_rule c s) (seen c s.operand) refl refl e
   where
-    by : (rule : Option ℕ) (what : Seen) → statement_rule c s ≡ rule → seen c s.operand ≡ what
+    by : (rule : Option ℕ) (what : Resolution) → statement_rule c s ≡ rule → seen c s.operand ≡ what
         → (if is_none rule then seen_view what else None) ≡ Some v → IsResolved c s v
-    by None (Sees x) r k h = record { rule = r; seen = k ∙ ap Sees (ap (view_or x) h) }
+    by None (Resolved x) r k h = record { rule = r; seen = k ∙ ap Resolved (ap (view_or x) h) }
       where
-        view_or : View → Option View → View
+        view_or : ResolvedOperand → Option ResolvedOperand → ResolvedOperand
         view_or d None = d
         view_or d (Some y) = y
     by None Unknown r k h = absurd cc
-    by None Rests r k h = absurd cc
+    by None Unjudged r k h = absurd cc
     by (Some n) what r k h = absurd cc
 
 -- THE OPS OF A STATEMENT
@@ -534,7 +534,7 @@ pub statement_good : (c : Context) (body : List Statement) (n : ℕ) (s : Statem
 unfolding instruction
 statement_good c body n s fit good some = by (jump_of s.code) refl
   where
-    resolves : (v : Option View) → jump_of s.code ≡ None → resolved c s ≡ v
+    resolves : (v : Option ResolvedOperand) → jump_of s.code ≡ None → resolved c s ≡ v
         → IsGoodStatement (ops_of (resolved_instr c s v))
     resolves None no_jump e = filler_good
     resolves (Some v) no_jump e =

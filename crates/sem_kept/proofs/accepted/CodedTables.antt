@@ -29,10 +29,10 @@ use Rattle.stl_ast.specs.declared.operands.Numbered.TheVariants as numbered
 use Rattle.stl_ast.specs.declared.operands.Operand.{Operand}
 use Rattle.stl_types.specs.Forms.{form_of}
 use Rattle.stl_types.specs.Operands.{takes as form_takes}
-use Rattle.stl_types.specs.declared.forms.Form.TheVariants as form
+use Rattle.stl_types.specs.declared.forms.OperandRule.TheVariants as form
 use Rattle.stl_types.specs.declared.views.Register.TheVariants as register
-use Rattle.stl_types.specs.declared.views.View.{View}
-use Rattle.stl_types.specs.declared.views.View.TheVariants as view
+use Rattle.stl_types.specs.declared.views.ResolvedOperand.{ResolvedOperand}
+use Rattle.stl_types.specs.declared.views.ResolvedOperand.TheVariants as view
 use Rattle.stl_codegen.specs.Operands.{operand_of, pointer_bits}
 use Rattle.stl_codegen.specs.Operations.{jump_of, call_of, end_of, or_operation, load_operation, transfer_operation, load_pointer_operation, store_pointer_operation, operation_for}
 
@@ -60,13 +60,13 @@ operation_is_op w o h = instruction_is_op w o (ltb-true (code_of w) 128 (code_be
 
 -- ---- operands by form, constants apart
 
-bare_takes : (o : Operand) (v : View) → form_takes form.Bare v ≡ true
+bare_takes : (o : Operand) (v : ResolvedOperand) → form_takes form.Bare v ≡ true
     → admits takes.Nothing (operand_of o v) ≡ true
 unfolding form_takes admits operand_of
 bare_takes o view.Nothing h = refl
 bare_takes o _ h = absurd cc
 
-check_takes : (o : Operand) (v : View) → form_takes form.ReadsBit v ≡ true
+check_takes : (o : Operand) (v : ResolvedOperand) → form_takes form.ReadsBit v ≡ true
     → admits takes.Check (operand_of o v) ≡ true
 unfolding form_takes admits operand_of
 check_takes o (view.Direct place width side declared) h = refl
@@ -80,7 +80,7 @@ check_takes o (view.NumberBy numbered.Counter from byte) h = refl
 check_takes o (view.OfStatus flag) h = refl
 check_takes o _ h = absurd cc
 
-or_takes : (o : Operand) (v : View) → form_takes form.ReadsBitOrBare v ≡ true
+or_takes : (o : Operand) (v : ResolvedOperand) → form_takes form.ReadsBitOrBare v ≡ true
     → admits (takes_of_operation (or_operation v)) (operand_of o v) ≡ true
 unfolding form_takes admits operand_of
 or_takes o view.Nothing h = refl
@@ -95,7 +95,7 @@ or_takes o (view.NumberBy numbered.Counter from byte) h = refl
 or_takes o (view.OfStatus flag) h = refl
 or_takes o _ h = absurd cc
 
-bit_takes : (o : Operand) (v : View) → form_takes form.WritesBit v ≡ true
+bit_takes : (o : Operand) (v : ResolvedOperand) → form_takes form.WritesBit v ≡ true
     → admits takes.Bit (operand_of o v) ≡ true
 unfolding form_takes admits operand_of
 bit_takes o (view.Direct place width side declared) h = refl
@@ -104,7 +104,7 @@ bit_takes o (view.ByMemory a width from byte) h = refl
 bit_takes o (view.ByRegister a width r bits) h = refl
 bit_takes o _ h = absurd cc
 
-set_takes : (o : Operand) (v : View) → form_takes form.Sets v ≡ true
+set_takes : (o : Operand) (v : ResolvedOperand) → form_takes form.Sets v ≡ true
     → admits takes.BitOrCounter (operand_of o v) ≡ true
 unfolding form_takes admits operand_of
 set_takes o (view.Direct place width side declared) h = refl
@@ -115,7 +115,7 @@ set_takes o (view.Counter n) h = refl
 set_takes o (view.NumberBy numbered.Counter from byte) h = refl
 set_takes o _ h = absurd cc
 
-reset_takes : (o : Operand) (v : View) → form_takes form.Resets v ≡ true
+reset_takes : (o : Operand) (v : ResolvedOperand) → form_takes form.Resets v ≡ true
     → admits takes.BitOrNumbered (operand_of o v) ≡ true
 unfolding form_takes admits operand_of
 reset_takes o (view.Direct place width side declared) h = refl
@@ -128,7 +128,7 @@ reset_takes o (view.NumberBy numbered.Timer from byte) h = refl
 reset_takes o (view.NumberBy numbered.Counter from byte) h = refl
 reset_takes o _ h = absurd cc
 
-load_takes : (o : Operand) (v : View) → form_takes form.Loads v ≡ true
+load_takes : (o : Operand) (v : ResolvedOperand) → form_takes form.Loads v ≡ true
     → admits (takes_of_operation (load_operation v)) (operand_of o v) ≡ true
 unfolding form_takes admits operand_of
 load_takes o (view.Direct place width side declared) h = refl
@@ -144,7 +144,7 @@ load_takes o (view.Register register.Ar2) h = absurd cc
 load_takes o (view.Register _) h = refl
 load_takes o _ h = absurd cc
 
-transfer_takes : (o : Operand) (v : View) → form_takes form.Transfers v ≡ true
+transfer_takes : (o : Operand) (v : ResolvedOperand) → form_takes form.Transfers v ≡ true
     → admits (takes_of_operation (transfer_operation v)) (operand_of o v) ≡ true
 unfolding form_takes admits operand_of
 transfer_takes o (view.Direct place width side declared) h = refl
@@ -154,7 +154,7 @@ transfer_takes o (view.ByRegister a width r bits) h = refl
 transfer_takes o (view.Register register.Stw) h = refl
 transfer_takes o _ h = absurd cc
 
-numbered_takes : (o : Operand) (v : View) → form_takes form.LoadsBcd v ≡ true
+numbered_takes : (o : Operand) (v : ResolvedOperand) → form_takes form.LoadsBcd v ≡ true
     → admits takes.Numbered (operand_of o v) ≡ true
 unfolding form_takes admits operand_of
 numbered_takes o (view.Timer n) h = refl
@@ -163,12 +163,12 @@ numbered_takes o (view.NumberBy numbered.Timer from byte) h = refl
 numbered_takes o (view.NumberBy numbered.Counter from byte) h = refl
 numbered_takes o _ h = absurd cc
 
-enable_takes : (o : Operand) (v : View) → form_takes form.Enables v ≡ true
+enable_takes : (o : Operand) (v : ResolvedOperand) → form_takes form.Enables v ≡ true
     → admits takes.Numbered (operand_of o v) ≡ true
 unfolding form_takes
 enable_takes o v h = numbered_takes o v h
 
-lar1_takes : (o : Operand) (v : View) → form_takes form.LoadsAr1 v ≡ true
+lar1_takes : (o : Operand) (v : ResolvedOperand) → form_takes form.LoadsAr1 v ≡ true
     → admits (takes_of_operation (load_pointer_operation v)) (operand_of o v) ≡ true
 unfolding form_takes admits operand_of
 lar1_takes o view.Nothing h = refl
@@ -177,7 +177,7 @@ lar1_takes o (view.Direct place width side declared) h = refl
 lar1_takes o (view.Register register.Ar2) h = refl
 lar1_takes o _ h = absurd cc
 
-lar2_takes : (o : Operand) (v : View) → form_takes form.LoadsAr2 v ≡ true
+lar2_takes : (o : Operand) (v : ResolvedOperand) → form_takes form.LoadsAr2 v ≡ true
     → admits takes.Pointer (operand_of o v) ≡ true
 unfolding form_takes admits operand_of
 lar2_takes o view.Nothing h = refl
@@ -185,7 +185,7 @@ lar2_takes o (view.Pointer a byte bit) h = refl
 lar2_takes o (view.Direct place width side declared) h = refl
 lar2_takes o _ h = absurd cc
 
-tar1_takes : (o : Operand) (v : View) → form_takes form.StoresAr1 v ≡ true
+tar1_takes : (o : Operand) (v : ResolvedOperand) → form_takes form.StoresAr1 v ≡ true
     → admits (takes_of_operation (store_pointer_operation v)) (operand_of o v) ≡ true
 unfolding form_takes admits operand_of
 tar1_takes o view.Nothing h = refl
@@ -193,28 +193,28 @@ tar1_takes o (view.Direct place width side declared) h = refl
 tar1_takes o (view.Register register.Ar2) h = refl
 tar1_takes o _ h = absurd cc
 
-tar2_takes : (o : Operand) (v : View) → form_takes form.StoresAr2 v ≡ true
+tar2_takes : (o : Operand) (v : ResolvedOperand) → form_takes form.StoresAr2 v ≡ true
     → admits takes.PointerPlace (operand_of o v) ≡ true
 unfolding form_takes admits operand_of
 tar2_takes o view.Nothing h = refl
 tar2_takes o (view.Direct place width side declared) h = refl
 tar2_takes o _ h = absurd cc
 
-timer_takes : (o : Operand) (v : View) → form_takes form.StartsTimer v ≡ true
+timer_takes : (o : Operand) (v : ResolvedOperand) → form_takes form.StartsTimer v ≡ true
     → admits takes.Timer (operand_of o v) ≡ true
 unfolding form_takes admits operand_of
 timer_takes o (view.Timer n) h = refl
 timer_takes o (view.NumberBy numbered.Timer from byte) h = refl
 timer_takes o _ h = absurd cc
 
-counter_takes : (o : Operand) (v : View) → form_takes form.StepsCounter v ≡ true
+counter_takes : (o : Operand) (v : ResolvedOperand) → form_takes form.StepsCounter v ≡ true
     → admits takes.Counter (operand_of o v) ≡ true
 unfolding form_takes admits operand_of
 counter_takes o (view.Counter n) h = refl
 counter_takes o (view.NumberBy numbered.Counter from byte) h = refl
 counter_takes o _ h = absurd cc
 
-open_takes : (o : Operand) (v : View) → form_takes form.Opens v ≡ true
+open_takes : (o : Operand) (v : ResolvedOperand) → form_takes form.Opens v ≡ true
     → admits takes.Open (operand_of o v) ≡ true
 unfolding form_takes admits operand_of
 open_takes o (view.OpenBlock di n) h = refl
@@ -222,7 +222,7 @@ open_takes o (view.NumberBy numbered.Db from byte) h = refl
 open_takes o (view.NumberBy numbered.Di from byte) h = refl
 open_takes o _ h = absurd cc
 
-nothing_takes : (most : ℕ) (o : Operand) (v : View) → form_takes form.Bare v ≡ true
+nothing_takes : (most : ℕ) (o : Operand) (v : ResolvedOperand) → form_takes form.Bare v ≡ true
     → admits (takes.NothingOrNumber most) (operand_of o v) ≡ true
 unfolding form_takes admits operand_of
 nothing_takes most o view.Nothing h = refl
@@ -241,11 +241,11 @@ pointer_near (Some area.Di) byte bit k j = omega arith
 pointer_near (Some area.L) byte bit k j = omega arith
 
 -- its numbers
-abbrev pub PointerFits : View → Type 0
+abbrev pub PointerFits : ResolvedOperand → Type 0
 PointerFits (view.Pointer a byte bit) = (byte ≤ 65535) × (bit ≤ 7)
 PointerFits _ = Unit {0}
 
-pointer_takes : (o : Operand) (v : View) → PointerFits v → form_takes form.AddsToAr v ≡ true
+pointer_takes : (o : Operand) (v : ResolvedOperand) → PointerFits v → form_takes form.AddsToAr v ≡ true
     → admits (takes.NothingOrNumber 4294967295) (operand_of o v) ≡ true
 unfolding form_takes admits operand_of
 pointer_takes o view.Nothing f h = refl
@@ -256,7 +256,7 @@ pointer_takes o _ f h = absurd cc
 -- ---- by instruction
 
 -- an instruction that goes on takes what its form does
-pub taken : (m : Mnemonic) (o : Operand) (v : View) → jump_of m ≡ None → call_of m ≡ None
+pub taken : (m : Mnemonic) (o : Operand) (v : ResolvedOperand) → jump_of m ≡ None → call_of m ≡ None
     → end_of m ≡ None → is_empty m ≡ false → PointerFits v → form_takes (form_of m) v ≡ true
     → admits (takes_of_operation (operation_for m o v)) (operand_of o v) ≡ true
 unfolding form_of operation_for form_takes

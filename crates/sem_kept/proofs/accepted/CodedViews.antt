@@ -40,20 +40,20 @@ use Rattle.block_layout.specs.declared.blocks.BlockLayout.{BlockLayout}
 use Rattle.block_layout.specs.declared.cells.Cell.{Cell}
 use Rattle.block_layout.specs.declared.cells.Element.{Element}
 use Rattle.block_layout.specs.declared.cells.Element.TheVariants as element
-use Rattle.block_layout.specs.declared.walks.Spot.{Spot}
-use Rattle.block_layout.specs.declared.walks.Walk.{Walk}
-use Rattle.block_layout.specs.declared.walks.Walk.TheVariants as walk
+use Rattle.block_layout.specs.declared.walks.ComponentAt.{ComponentAt}
+use Rattle.block_layout.specs.declared.walks.PathEnd.{PathEnd}
+use Rattle.block_layout.specs.declared.walks.PathEnd.TheVariants as walk
 use Rattle.stl_types.specs.Addresses.{address_in, area_of}
 use Rattle.stl_types.specs.Context.{Context, data_number, data_place, in_function, number_of, whole_place}
 use Rattle.stl_types.specs.Operands.{is_on_wrong_side}
-use Rattle.stl_types.specs.Seen.{called_seen, direct_seen, id_at, instance_number, opened_seen, path_seen, seen, symbol_seen, target_view, whole_block}
+use Rattle.stl_types.specs.Resolution.{called_seen, direct_seen, id_at, instance_number, opened_seen, path_seen, seen, symbol_seen, target_view, whole_block}
 use Rattle.stl_types.specs.Variables.{behind_others, composite, data_at, data_path, data_variable, data_walked, date_or_composite, in_area, is_temporary, own_at, own_elementary, own_variable, own_walked, parameter, parameter_at, parameter_index}
-use Rattle.stl_types.specs.declared.forms.Form.{Form}
+use Rattle.stl_types.specs.declared.forms.OperandRule.{OperandRule}
 use Rattle.stl_types.specs.declared.views.Register.TheVariants as register
-use Rattle.stl_types.specs.declared.views.Seen.{Seen}
-use Rattle.stl_types.specs.declared.views.Seen.TheVariants.{Sees}
-use Rattle.stl_types.specs.declared.views.View.{View}
-use Rattle.stl_types.specs.declared.views.View.TheVariants as view
+use Rattle.stl_types.specs.declared.views.Resolution.{Resolution}
+use Rattle.stl_types.specs.declared.views.Resolution.TheVariants.{Resolved}
+use Rattle.stl_types.specs.declared.views.ResolvedOperand.{ResolvedOperand}
+use Rattle.stl_types.specs.declared.views.ResolvedOperand.TheVariants as view
 use Rattle.stl_codegen.specs.Operands.{constant_bits, operand_of, pointer_bits}
 use Rattle.sem_kept.specs.Coded.{OperandHasBytes}
 use Rattle.sem_kept.proofs.accepted.CodedBits.{bits_small}
@@ -68,7 +68,7 @@ abbrev pub PlaceFits : Place → Type 0
 PlaceFits place = IsWord place.number × IsWord place.byte × (place.bit ≤ 7)
 
 -- the numbers of a view, and the bits of a constant
-abbrev pub ViewFits : Operand → View → Type 0
+abbrev pub ViewFits : Operand → ResolvedOperand → Type 0
 ViewFits o (view.Direct place w side declared) = PlaceFits place
 ViewFits o (view.Parameter index section declared) = index < 256
 ViewFits o (view.ByMemory a w from byte) = (holds_pointers from ≡ true) × IsWord byte
@@ -82,11 +82,11 @@ ViewFits o (view.OpenBlock di n) = IsWord n
 ViewFits o (view.Called id instance) = IsWord id.number × IfSome instance IsWord
 ViewFits o _ = Unit {0}
 
-abbrev pub SeenFits : Operand → Seen → Type 0
-SeenFits o (Sees v) = ViewFits o v
+abbrev pub SeenFits : Operand → Resolution → Type 0
+SeenFits o (Resolved v) = ViewFits o v
 SeenFits o _ = Unit {0}
 
-pub pointer_fits : (o : Operand) (v : View) → ViewFits o v → PointerFits v
+pub pointer_fits : (o : Operand) (v : ResolvedOperand) → ViewFits o v → PointerFits v
 pointer_fits o (view.Pointer a byte bit) f = f
 pointer_fits o _ f = tt
 
@@ -109,13 +109,13 @@ direct_fits a w byte bit k j =
     (byte_fits 0 7 bit (omega arith) j (omega arith))
 
 -- no pointer has the peripheral area
-memory_right : (f : Form) (a : Area) (w : Width) (from : Area) (byte : ℕ)
+memory_right : (f : OperandRule) (a : Area) (w : Width) (from : Area) (byte : ℕ)
     → is_on_wrong_side f (view.ByMemory a w from byte) ≡ false → in_memory a ≡ true
 memory_right f area.P w from byte h = absurd cc
 memory_right f area.I w from byte h = refl
 memory_right f _ w from byte h = refl
 
-register_right : (f : Form) (a : Option Area) (w : Width) (r bits : ℕ)
+register_right : (f : OperandRule) (a : Option Area) (w : Width) (r bits : ℕ)
     → is_on_wrong_side f (view.ByRegister a w r bits) ≡ false → crosses a ≡ true
 register_right f None w r bits h = refl
 register_right f (Some area.P) w r bits h = absurd cc
@@ -128,7 +128,7 @@ condition_fits : (flag : Flag)
 condition_fits flags.Br = refl
 condition_fits _ = refl
 
-pub payload_right : (f : Form) (o : Operand) (v : View) → is_on_wrong_side f v ≡ false
+pub payload_right : (f : OperandRule) (o : Operand) (v : ResolvedOperand) → is_on_wrong_side f v ≡ false
     → ViewFits o v → payload_fits (operand_of o v) ≡ true
 unfolding operand_of
 payload_right f o (view.Direct place w side declared) r fits =
@@ -287,7 +287,7 @@ index_small count place (Some b) few lt = by b.result
         first true = omega arith
         first false = omega arith
 
-parameter_holds : (c : Context) (o : Operand) (spot : Spot) (kind : Simple)
+parameter_holds : (c : Context) (o : Operand) (spot : ComponentAt) (kind : Simple)
     → length (cells_at c.layouts c.block false) ≤ 60 → SeenFits o (parameter_at c spot kind)
 parameter_holds c o spot kind few =
     by (slice_get (cells_at c.layouts c.block false) spot.place) refl
@@ -304,7 +304,7 @@ parameter_holds c o spot kind few =
         (slice_get c.blocks c.block) few
         (slice_get_within (cells_at c.layouts c.block false) spot.place cell e)
 
-own_elementary_fits : (c : Context) (o : Operand) (temporary : Bool) (spot : Spot) (kind : Simple)
+own_elementary_fits : (c : Context) (o : Operand) (temporary : Bool) (spot : ComponentAt) (kind : Simple)
     → IsFit c → SeenFits o (own_elementary c temporary spot kind)
 own_elementary_fits c o true spot kind fit =
     in_area_fits o kind area.L 0 spot.offset (omega arith)
@@ -321,7 +321,7 @@ own_fits : (c : Context) (o : Operand) (name : List ℕ) (steps : List PathStep)
     → SeenFits o (own_variable c name steps)
 own_fits c o name steps fit = by (walked_local c.layouts c.block name steps)
   where
-    by : (w : Walk) → SeenFits o (own_walked c (is_temporary c name) w)
+    by : (w : PathEnd) → SeenFits o (own_walked c (is_temporary c name) w)
     by walk.Unknown = tt
     by walk.Rests = tt
     by (walk.Reaches spot) = at (elementary_at c.layouts spot)
@@ -330,7 +330,7 @@ own_fits c o name steps fit = by (walked_local c.layouts c.block name steps)
         at None = composite_fits o (slice_get (cells_at c.layouts spot.block spot.temporary) spot.place)
         at (Some kind) = own_elementary_fits c o (is_temporary c name) spot kind fit
 
-data_walk_fits : (c : Context) (o : Operand) (n : ℕ) (w : Walk) → IsWord n
+data_walk_fits : (c : Context) (o : Operand) (n : ℕ) (w : PathEnd) → IsWord n
     → SeenFits o (data_walked c n w)
 data_walk_fits c o n walk.Unknown h = tt
 data_walk_fits c o n walk.Rests h = tt

@@ -26,47 +26,47 @@ use Rattle.block_layout.specs.Types.{Types}
 use Rattle.block_layout.specs.declared.cells.Cell.{Cell}
 use Rattle.block_layout.specs.declared.cells.Element.{Element}
 use Rattle.block_layout.specs.declared.cells.Element.TheVariants as element
-use Rattle.block_layout.specs.declared.walks.Spot.{Spot}
-use Rattle.block_layout.specs.declared.walks.Walk.{Walk}
-use Rattle.block_layout.specs.declared.walks.Walk.TheVariants as walk
+use Rattle.block_layout.specs.declared.walks.ComponentAt.{ComponentAt}
+use Rattle.block_layout.specs.declared.walks.PathEnd.{PathEnd}
+use Rattle.block_layout.specs.declared.walks.PathEnd.TheVariants as walk
 use Rattle.stl_types.specs.Addresses.{address_in}
 use Rattle.stl_types.specs.Brackets.{closes, opening}
 use Rattle.stl_types.specs.Constants.{takes_constant}
 use Rattle.stl_types.specs.Context.{Context, data_number, data_place, in_function}
 use Rattle.stl_types.specs.Operands.{operand_rule, rule_of, rule_seen, takes}
-use Rattle.stl_types.specs.Seen.{direct_seen, opened_seen, path_seen, seen, symbol_seen, target_view}
+use Rattle.stl_types.specs.Resolution.{direct_seen, opened_seen, path_seen, seen, symbol_seen, target_view}
 use Rattle.stl_types.specs.Unknown.{is_unknown}
 use Rattle.stl_types.specs.Variables.{composite, data_at, data_path, data_walked, date_or_composite, in_area, is_temporary, own_at, own_elementary, own_walked, parameter, parameter_at, parameter_index}
 use Rattle.stl_types.specs.Zones.{ends_zone, opens_zone}
-use Rattle.stl_types.specs.declared.forms.Form.{Form}
-use Rattle.stl_types.specs.declared.forms.Form.TheVariants as form
-use Rattle.stl_types.specs.declared.views.Seen.{Seen}
-use Rattle.stl_types.specs.declared.views.Seen.TheVariants.{Sees, Unknown, Rests}
-use Rattle.stl_types.specs.declared.views.View.{View}
-use Rattle.stl_types.specs.declared.views.View.TheVariants as view
+use Rattle.stl_types.specs.declared.forms.OperandRule.{OperandRule}
+use Rattle.stl_types.specs.declared.forms.OperandRule.TheVariants as form
+use Rattle.stl_types.specs.declared.views.Resolution.{Resolution}
+use Rattle.stl_types.specs.declared.views.Resolution.TheVariants.{Resolved, Unknown, Unjudged}
+use Rattle.stl_types.specs.declared.views.ResolvedOperand.{ResolvedOperand}
+use Rattle.stl_types.specs.declared.views.ResolvedOperand.TheVariants as view
 use Rattle.stl_codegen.specs.Operations.{jump_of}
 use Rattle.sem_kept.proofs.accepted.Accepted.{IsSoundStatement}
 use Rattle.sem_kept.proofs.accepted.JumpsOperations.{TakesRight, nests, nests_form}
 use Rattle.sem_kept.proofs.accepted.Shared.{jump_form}
 
 -- an operand is judged: it stands on nothing that breaks a rule itself or is absent
-abbrev pub Settles : Seen → Type 0
-Settles Rests = ⊥
+abbrev pub Settles : Resolution → Type 0
+Settles Unjudged = ⊥
 Settles _ = Unit {0}
 
 -- ---- what is seen as nothing or as a label
 
 -- only nothing and a label come to these
-abbrev is_bare : Seen → Bool
-is_bare (Sees view.Nothing) = true
-is_bare (Sees view.Label) = true
+abbrev is_bare : Resolution → Bool
+is_bare (Resolved view.Nothing) = true
+is_bare (Resolved view.Label) = true
 is_bare _ = false
 
-of_element : (e : Element) → is_bare (Sees (date_or_composite e)) ≡ false
+of_element : (e : Element) → is_bare (Resolved (date_or_composite e)) ≡ false
 of_element element.DateAndTime = refl
 of_element _ = refl
 
-of_cell : (c : Option Cell) → is_bare (Sees (composite c)) ≡ false
+of_cell : (c : Option Cell) → is_bare (Resolved (composite c)) ≡ false
 of_cell None = refl
 of_cell (Some c) = of_element c.of
 
@@ -79,7 +79,7 @@ of_parameter : (index : ℕ) (kind : Simple) (c : Option Cell)
 of_parameter index kind None = refl
 of_parameter index kind (Some c) = refl
 
-of_function : (c : Context) (function : Bool) (spot : Spot) (kind : Simple) (p : Option (Place × Width))
+of_function : (c : Context) (function : Bool) (spot : ComponentAt) (kind : Simple) (p : Option (Place × Width))
     → is_bare (if function then parameter_at c spot kind else in_area kind p) ≡ false
 of_function c true spot kind p =
     of_parameter
@@ -88,31 +88,31 @@ of_function c true spot kind p =
     kind (slice_get (cells_at c.layouts c.block false) spot.place)
 of_function c false spot kind p = of_area kind p
 
-of_elementary : (c : Context) (temporary : Bool) (spot : Spot) (kind : Simple)
+of_elementary : (c : Context) (temporary : Bool) (spot : ComponentAt) (kind : Simple)
     → is_bare (own_elementary c temporary spot kind) ≡ false
 of_elementary c true spot kind = of_area kind (placed area.L 0 spot.offset (Some kind))
 of_elementary c false spot kind =
     of_function c (in_function c) spot kind (placed area.Di 0 spot.offset (Some kind))
 
-of_own_at : (c : Context) (temporary : Bool) (spot : Spot) (k : Option Simple)
+of_own_at : (c : Context) (temporary : Bool) (spot : ComponentAt) (k : Option Simple)
     → is_bare (own_at c temporary spot k) ≡ false
 of_own_at c temporary spot None =
     of_cell (slice_get (cells_at c.layouts spot.block spot.temporary) spot.place)
 of_own_at c temporary spot (Some kind) = of_elementary c temporary spot kind
 
-of_own : (c : Context) (temporary : Bool) (w : Walk) → is_bare (own_walked c temporary w) ≡ false
+of_own : (c : Context) (temporary : Bool) (w : PathEnd) → is_bare (own_walked c temporary w) ≡ false
 of_own c temporary (walk.Reaches spot) =
     of_own_at c temporary spot (elementary_at c.layouts spot)
 of_own c temporary walk.Unknown = refl
 of_own c temporary walk.Rests = refl
 
-of_data_at : (c : Context) (number : ℕ) (spot : Spot) (k : Option Simple)
+of_data_at : (c : Context) (number : ℕ) (spot : ComponentAt) (k : Option Simple)
     → is_bare (data_at c number spot k) ≡ false
 of_data_at c number spot None =
     of_cell (slice_get (cells_at c.layouts spot.block spot.temporary) spot.place)
 of_data_at c number spot (Some kind) = of_area kind (placed area.Db number spot.offset (Some kind))
 
-of_data : (c : Context) (number : ℕ) (w : Walk) → is_bare (data_walked c number w) ≡ false
+of_data : (c : Context) (number : ℕ) (w : PathEnd) → is_bare (data_walked c number w) ≡ false
 of_data c number (walk.Reaches spot) = of_data_at c number spot (elementary_at c.layouts spot)
 of_data c number walk.Unknown = refl
 of_data c number walk.Rests = refl
@@ -124,7 +124,7 @@ of_data_path c steps (Some number) (Some block) =
 of_data_path c steps (Some number) None = refl
 of_data_path c steps None place = refl
 
-of_target : (t : Target) → is_bare (Sees (target_view t)) ≡ false
+of_target : (t : Target) → is_bare (Resolved (target_view t)) ≡ false
 of_target (target.Variable place width) = refl
 of_target (target.Timer number) = refl
 of_target (target.Counter number) = refl
@@ -159,22 +159,22 @@ of_opened di (Some number) = refl
 
 -- ---- what a form takes
 
-jump_view : (v : View) → rule_of form.Jumps v ≡ None → is_bare (Sees v) ≡ true
+jump_view : (v : ResolvedOperand) → rule_of form.Jumps v ≡ None → is_bare (Resolved v) ≡ true
 unfolding rule_of takes
 jump_view view.Label e = refl
 jump_view _ e = absurd cc
 
-bare_view : (v : View) → rule_of form.Bare v ≡ None → is_bare (Sees v) ≡ true
+bare_view : (v : ResolvedOperand) → rule_of form.Bare v ≡ None → is_bare (Resolved v) ≡ true
 unfolding rule_of takes
 bare_view view.Nothing e = refl
 bare_view _ e = absurd cc
 
 -- what comes to another operand breaks a rule
-none_other : (f : Form) → ((v : View) → rule_of f v ≡ None → is_bare (Sees v) ≡ true)
-    → (x : Seen) → is_bare x ≡ false → Settles x → is_unknown x ≡ false → rule_seen f x ≡ None → ⊥
-none_other f takes (Sees v) other h known e = let bare = takes v e in cc
+none_other : (f : OperandRule) → ((v : ResolvedOperand) → rule_of f v ≡ None → is_bare (Resolved v) ≡ true)
+    → (x : Resolution) → is_bare x ≡ false → Settles x → is_unknown x ≡ false → rule_seen f x ≡ None → ⊥
+none_other f takes (Resolved v) other h known e = let bare = takes v e in cc
 none_other f takes Unknown other h known e = cc
-none_other f takes Rests other h known e = h
+none_other f takes Unjudged other h known e = h
 
 label_of_jump : (c : Context) (o : Operand) → is_called o ≡ false
     → (is_called o ≡ false → Settles (seen c o)) → is_unknown (seen c o) ≡ false
@@ -232,8 +232,8 @@ pub takes_right : (y : Types) (c : Context) (s : Statement) → IsSoundStatement
 takes_right y c s sound h = record {
   jumps = λ how is.
       label_of_jump c s.operand (sound.well_formed.called ∙ jump_calls s.code how is) h sound.known
-      (ap (λ (f : Form). operand_rule c f s.operand) (sym (jump_form s.code how is)) ∙ sound.allowed);
+      (ap (λ (f : OperandRule). operand_rule c f s.operand) (sym (jump_form s.code how is)) ∙ sound.allowed);
   bare = λ is.
       nothing_of_bare c s.operand (sound.well_formed.called ∙ nests_calls s.code is) h sound.known
-      (ap (λ (f : Form). operand_rule c f s.operand) (sym (nests_form s.code is)) ∙ sound.allowed);
+      (ap (λ (f : OperandRule). operand_rule c f s.operand) (sym (nests_form s.code is)) ∙ sound.allowed);
 }

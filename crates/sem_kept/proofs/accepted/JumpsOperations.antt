@@ -29,14 +29,14 @@ use Rattle.stl_types.specs.Context.{Context}
 use Rattle.stl_types.specs.Forms.{form_of}
 use Rattle.stl_types.specs.Operands.{operand_rule, rule_of, takes}
 use Rattle.stl_types.specs.Resolved.{resolved, seen_view}
-use Rattle.stl_types.specs.Seen.{seen}
+use Rattle.stl_types.specs.Resolution.{seen}
 use Rattle.stl_types.specs.Zones.{ends_none, ends_zone, is_ninth, opens_zone, zones_behind}
 use Rattle.stl_types.specs.declared.brackets.Bracket.{Bracket}
-use Rattle.stl_types.specs.declared.forms.Form.{Form}
-use Rattle.stl_types.specs.declared.forms.Form.TheVariants as form
+use Rattle.stl_types.specs.declared.forms.OperandRule.{OperandRule}
+use Rattle.stl_types.specs.declared.forms.OperandRule.TheVariants as form
 use Rattle.stl_types.specs.declared.views.Register.TheVariants as register
-use Rattle.stl_types.specs.declared.views.View.{View}
-use Rattle.stl_types.specs.declared.views.View.TheVariants as view
+use Rattle.stl_types.specs.declared.views.ResolvedOperand.{ResolvedOperand}
+use Rattle.stl_types.specs.declared.views.ResolvedOperand.TheVariants as view
 use Rattle.stl_codegen.specs.Emitted.{opening as opening_op, passing}
 use Rattle.stl_codegen.specs.Instruction.{call_instr, end_instr, instr_by, instruction, jump_instr, resolved_instr, target_of, view_instr}
 use Rattle.stl_codegen.specs.Operations.{add_operation, call_of, end_of, jump_of, load_pointer_operation, load_operation, or_operation, store_pointer_operation, transfer_operation, operation_for}
@@ -81,24 +81,24 @@ IsCodeOf m code =
 abbrev IsOtherCode : ℕ → Type 0
 IsOtherCode code = IsCodeBy None false code × IsZoneCodeBy false false code
 
-or_code : (v : View) → IsOtherCode (code_of (or_operation v))
+or_code : (v : ResolvedOperand) → IsOtherCode (code_of (or_operation v))
 or_code view.Nothing = ((refl, refl), (refl, refl))
 or_code _ = ((refl, refl), (refl, refl))
 
-load_code : (v : View) → IsOtherCode (code_of (load_operation v))
+load_code : (v : ResolvedOperand) → IsOtherCode (code_of (load_operation v))
 load_code (view.Register register.Stw) = ((refl, refl), (refl, refl))
 load_code (view.Register _) = ((refl, refl), (refl, refl))
 load_code _ = ((refl, refl), (refl, refl))
 
-transfer_code : (v : View) → IsOtherCode (code_of (transfer_operation v))
+transfer_code : (v : ResolvedOperand) → IsOtherCode (code_of (transfer_operation v))
 transfer_code (view.Register which) = ((refl, refl), (refl, refl))
 transfer_code _ = ((refl, refl), (refl, refl))
 
-load_pointer_code : (v : View) → IsOtherCode (code_of (load_pointer_operation v))
+load_pointer_code : (v : ResolvedOperand) → IsOtherCode (code_of (load_pointer_operation v))
 load_pointer_code (view.Register which) = ((refl, refl), (refl, refl))
 load_pointer_code _ = ((refl, refl), (refl, refl))
 
-store_pointer_code : (v : View) → IsOtherCode (code_of (store_pointer_operation v))
+store_pointer_code : (v : ResolvedOperand) → IsOtherCode (code_of (store_pointer_operation v))
 store_pointer_code (view.Register which) = ((refl, refl), (refl, refl))
 store_pointer_code _ = ((refl, refl), (refl, refl))
 
@@ -107,7 +107,7 @@ add_code (operand.Constant (literal.Long value)) = ((refl, refl), (refl, refl))
 add_code (operand.Constant _) = ((refl, refl), (refl, refl))
 add_code _ = ((refl, refl), (refl, refl))
 
-operation_code : (m : Mnemonic) (o : Operand) (v : View) → IsCodeOf m (code_of (operation_for m o v))
+operation_code : (m : Mnemonic) (o : Operand) (v : ResolvedOperand) → IsCodeOf m (code_of (operation_for m o v))
 unfolding operation_for opening closes opens_zone ends_zone
 operation_code code.AOpen o v = ((refl, refl), (refl, refl))
 operation_code code.AnOpen o v = ((refl, refl), (refl, refl))
@@ -198,7 +198,7 @@ record IsLast (m : Mnemonic) (op : OpData) : Type 0 where
   code : IsCodeOf m op.code
   stays : is_target op.operand ≡ false
 
-last_end : (s : Statement) (v : View) (e : Option EndOperation) → end_of s.code ≡ e
+last_end : (s : Statement) (v : ResolvedOperand) (e : Option EndOperation) → end_of s.code ≡ e
     → IsLast s.code (last_op (end_instr s v e))
 last_end s v None is =
     record { code = operation_code s.code s.operand v; stays = no_target s.operand v }
@@ -207,7 +207,7 @@ last_end s v (Some how) is = record {
   stays = refl;
 }
 
-last_call : (c : Context) (s : Statement) (how : CallOperation) (v : View) → call_of s.code ≡ Some how
+last_call : (c : Context) (s : Statement) (how : CallOperation) (v : ResolvedOperand) → call_of s.code ≡ Some how
     → IsLast s.code (last_op (call_instr c s how v))
 last_call c s how (view.Called id instance) is = record {
   code = other_code s.code (code_of (operation.Call how)) (no_call s.code how is) (call_code how);
@@ -219,7 +219,7 @@ last_call c s how _ is = record {
   stays = refl;
 }
 
-last_view : (c : Context) (s : Statement) (v : View) (call : Option CallOperation) → call_of s.code ≡ call
+last_view : (c : Context) (s : Statement) (v : ResolvedOperand) (call : Option CallOperation) → call_of s.code ≡ call
     → IsLast s.code (last_op (view_instr c s v call))
 last_view c s v None is = last_end s v (end_of s.code) refl
 last_view c s v (Some how) is = last_call c s how v is
@@ -238,7 +238,7 @@ nests_form code.McrOpen e = refl
 nests_form code.McrClose e = refl
 nests_form _ e = absurd cc
 
-abbrev resolved_by : Context → Form → Operand → Option View
+abbrev resolved_by : Context → OperandRule → Operand → Option ResolvedOperand
 resolved_by c f o = if is_none (operand_rule c f o) then seen_view (seen c o) else None
 
 bare_resolved : (c : Context) → resolved_by c form.Bare operand.Nothing ≡ Some view.Nothing
@@ -249,10 +249,10 @@ nests_resolved : (c : Context) (s : Statement) → TakesRight s → nests s.code
     → resolved c s ≡ Some view.Nothing
 unfolding resolved
 nests_resolved c s h is =
-    ap (λ (f : Form). resolved_by c f s.operand) (nests_form s.code is)
+    ap (λ (f : OperandRule). resolved_by c f s.operand) (nests_form s.code is)
     ∙ ap (resolved_by c form.Bare) (h.bare is) ∙ bare_resolved c
 
-last_resolved : (c : Context) (s : Statement) (v : Option View) → TakesRight s → resolved c s ≡ v
+last_resolved : (c : Context) (s : Statement) (v : Option ResolvedOperand) → TakesRight s → resolved c s ≡ v
     → IsLast s.code (last_op (resolved_instr c s v))
 last_resolved c s (Some v) h is = last_view c s v (call_of s.code) refl
 last_resolved c s None h is = by (nests s.code) refl

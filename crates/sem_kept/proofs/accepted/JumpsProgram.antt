@@ -10,7 +10,7 @@ use Rattle.block_layout.specs.Measures.{types_of}
 use Rattle.block_layout.specs.Types.{Types}
 use Rattle.block_layout.specs.declared.blocks.BlockLayout.{BlockLayout}
 use Rattle.stl_types.specs.Context.{Context}
-use Rattle.stl_types.specs.Seen.{seen}
+use Rattle.stl_types.specs.Resolution.{seen}
 use Rattle.stl_codegen.specs.Compiled.{code_in}
 use Rattle.stl_codegen.specs.Fitting.{IsStill}
 use Rattle.flat_code.specs.Blocks.{Around, block_faults, call_fault, faults_over, op_faults, operand_fault}

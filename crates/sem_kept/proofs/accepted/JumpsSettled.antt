@@ -13,8 +13,8 @@ use Rattle.block_layout.specs.Layouts.{block_layout}
 use Rattle.block_layout.specs.Lengths.{farthest, local_len}
 use Rattle.block_layout.specs.Measures.{types_of}
 use Rattle.block_layout.specs.declared.blocks.BlockLayout.{BlockLayout}
-use Rattle.stl_types.specs.Seen.{seen}
-use Rattle.stl_types.specs.declared.views.Seen.{Seen}
+use Rattle.stl_types.specs.Resolution.{seen}
+use Rattle.stl_types.specs.declared.views.Resolution.{Resolution}
 use Rattle.stl_codegen.specs.Generated.{params_of}
 use Rattle.sem_kept.specs.Accepted.{IsAccepted}
 use Rattle.sem_kept.proofs.accepted.Accepted.{IsSound, IsSoundStatement, IsSoundTree, context_at, right_tree}
@@ -27,7 +27,7 @@ use Rattle.sem_kept.proofs.accepted.OperandsViews.{EndsBy, IsSeen, ends_by, hold
 abbrev pub Settle : List Symbol → Tree → ℕ → Statement → Type 0
 Settle symbols t k s = is_called s.operand ≡ false → Settles (seen (context_at symbols t k) s.operand)
 
-seen_settles : (a : Around) (x : Seen) → IsSeen a x → Settles x
+seen_settles : (a : Around) (x : Resolution) → IsSeen a x → Settles x
 seen_settles a x h = subst Settles (sym h.is) tt
 
 -- no other block has a part in it
@@ -85,4 +85,4 @@ pub operands_settle : (source file : List ℕ) (symbols : List Symbol) (t : Tree
 operands_settle source file symbols t accepted k b there =
     let tree = right_tree source file symbols t accepted in
     let laid = layout_of_block symbols t tree k b there in
-    block_settles symbols t tree (symbols_fit file symbols accepted.named) k b laid.0 laid.2
+    block_settles symbols t tree (symbols_fit accepted.language file symbols accepted.named) k b laid.0 laid.2

@@ -2,7 +2,7 @@
 -- that it owes is passed.
 use Rattle.std.proofs.Common.{ℕ, suc, ◌≡◌, ◌≤◌, ◌/◌, ◌⊎◌, inl, inr, ⊎_elim, List, [], ◌∷◌, ◌++◌, append_assoc, Option, Some, None, is_some, Bool, true, false, ◌&&◌, ◌||◌, not, nat_lt, nat_le, refl, sym, ◌∙◌, ap, subst, arith, map, find, bytes_eq, if◌then◌else◌, eqb-true, le-ltb, leb-true, eq-eqb, ne_eqb}
 use Rattle.std.specs.Prelude.{◌==◌}
-use Rattle.std.specs.List.{AllByRecursion, list_all, slice_get}
+use Rattle.std.specs.List.{AllByRecursion, list_all, list_any, slice_get}
 use Rattle.std.specs.Option.{is_none, option_and_then, option_map}
 use Rattle.std.specs.Bool.{Decides}
 use Rattle.std.proofs.lemmas.Slice.Eq.{bytes_eq-Decides}
@@ -21,6 +21,7 @@ use Rattle.flat_code.specs.Placed.{is_empty as is_nothing_in}
 use Rattle.flat_code.specs.declared.image_fields.ParameterRecord.{ParameterRecord}
 use Rattle.flat_code.specs.declared.operands.Operand.TheVariants as flat
 use Rattle.flat_code.specs.declared.operands.Passed.{Passed}
+use Rattle.flat_code.specs.declared.operands.Passed.TheVariants as passed
 use Rattle.flat_code.specs.declared.operations.CallOperation.{CallOperation}
 use Rattle.flat_code.specs.declared.operations.CallOperation.TheVariants as calls
 use Rattle.flat_code.specs.declared.operations.Operation.TheVariants as operation
@@ -30,6 +31,7 @@ use Rattle.stl_ast.specs.WellFormed.{IsBlock}
 use Rattle.stl_ast.specs.declared.blocks.Block.{Block}
 use Rattle.stl_ast.specs.declared.blocks.Tree.{Tree}
 use Rattle.stl_ast.specs.declared.declarations.Simple.{Simple}
+use Rattle.stl_ast.specs.declared.literals.Literal.{Literal}
 use Rattle.stl_ast.specs.declared.mnemonics.Mnemonic.{Mnemonic}
 use Rattle.stl_ast.specs.declared.mnemonics.Mnemonic.TheVariants as code
 use Rattle.stl_ast.specs.declared.names.BlockName.{BlockName}
@@ -40,40 +42,44 @@ use Rattle.stl_ast.specs.declared.statements.Statement.{Statement}
 use Rattle.plc_base.specs.Folding.{folded}
 use Rattle.stl_symbols.specs.Names.{place_of}
 use Rattle.stl_symbols.specs.Symbol.{Symbol}
-use Rattle.block_layout.specs.Blocks.{id_of, is_block_number, known_block, named_block}
+use Rattle.block_layout.specs.Blocks.{id_of, is_any, is_block_number, known_block, named_block}
 use Rattle.block_layout.specs.Cells.{components_of}
+use Rattle.block_layout.specs.Fits.{bits_of}
 use Rattle.block_layout.specs.Layouts.{block_layout, layouts_of}
 use Rattle.block_layout.specs.Lengths.{block_bits, length_of, local_end, shape_bits}
 use Rattle.block_layout.specs.Measures.{types_of}
+use Rattle.block_layout.specs.Offsets.{width_of}
 use Rattle.block_layout.specs.Paths.{cells_at, if_whole, whole_at}
-use Rattle.block_layout.specs.Rule23.{is_unknown_called, is_unknown_instance, names_unknown}
+use Rattle.block_layout.specs.Rule23.{is_unknown_called, is_unknown_id, is_unknown_instance, names_unknown}
 use Rattle.block_layout.specs.Rule44.{is_beyond}
 use Rattle.block_layout.specs.declared.blocks.BlockLayout.{BlockLayout}
 use Rattle.block_layout.specs.declared.blocks.Shape.{Shape}
 use Rattle.block_layout.specs.declared.blocks.Shape.TheVariants as shape
 use Rattle.block_layout.specs.declared.cells.Cell.{Cell}
-use Rattle.stl_types.specs.Actuals.{formal_named}
-use Rattle.stl_types.specs.Calls.{calls_unknown, has_formals, has_no_instance, has_wrong_instance, is_instance, is_no_instance, is_of_block, is_supplied, is_unknown_function, misfits, supplied as supplied_names}
+use Rattle.stl_types.specs.Actuals.{fits_operand, fits_seen, fits_view, formal_named}
+use Rattle.stl_types.specs.Calls.{calls_unknown, has_formals, has_no_instance, has_wrong_instance, is_instance, is_no_instance, is_of_block, is_supplied, is_unknown_function, misfits, names_none, supplied as supplied_names}
 use Rattle.stl_types.specs.Context.{Context, data_number, ids, whole_data_place, whole_place}
 use Rattle.stl_types.specs.Forms.{form_of}
 use Rattle.stl_types.specs.Kinds.{is_called as is_called_view}
 use Rattle.stl_types.specs.Operands.{operand_rule, rule_of, rule_seen}
 use Rattle.stl_types.specs.Parameters.{Callee, callee_at, callee_by, callee_of, formals_of, is_sound_formal, source_callee, system_callee, system_formals}
-use Rattle.stl_types.specs.Seen.{called_seen, id_at, instance_number as instance_of_name, seen, whole_block}
-use Rattle.stl_types.specs.declared.forms.Form.{Form}
-use Rattle.stl_types.specs.declared.forms.Form.TheVariants as form
+use Rattle.stl_types.specs.Resolution.{called_seen, id_at, instance_number as instance_of_name, seen, whole_block}
+use Rattle.stl_types.specs.declared.forms.OperandRule.{OperandRule}
+use Rattle.stl_types.specs.declared.forms.OperandRule.TheVariants as form
 use Rattle.stl_types.specs.declared.parameters.Formal.{Formal}
-use Rattle.stl_types.specs.declared.views.Seen.{Seen}
-use Rattle.stl_types.specs.declared.views.Seen.TheVariants.{Sees}
-use Rattle.stl_types.specs.declared.views.View.TheVariants as view
+use Rattle.stl_types.specs.declared.views.Resolution.{Resolution}
+use Rattle.stl_types.specs.declared.views.Resolution.TheVariants.{Resolved}
+use Rattle.stl_types.specs.declared.views.ResolvedOperand.{ResolvedOperand}
+use Rattle.stl_types.specs.declared.views.ResolvedOperand.TheVariants as view
 use Rattle.stl_codegen.specs.Compiled.{compiled}
 use Rattle.stl_codegen.specs.Emitted.{instance_number, passing, preparing}
 use Rattle.stl_codegen.specs.Generated.{code_blocks_of, data_blocks_of, instance_len, params_of}
 use Rattle.stl_codegen.specs.Instruction.{block_at, in_order, passings_to, return_last}
-use Rattle.stl_codegen.specs.Passed.{passed_actual, passings_from, supplied, with_index}
+use Rattle.stl_codegen.specs.Passed.{passed_actual, passed_place, passed_seen, passed_view, passings_from, supplied, with_index}
 use Rattle.stl_codegen.specs.Operations.{call_of}
 use Rattle.sem_kept.specs.Coded.{OperandHasBytes, StatementHasBytes}
 use Rattle.sem_kept.specs.Operands.{ArePassed, InstrFits, PassesAlone}
+use Rattle.sem_kept.specs.Settled.{HasPassed}
 use Rattle.sem_kept.proofs.accepted.Accepted.{IsSound, IsSoundActual, IsSoundCall, IsSoundStatement, IsSoundTree, context_at}
 use Rattle.sem_kept.proofs.accepted.OperandsCells.{are_right, block_unbroken, cells_are, known_there, layout_of_block, measured_symbols}
 use Rattle.sem_kept.proofs.accepted.OperandsFormals.{Distinct, IsFoundIn, IsSystem, Matched, block_formals, found_each, fresh_distinct, return_all, source_matched, system_matched}
@@ -81,7 +87,7 @@ use Rattle.sem_kept.proofs.accepted.OperandsInstr.{CallFits}
 use Rattle.sem_kept.proofs.accepted.OperandsMembers.{called_block, instance_found}
 use Rattle.sem_kept.proofs.accepted.OperandsPassed.{IsGoodActual, Passes, passed_from, supplied_passes}
 use Rattle.sem_kept.proofs.accepted.OperandsSymbols.{SymbolFits}
-use Rattle.sem_kept.proofs.accepted.OperandsViews.{EndsBy, IsData, IsThere, Surrounds, block_own, data_block_kind, data_length, data_there, id_there, id_there_is, ids_same, instance_length, layout_id, layout_shape, operand_seen, whole_is}
+use Rattle.sem_kept.proofs.accepted.OperandsViews.{EndsBy, IsData, IsThere, Surrounds, block_own, data_block_kind, data_length, data_there, id_there, id_there_is, ids_same, instance_length, layout_id, layout_shape, not_none, operand_seen, whole_is}
 use Rattle.sem_kept.proofs.accepted.Shared.{callable_by, calls_called, or_first, or_second}
 
 -- ---- what is passed stands among the ops
@@ -200,21 +206,21 @@ record IsCall (c : Context) (name : BlockName) (inst : Option BlockName) (id : B
   whole : is_system_function id.kind ≡ false → (p : ℕ) × (whole_place c id ≡ Some p)
   with_instance : IsInstanceOf c inst instance
 
-called_same : (a b : BlockId) (m n : Option ℕ) → Sees (view.Called a m) ≡ Sees (view.Called b n) → a ≡ b
+called_same : (a b : BlockId) (m n : Option ℕ) → Resolved (view.Called a m) ≡ Resolved (view.Called b n) → a ≡ b
 called_same a b m n e = cc
 
-instance_same : (a b : BlockId) (m n : Option ℕ) → Sees (view.Called a m) ≡ Sees (view.Called b n)
+instance_same : (a b : BlockId) (m n : Option ℕ) → Resolved (view.Called a m) ≡ Resolved (view.Called b n)
     → m ≡ n
 instance_same a b m n e = cc
 
 seen_call : (c : Context) (name : BlockName) (inst : Option BlockName) (id : BlockId)
-    (instance : Option ℕ) → seen c (operand.Called name inst) ≡ Sees (view.Called id instance)
+    (instance : Option ℕ) → seen c (operand.Called name inst) ≡ Resolved (view.Called id instance)
     → IsCall c name inst id instance
 unfolding seen
 seen_call c name inst id instance e = by (named_block c.symbols name) refl e
   where
     given : (x : BlockId) (inst : Option BlockName)
-        → called_seen (Some x) inst (instance_of_name c inst) ≡ Sees (view.Called id instance)
+        → called_seen (Some x) inst (instance_of_name c inst) ≡ Resolved (view.Called id instance)
         → (x ≡ id) × IsInstanceOf c inst instance
     given x None h = (
       called_same x id None instance h,
@@ -223,7 +229,7 @@ seen_call c name inst id instance e = by (named_block c.symbols name) refl e
     given x (Some nm) h = number (data_number c nm) refl h
       where
         number : (o : Option ℕ) → data_number c nm ≡ o
-            → called_seen (Some x) (Some nm) o ≡ Sees (view.Called id instance)
+            → called_seen (Some x) (Some nm) o ≡ Resolved (view.Called id instance)
             → (x ≡ id) × IsInstanceOf c (Some nm) instance
         number None is h = absurd cc
         number (Some n) is h = (
@@ -233,7 +239,7 @@ seen_call c name inst id instance e = by (named_block c.symbols name) refl e
 
     made : (x : BlockId) → named_block c.symbols name ≡ Some x
         → (is_system_function x.kind ≡ false → (p : ℕ) × (whole_place c x ≡ Some p))
-        → called_seen (Some x) inst (instance_of_name c inst) ≡ Sees (view.Called id instance)
+        → called_seen (Some x) inst (instance_of_name c inst) ≡ Resolved (view.Called id instance)
         → IsCall c name inst id instance
     made x is whole h =
         let both = given x inst h in
@@ -245,19 +251,19 @@ seen_call c name inst id instance e = by (named_block c.symbols name) refl e
 
     placed : (x : BlockId) → named_block c.symbols name ≡ Some x → is_system_function x.kind ≡ false
         → (o : Option ℕ) → whole_place c x ≡ o
-        → called_seen (id_at x o) inst (instance_of_name c inst) ≡ Sees (view.Called id instance)
+        → called_seen (id_at x o) inst (instance_of_name c inst) ≡ Resolved (view.Called id instance)
         → IsCall c name inst id instance
     placed x is other None w h = absurd cc
     placed x is other (Some p) w h = made x is (λ k. (p, w)) h
 
     whether : (x : BlockId) → named_block c.symbols name ≡ Some x → (t : Bool) → is_system_function x.kind ≡ t
-        → called_seen (if t then Some x else id_at x (whole_place c x)) inst (instance_of_name c inst) ≡ Sees (view.Called id instance)
+        → called_seen (if t then Some x else id_at x (whole_place c x)) inst (instance_of_name c inst) ≡ Resolved (view.Called id instance)
         → IsCall c name inst id instance
     whether x is true sys h = made x is (λ k. absurd cc) h
     whether x is false sys h = placed x is sys (whole_place c x) refl h
 
     by : (o : Option BlockId) → named_block c.symbols name ≡ o
-        → called_seen (whole_block c o) inst (instance_of_name c inst) ≡ Sees (view.Called id instance)
+        → called_seen (whole_block c o) inst (instance_of_name c inst) ≡ Resolved (view.Called id instance)
         → IsCall c name inst id instance
     by None is h = absurd cc
     by (Some x) is h = whether x is (is_system_function x.kind) refl h
@@ -749,6 +755,120 @@ block_three kinds.Db e = absurd cc
 block_three kinds.Sfc e = absurd cc
 block_three kinds.Udt e = absurd cc
 
+-- ---- a call names what it calls
+
+seen_called : (c : Context) (name : BlockName) (inst : Option BlockName)
+    → seen c (operand.Called name inst)
+    ≡ called_seen (whole_block c (named_block c.symbols name)) inst (instance_of_name c inst)
+unfolding seen
+seen_called c name inst = refl
+
+-- a block that is known is whole
+block_whole : (symbols : List Symbol) (t : Tree) → IsSoundTree symbols t → (k : ℕ)
+    (o : Option BlockId) → is_unknown_id (types_of symbols t.blocks) o ≡ false
+    → (id : BlockId) × (whole_block (context_at symbols t k) o ≡ Some id)
+block_whole symbols t tree k None e = absurd cc
+block_whole symbols t tree k (Some id) e = by (is_system_function id.kind) e
+  where
+    by : (sys : Bool)
+        → (if sys then false else is_none (known_block id (types_of symbols t.blocks).ids)) ≡ false
+        → (i : BlockId) × ((if sys then Some id else id_at id (whole_place (context_at symbols t k) id)) ≡ Some i)
+    by true h = (id, refl)
+    by false h = (id, ap (id_at id) place)
+      where
+        found : (p : ℕ) × (known_block id (types_of symbols t.blocks).ids ≡ Some p)
+        found = not_none (known_block id (types_of symbols t.blocks).ids) h
+
+        there : IsThere symbols t is_any found.0
+        there = id_there symbols t tree is_any found.0 id
+            (known_there id (types_of symbols t.blocks).ids found.0 found.1) refl
+
+        place : whole_place (context_at symbols t k) id ≡ Some found.0
+        place =
+            ap (λ (is : List (Option BlockId)). option_and_then (if_whole (layouts_of t symbols)) (known_block id is))
+            (ids_same symbols t)
+            ∙ ap (λ (o : Option ℕ). option_and_then (if_whole (layouts_of t symbols)) o) found.1
+            ∙ ap (λ (t' : Bool). if t' then Some found.0 else None)
+            (ap is_some (whole_is (layouts_of t symbols) found.0 there.layout there.laid there.sound.whole))
+
+-- and so is the instance that is named
+instance_known : (symbols : List Symbol) (t : Tree) → IsSoundTree symbols t → (k : ℕ) (id : BlockId)
+    (inst : Option BlockName) → is_unknown_instance (types_of symbols t.blocks) inst ≡ false
+    → (n : Option ℕ)
+    × (called_seen (Some id) inst (instance_of_name (context_at symbols t k) inst) ≡ Resolved (view.Called id n))
+instance_known symbols t tree k id None e = (None, refl)
+instance_known symbols t tree k id (Some name) e =
+    let d = data_there symbols t tree k name e in
+    (Some d.block.id.number, ap (λ (o : Option ℕ). called_seen (Some id) (Some name) o) d.number)
+
+-- ---- an actual parameter names what is passed
+
+formal_there : (formals : List Formal) (name : List ℕ)
+    → list_any (λ (f : Formal). bytes_eq name f.name) formals ≡ true
+    → (f : Formal) × (find (λ (f : Formal). bytes_eq name f.name) formals ≡ Some f)
+formal_there [] name e = absurd cc
+formal_there (f ∷ fs) name e = by (bytes_eq name f.name) e (formal_there fs name)
+  where
+    by : (t : Bool) → (t || list_any (λ (f : Formal). bytes_eq name f.name) fs) ≡ true
+        → (list_any (λ (f : Formal). bytes_eq name f.name) fs ≡ true
+        → (g : Formal) × (find (λ (f : Formal). bytes_eq name f.name) fs ≡ Some g))
+        → (g : Formal) × ((if t then Some f else find (λ (f : Formal). bytes_eq name f.name) fs) ≡ Some g)
+    by true h more = (f, refl)
+    by false h more = more h
+
+view_passed : (f : Formal) (o : Operand) (v : ResolvedOperand) → fits_view f v ≡ true
+    → (p : Passed) × (passed_view o v ≡ Some p)
+unfolding fits_view
+view_passed f o (view.Direct place w side declared) e = (passed_place place w, refl)
+view_passed f o (view.Parameter index own declared) e = (passed.Parameter index (width_of declared), refl)
+view_passed f o _ e = absurd cc
+
+constant_passed : (c : Context) (value : Literal)
+    → (p : Passed) × (passed_seen (operand.Constant value) (seen c (operand.Constant value)) ≡ Some p)
+unfolding seen
+constant_passed c value = (passed.Literal (bits_of value), refl)
+
+other_passed : (c : Context) (f : Formal) (o : Operand) (v : ResolvedOperand) → seen c o ≡ Resolved v
+    → fits_seen f (seen c o) ≡ true → (p : Passed) × (passed_seen o (seen c o) ≡ Some p)
+other_passed c f o v is e =
+    let one = view_passed f o v (ap (fits_seen f) (sym is) ∙ e) in
+    (one.0, ap (passed_seen o) is ∙ one.1)
+
+operand_passed : (c : Context) (f : Formal) (o : Operand) (v : ResolvedOperand) → seen c o ≡ Resolved v
+    → fits_operand c f o ≡ true → (p : Passed) × (passed_seen o (seen c o) ≡ Some p)
+unfolding fits_operand
+operand_passed c f (operand.Constant value) v is e = constant_passed c value
+operand_passed c f operand.Nothing v is e = other_passed c f operand.Nothing v is e
+operand_passed c f (operand.Direct n g w y i) v is e = other_passed c f (operand.Direct n g w y i) v is e
+operand_passed c f (operand.Timer n) v is e = other_passed c f (operand.Timer n) v is e
+operand_passed c f (operand.Counter n) v is e = other_passed c f (operand.Counter n) v is e
+operand_passed c f (operand.Named p t) v is e = other_passed c f (operand.Named p t) v is e
+operand_passed c f (operand.ByMemory g w m y) v is e = other_passed c f (operand.ByMemory g w m y) v is e
+operand_passed c f (operand.NumberBy w m y) v is e = other_passed c f (operand.NumberBy w m y) v is e
+operand_passed c f (operand.ByRegister g w n b) v is e = other_passed c f (operand.ByRegister g w n b) v is e
+operand_passed c f (operand.Pointer g y i) v is e = other_passed c f (operand.Pointer g y i) v is e
+operand_passed c f (operand.Label n) v is e = other_passed c f (operand.Label n) v is e
+operand_passed c f (operand.OfStatus g) v is e = other_passed c f (operand.OfStatus g) v is e
+operand_passed c f (operand.Other n) v is e = other_passed c f (operand.Other n) v is e
+operand_passed c f (operand.OpenBlock d n) v is e = other_passed c f (operand.OpenBlock d n) v is e
+operand_passed c f (operand.Called n i) v is e = other_passed c f (operand.Called n i) v is e
+
+good_passed : (a : Around) (c : Context) (formals : List Formal) (x : Actual)
+    → IsGoodActual a c formals x → names_none formals x ≡ false → HasPassed c x
+good_passed a c formals x good named =
+    let f = formal_there formals (folded x.name)
+    (not-false (list_any (λ (f : Formal). bytes_eq (folded x.name) f.name) formals) named) in
+    operand_passed c f.0 x.value good.seen.view good.seen.is
+    (not-false (fits_operand c f.0 x.value) (ap (misfits c x) (sym f.1) ∙ good.fits))
+
+all_passed_on : (a : Around) (c : Context) (formals : List Formal) (xs : List Actual)
+    → AllByRecursion (IsGoodActual a c formals) xs
+    → AllByRecursion (λ (x : Actual). names_none formals x ≡ false) xs
+    → AllByRecursion (HasPassed c) xs
+all_passed_on a c formals [] good named = tt
+all_passed_on a c formals (x ∷ xs) good named =
+    (good_passed a c formals x good.0 named.0, all_passed_on a c formals xs good.1 named.1)
+
 module _ (symbols : List Symbol) (t : Tree) (tree : IsSoundTree symbols t)
     (fit : AllByRecursion SymbolFits symbols) (k : ℕ) (b : Block) (l : BlockLayout)
     (block : IsSound symbols t k b l) (code : is_code b.kind ≡ true)
@@ -768,7 +888,7 @@ module _ (symbols : List Symbol) (t : Tree) (tree : IsSoundTree symbols t)
     rules : IsSoundCall (context_at symbols t k) cal.of_source s
 
   made : (how : CallOperation) (id : BlockId) (instance : Option ℕ) → call_of s.code ≡ Some how
-      → seen (context_at symbols t k) s.operand ≡ Sees (view.Called id instance)
+      → seen (context_at symbols t k) s.operand ≡ Resolved (view.Called id instance)
       → IsMade how id instance
   made how id instance word e = record {
     name = o.0;
@@ -784,7 +904,7 @@ module _ (symbols : List Symbol) (t : Tree) (tree : IsSoundTree symbols t)
       o : (name : BlockName) × (inst : Option BlockName) × (s.operand ≡ operand.Called name inst)
       o = operand_called s.operand (sound.well_formed.called ∙ calls_are s.code how word)
 
-      seen_is : seen (context_at symbols t k) (operand.Called o.0 o.1) ≡ Sees (view.Called id instance)
+      seen_is : seen (context_at symbols t k) (operand.Called o.0 o.1) ≡ Resolved (view.Called id instance)
       seen_is = ap (seen (context_at symbols t k)) (sym o.2) ∙ e
 
       call : IsCall (context_at symbols t k) o.0 o.1 id instance
@@ -792,8 +912,8 @@ module _ (symbols : List Symbol) (t : Tree) (tree : IsSoundTree symbols t)
 
       rule : rule_of form.Calls (view.Called id instance) ≡ None
       rule =
-          ap (λ (f : Form). rule_of f (view.Called id instance)) (sym (calls_form s.code how word))
-          ∙ ap (λ (x : Seen). rule_seen (form_of s.code) x) (sym seen_is)
+          ap (λ (f : OperandRule). rule_of f (view.Called id instance)) (sym (calls_form s.code how word))
+          ∙ ap (λ (x : Resolution). rule_seen (form_of s.code) x) (sym seen_is)
           ∙ ap (λ (x : Operand). operand_rule (context_at symbols t k) (form_of s.code) x) (sym o.2)
           ∙ sound.allowed
 
@@ -993,3 +1113,59 @@ module _ (symbols : List Symbol) (t : Tree) (tree : IsSoundTree symbols t)
 
       flat_is : flat_callee a.blocks (kind_number id.kind) id.number ≡ Some (kind_number id.kind, m.cal.il, m.cal.params)
       flat_is = ap (λ (sg : List Signature). flat_callee sg (kind_number id.kind) id.number) blocks ∙ m.cal.flat
+
+  -- it names what it calls
+  pub called_is : (how : CallOperation) → call_of s.code ≡ Some how
+      → (id : BlockId) × (instance : Option ℕ)
+      × (seen (context_at symbols t k) s.operand ≡ Resolved (view.Called id instance))
+  called_is how word = (
+    whole.0,
+    given.0,
+    ap (seen (context_at symbols t k)) o.2 ∙ seen_called (context_at symbols t k) o.0 o.1
+        ∙ ap (λ (z : Option BlockId). called_seen z o.1 (instance_of_name (context_at symbols t k) o.1)) whole.1
+        ∙ given.1,
+  )
+    where
+      o : (name : BlockName) × (inst : Option BlockName) × (s.operand ≡ operand.Called name inst)
+      o = operand_called s.operand (sound.well_formed.called ∙ calls_are s.code how word)
+
+      there : (is_unknown_called (types_of symbols t.blocks) o.0 || is_unknown_instance (types_of symbols t.blocks) o.1) ≡ false
+      there = ap (names_unknown (types_of symbols t.blocks)) (sym o.2) ∙ sound.there
+
+      whole : (id : BlockId) × (whole_block (context_at symbols t k) (named_block symbols o.0) ≡ Some id)
+      whole = block_whole symbols t tree k (named_block symbols o.0)
+          (ap (λ (ss : List Symbol). is_unknown_id (types_of symbols t.blocks) (named_block ss o.0))
+          (sym (measured_symbols symbols t.blocks))
+          ∙ or_first (is_unknown_called (types_of symbols t.blocks) o.0)
+          (is_unknown_instance (types_of symbols t.blocks) o.1) there)
+
+      given : (n : Option ℕ)
+          × (called_seen (Some whole.0) o.1 (instance_of_name (context_at symbols t k) o.1) ≡ Resolved (view.Called whole.0 n))
+      given = instance_known symbols t tree k whole.0 o.1
+          (or_second (is_unknown_called (types_of symbols t.blocks) o.0)
+          (is_unknown_instance (types_of symbols t.blocks) o.1) there)
+
+  called_made : (how : CallOperation) (word : call_of s.code ≡ Some how)
+      → IsMade how (called_is how word).0 (called_is how word).1
+  called_made how word =
+      made how (called_is how word).0 (called_is how word).1 word (called_is how word).2
+
+  -- that block is found
+  pub callee_found : (how : CallOperation) (word : call_of s.code ≡ Some how)
+      → (callee : Callee) × (callee_of (context_at symbols t k) s.operand ≡ Some callee)
+      × (callee.id ≡ (called_is how word).0) × IsSoundCall (context_at symbols t k) callee s
+  callee_found how word =
+      let m = called_made how word in (
+        m.cal.of_source,
+        ap (callee_of (context_at symbols t k)) m.operand_is ∙ m.cal.is,
+        m.cal.same,
+        m.rules,
+      )
+
+  -- and each of its actual parameters what is passed
+  pub actuals_pass : (how : CallOperation) → call_of s.code ≡ Some how
+      → AllByRecursion (HasPassed (context_at symbols t k)) s.actuals
+  actuals_pass how word =
+      let m = called_made how word in
+      all_passed_on a (context_at symbols t k) m.cal.of_source.formals s.actuals
+      (goods how (called_is how word).0 (called_is how word).1 m) m.rules.named

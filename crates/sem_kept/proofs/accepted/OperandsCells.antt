@@ -82,12 +82,12 @@ unbroken_of y o before (d ∷ ds) f g h i j = (
       (none_right (broken_56 y o before d) (in_rest (broken_56 y o) (d ∷ before) ds) j),
 )
 
-unbroken_front : (y : Types) (o : Outside) (before xs ys : List Declaration)
+pub unbroken_front : (y : Types) (o : Outside) (before xs ys : List Declaration)
     → Unbroken y o before (xs ++ ys) → Unbroken y o before xs
 unbroken_front y o before [] ys h = tt
 unbroken_front y o before (x ∷ xs) ys h = (h.0, unbroken_front y o (x ∷ before) xs ys h.1)
 
-unbroken_back : (y : Types) (o : Outside) (before xs ys : List Declaration)
+pub unbroken_back : (y : Types) (o : Outside) (before xs ys : List Declaration)
     → Unbroken y o before (xs ++ ys) → Unbroken y o (onto before xs) ys
 unbroken_back y o before [] ys h = h
 unbroken_back y o before (x ∷ xs) ys h = unbroken_back y o (x ∷ before) xs ys h.1

@@ -124,7 +124,7 @@ operands_are_fine source file symbols t accepted bytes =
     mapped_fine (program_in symbols t) (code_blocks_of t symbols (layouts_of t symbols))
     (sound_code_blocks symbols t (λ b. BlockIsFine (program_in symbols t) (compiled b)) tree
     (λ k b l id sound named code.
-    block_fine symbols t tree (symbols_fit file symbols accepted.named) k b l id sound named code
+    block_fine symbols t tree (symbols_fit accepted.language file symbols accepted.named) k b l id sound named code
     (all_there (λ (b : Block). AllByRecursion StatementHasBytes b.body) t.blocks k b has sound.block_there)))
   where
     tree : IsSoundTree symbols t

@@ -20,12 +20,12 @@ use Rattle.stl_types.specs.Forms.{form_of}
 use Rattle.stl_types.specs.Operands.{operand_rule, rule_of, rule_seen, statement_rule}
 use Rattle.stl_types.specs.Parameters.{callee_of}
 use Rattle.stl_types.specs.Resolved.{resolved, seen_view}
-use Rattle.stl_types.specs.Seen.{seen}
-use Rattle.stl_types.specs.declared.forms.Form.{Form}
-use Rattle.stl_types.specs.declared.views.Seen.{Seen}
-use Rattle.stl_types.specs.declared.views.Seen.TheVariants.{Sees, Unknown, Rests}
-use Rattle.stl_types.specs.declared.views.View.{View}
-use Rattle.stl_types.specs.declared.views.View.TheVariants as view
+use Rattle.stl_types.specs.Resolution.{seen}
+use Rattle.stl_types.specs.declared.forms.OperandRule.{OperandRule}
+use Rattle.stl_types.specs.declared.views.Resolution.{Resolution}
+use Rattle.stl_types.specs.declared.views.Resolution.TheVariants.{Resolved, Unknown, Unjudged}
+use Rattle.stl_types.specs.declared.views.ResolvedOperand.{ResolvedOperand}
+use Rattle.stl_types.specs.declared.views.ResolvedOperand.TheVariants as view
 use Rattle.stl_codegen.specs.Emitted.{ending}
 use Rattle.stl_codegen.specs.Instruction.{call_instr, end_instr, filler, instr_by, instruction, jump_instr, passings_to, resolved_instr, target_of, view_instr}
 use Rattle.stl_codegen.specs.Operands.{operand_of}
@@ -43,21 +43,21 @@ filler_fits : (a : Around) (lens : List (ℕ × ℕ)) → InstrFits a lens fille
 filler_fits a lens = (refl, tt, tt)
 
 -- what isn't called by a word isn't a call
-no_call : (m : Mnemonic) → call_of m ≡ None → is_call m ≡ false
+pub no_call : (m : Mnemonic) → call_of m ≡ None → is_call m ≡ false
 no_call code.Call e = absurd cc
 no_call code.Uc e = absurd cc
 no_call code.Cc e = absurd cc
 no_call _ e = refl
 
-seen_rule : (c : Context) (f : Form) (o : Operand) (v : View) → seen c o ≡ Sees v
+seen_rule : (c : Context) (f : OperandRule) (o : Operand) (v : ResolvedOperand) → seen c o ≡ Resolved v
     → rule_seen f (seen c o) ≡ None → rule_of f v ≡ None
-seen_rule c f o v e h = ap (λ (s : Seen). rule_seen f s) (sym e) ∙ h
+seen_rule c f o v e h = ap (λ (s : Resolution). rule_seen f s) (sym e) ∙ h
 
-constant_seen : (c : Context) (value : Literal) → seen c (operand.Constant value) ≡ Sees view.Constant
+constant_seen : (c : Context) (value : Literal) → seen c (operand.Constant value) ≡ Resolved view.Constant
 unfolding seen
 constant_seen c value = refl
 
-sees_same : (v w : View) → Sees v ≡ Sees w → v ≡ w
+sees_same : (v w : ResolvedOperand) → Resolved v ≡ Resolved w → v ≡ w
 sees_same v w e = cc
 
 constant_right : (a : Around) (m : Mnemonic) (value : Literal)
@@ -68,11 +68,11 @@ unfolding operand_of
 constant_right a m value = tt
 
 -- the operand that a statement does its instruction on
-right_for : (a : Around) (c : Context) (m : Mnemonic) (o : Operand) (v : View)
-    → seen c o ≡ Sees v → operand_rule c (form_of m) o ≡ None → ViewFits a v
+right_for : (a : Around) (c : Context) (m : Mnemonic) (o : Operand) (v : ResolvedOperand)
+    → seen c o ≡ Resolved v → operand_rule c (form_of m) o ≡ None → ViewFits a v
     → IsRightOperand a (ending (operation_for m o v) (operand_of o v)) (operand_of o v)
 right_for a c m (operand.Constant value) v e h fits =
-    subst (λ (w : View). IsRightOperand a (ending (operation_for m (operand.Constant value) w) (operand_of (operand.Constant value) w)) (operand_of (operand.Constant value) w))
+    subst (λ (w : ResolvedOperand). IsRightOperand a (ending (operation_for m (operand.Constant value) w) (operand_of (operand.Constant value) w)) (operand_of (operand.Constant value) w))
     (sees_same view.Constant v (sym (constant_seen c value) ∙ e)) (constant_right a m value)
 right_for a c m operand.Nothing v e h fits = operand_fits a m operand.Nothing v (allowed (form_of m) v (seen_rule c (form_of m) operand.Nothing v e h)) fits
 right_for a c m (operand.Direct n r w y i) v e h fits = operand_fits a m (operand.Direct n r w y i) v (allowed (form_of m) v (seen_rule c (form_of m) (operand.Direct n r w y i) v e h)) fits
@@ -89,8 +89,8 @@ right_for a c m (operand.Other n) v e h fits = operand_fits a m (operand.Other n
 right_for a c m (operand.OpenBlock d n) v e h fits = operand_fits a m (operand.OpenBlock d n) v (allowed (form_of m) v (seen_rule c (form_of m) (operand.OpenBlock d n) v e h)) fits
 right_for a c m (operand.Called n i) v e h fits = operand_fits a m (operand.Called n i) v (allowed (form_of m) v (seen_rule c (form_of m) (operand.Called n i) v e h)) fits
 
-does_fits : (a : Around) (lens : List (ℕ × ℕ)) (c : Context) (s : Statement) (v : View)
-    → seen c s.operand ≡ Sees v → statement_rule c s ≡ None → ViewFits a v
+does_fits : (a : Around) (lens : List (ℕ × ℕ)) (c : Context) (s : Statement) (v : ResolvedOperand)
+    → seen c s.operand ≡ Resolved v → statement_rule c s ≡ None → ViewFits a v
     → (how : Option EndOperation) → InstrFits a lens (end_instr s v how)
 does_fits a lens c s v e h fits None = (
   ordinary s.code s.operand v,
@@ -99,7 +99,7 @@ does_fits a lens c s v e h fits None = (
 )
 does_fits a lens c s v e h fits (Some how) = tt
 
-resolved_is : (c : Context) (s : Statement) → statement_rule c s ≡ None
+pub resolved_is : (c : Context) (s : Statement) → statement_rule c s ≡ None
     → resolved c s ≡ seen_view (seen c s.operand)
 unfolding resolved
 resolved_is c s h =
@@ -109,12 +109,12 @@ resolved_is c s h =
 abbrev pub CallFits : Around → List (ℕ × ℕ) → Context → Statement → Type 0
 CallFits a lens c s =
     (how : CallOperation) (id : BlockId) (instance : Option ℕ) → call_of s.code ≡ Some how
-    → seen c s.operand ≡ Sees (view.Called id instance)
+    → seen c s.operand ≡ Resolved (view.Called id instance)
     → InstrFits a lens (Calls how id instance (passings_to c s (callee_of c s.operand)))
 
 call_view_fits : (a : Around) (lens : List (ℕ × ℕ)) (c : Context) (s : Statement) (how : CallOperation)
     → CallFits a lens c s → call_of s.code ≡ Some how
-    → (v : View) → seen c s.operand ≡ Sees v → InstrFits a lens (call_instr c s how v)
+    → (v : ResolvedOperand) → seen c s.operand ≡ Resolved v → InstrFits a lens (call_instr c s how v)
 call_view_fits a lens c s how calls is (view.Called id instance) e = calls how id instance is e
 call_view_fits a lens c s how calls is _ e = filler_fits a lens
 
@@ -125,18 +125,18 @@ pub instr_fits : (a : Around) (lens : List (ℕ × ℕ)) (c : Context) (body : L
 unfolding instruction
 instr_fits a lens c body n s allowed seen_fits calls = by (jump_of s.code)
   where
-    called : (how : CallOperation) → call_of s.code ≡ Some how → (x : Seen) → seen c s.operand ≡ x
+    called : (how : CallOperation) → call_of s.code ≡ Some how → (x : Resolution) → seen c s.operand ≡ x
         → InstrFits a lens (resolved_instr c s (seen_view x))
-    called how is (Sees v) e =
+    called how is (Resolved v) e =
         subst (λ (o : Option CallOperation). InstrFits a lens (view_instr c s v o)) (sym is)
         (call_view_fits a lens c s how calls is v e)
     called how is Unknown e = filler_fits a lens
-    called how is Rests e = filler_fits a lens
+    called how is Unjudged e = filler_fits a lens
 
     whether : (o : Option CallOperation) → call_of s.code ≡ o
         → InstrFits a lens (resolved_instr c s (seen_view (seen c s.operand)))
     whether None is =
-        subst (λ (x : Seen). InstrFits a lens (resolved_instr c s (seen_view x))) (sym found.is)
+        subst (λ (x : Resolution). InstrFits a lens (resolved_instr c s (seen_view x))) (sym found.is)
         (subst (λ (o : Option CallOperation). InstrFits a lens (view_instr c s found.view o)) (sym is)
         (does_fits a lens c s found.view found.is allowed found.fits (end_of s.code)))
       where
@@ -147,5 +147,5 @@ instr_fits a lens c body n s allowed seen_fits calls = by (jump_of s.code)
     by : (o : Option JumpOperation) → InstrFits a lens (instr_by c body n s o)
     by (Some how) = jump_fits a lens how n (target_of body s.operand)
     by None =
-        subst (λ (o : Option View). InstrFits a lens (resolved_instr c s o)) (sym (resolved_is c s allowed))
+        subst (λ (o : Option ResolvedOperand). InstrFits a lens (resolved_instr c s o)) (sym (resolved_is c s allowed))
         (whether (call_of s.code) refl)

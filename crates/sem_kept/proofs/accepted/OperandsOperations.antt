@@ -27,13 +27,13 @@ use Rattle.stl_types.specs.Actuals.{is_input_section}
 use Rattle.stl_types.specs.Forms.{form_of}
 use Rattle.stl_types.specs.Kinds.{is_bit, is_composite, is_double_word, is_in_memory, width_in}
 use Rattle.stl_types.specs.Operands.{composite_rule, has_width, is_input, is_on_wrong_side, rule_of, takes, takes_width, writes}
-use Rattle.stl_types.specs.declared.forms.Form.{Form}
-use Rattle.stl_types.specs.declared.forms.Form.TheVariants as form
+use Rattle.stl_types.specs.declared.forms.OperandRule.{OperandRule}
+use Rattle.stl_types.specs.declared.forms.OperandRule.TheVariants as form
 use Rattle.stl_types.specs.declared.views.Register.{Register}
 use Rattle.stl_types.specs.declared.views.Register.TheVariants as register
 use Rattle.stl_types.specs.declared.views.Side.TheVariants as side
-use Rattle.stl_types.specs.declared.views.View.{View}
-use Rattle.stl_types.specs.declared.views.View.TheVariants as view
+use Rattle.stl_types.specs.declared.views.ResolvedOperand.{ResolvedOperand}
+use Rattle.stl_types.specs.declared.views.ResolvedOperand.TheVariants as view
 use Rattle.stl_codegen.specs.Emitted.{ending}
 use Rattle.stl_codegen.specs.Operands.{is_db, numbered_operand, opened_by, operand_of, register_operand}
 use Rattle.stl_codegen.specs.Operations.{add_operation, load_pointer_operation, load_operation, or_operation, store_pointer_operation, transfer_operation, operation_for}
@@ -42,7 +42,7 @@ use Rattle.sem_kept.specs.Operands.{IsOpenedFor, IsRightOperand}
 -- ---- what the rules of operands leave
 
 -- an operand that its instruction takes
-pub record IsAllowed (f : Form) (v : View) : Type 0 where
+pub record IsAllowed (f : OperandRule) (v : ResolvedOperand) : Type 0 where
   pub single : is_composite v ≡ false
   pub taken : takes f v ≡ true
   pub wide : has_width f (width_in v) ≡ true
@@ -58,7 +58,7 @@ rule_by composite a b c d e =
     else if e then Some 39
     else None
 
-pub allowed : (f : Form) (v : View) → rule_of f v ≡ None → IsAllowed f v
+pub allowed : (f : OperandRule) (v : ResolvedOperand) → rule_of f v ≡ None → IsAllowed f v
 unfolding rule_of
 allowed f v e =
     let all = chosen (composite_rule f v) (is_composite v) (takes f v) (has_width f (width_in v))
@@ -76,24 +76,24 @@ allowed f v e =
 
 -- ---- operations
 
-load_ordinary : (v : View) → prepares (code_of (load_operation v)) ≡ false
+load_ordinary : (v : ResolvedOperand) → prepares (code_of (load_operation v)) ≡ false
 load_ordinary (view.Register register.Stw) = refl
 load_ordinary (view.Register which) = refl
 load_ordinary _ = refl
 
-transfer_ordinary : (v : View) → prepares (code_of (transfer_operation v)) ≡ false
+transfer_ordinary : (v : ResolvedOperand) → prepares (code_of (transfer_operation v)) ≡ false
 transfer_ordinary (view.Register which) = refl
 transfer_ordinary _ = refl
 
-or_ordinary : (v : View) → prepares (code_of (or_operation v)) ≡ false
+or_ordinary : (v : ResolvedOperand) → prepares (code_of (or_operation v)) ≡ false
 or_ordinary view.Nothing = refl
 or_ordinary _ = refl
 
-load_pointer_ordinary : (v : View) → prepares (code_of (load_pointer_operation v)) ≡ false
+load_pointer_ordinary : (v : ResolvedOperand) → prepares (code_of (load_pointer_operation v)) ≡ false
 load_pointer_ordinary (view.Register which) = refl
 load_pointer_ordinary _ = refl
 
-store_pointer_ordinary : (v : View) → prepares (code_of (store_pointer_operation v)) ≡ false
+store_pointer_ordinary : (v : ResolvedOperand) → prepares (code_of (store_pointer_operation v)) ≡ false
 store_pointer_ordinary (view.Register which) = refl
 store_pointer_ordinary _ = refl
 
@@ -101,7 +101,7 @@ add_ordinary : (o : Operand) → prepares (code_of (add_operation o)) ≡ false
 add_ordinary (operand.Constant (literal.Long value)) = refl
 add_ordinary _ = refl
 
-pub ordinary : (m : Mnemonic) (o : Operand) (v : View) → prepares (code_of (operation_for m o v)) ≡ false
+pub ordinary : (m : Mnemonic) (o : Operand) (v : ResolvedOperand) → prepares (code_of (operation_for m o v)) ≡ false
 unfolding operation_for
 ordinary code.O o v = or_ordinary v
 ordinary code.L o v = load_ordinary v
@@ -112,32 +112,32 @@ ordinary code.Add o v = add_ordinary o
 ordinary _ o v = refl
 
 -- a place in memory stands for all of them
-abbrev in_memory : View
+abbrev in_memory : ResolvedOperand
 in_memory = view.Direct (record { area = area.M; number = 0; byte = 0; bit = 0 }) width.Bit side.Both None
 
-or_same : (v : View) → is_in_memory v ≡ true → or_operation v ≡ or_operation in_memory
+or_same : (v : ResolvedOperand) → is_in_memory v ≡ true → or_operation v ≡ or_operation in_memory
 or_same view.Nothing h = absurd cc
 or_same _ h = refl
 
-load_same : (v : View) → is_in_memory v ≡ true → load_operation v ≡ load_operation in_memory
+load_same : (v : ResolvedOperand) → is_in_memory v ≡ true → load_operation v ≡ load_operation in_memory
 load_same (view.Register which) h = absurd cc
 load_same _ h = refl
 
-transfer_same : (v : View) → is_in_memory v ≡ true → transfer_operation v ≡ transfer_operation in_memory
+transfer_same : (v : ResolvedOperand) → is_in_memory v ≡ true → transfer_operation v ≡ transfer_operation in_memory
 transfer_same (view.Register which) h = absurd cc
 transfer_same _ h = refl
 
-load_pointer_same : (v : View) → is_in_memory v ≡ true
+load_pointer_same : (v : ResolvedOperand) → is_in_memory v ≡ true
     → load_pointer_operation v ≡ load_pointer_operation in_memory
 load_pointer_same (view.Register which) h = absurd cc
 load_pointer_same _ h = refl
 
-store_pointer_same : (v : View) → is_in_memory v ≡ true
+store_pointer_same : (v : ResolvedOperand) → is_in_memory v ≡ true
     → store_pointer_operation v ≡ store_pointer_operation in_memory
 store_pointer_same (view.Register which) h = absurd cc
 store_pointer_same _ h = refl
 
-memory_word : (m : Mnemonic) (o : Operand) (v : View) → is_in_memory v ≡ true
+memory_word : (m : Mnemonic) (o : Operand) (v : ResolvedOperand) → is_in_memory v ≡ true
     → operation_for m o v ≡ operation_for m o in_memory
 unfolding operation_for
 memory_word code.O o v h = or_same v h
@@ -155,17 +155,17 @@ or_true false false true d h k l e = l refl
 or_true false false false d h k l e = absurd cc
 
 -- what takes a place takes one with an address of its own
-memory_form : (f : Form) (v : View) → is_in_memory v ≡ true → takes f v ≡ true
+memory_form : (f : OperandRule) (v : ResolvedOperand) → is_in_memory v ≡ true → takes f v ≡ true
     → takes f in_memory ≡ true
 unfolding takes
 memory_form f (view.Direct place w s declared) h k = direct f k
   where
-    direct : (f : Form) → takes f (view.Direct place w s declared) ≡ true → takes f in_memory ≡ true
+    direct : (f : OperandRule) → takes f (view.Direct place w s declared) ≡ true → takes f in_memory ≡ true
     direct form.Bare k = absurd cc
     direct _ k = k
 memory_form f (view.Parameter index section declared) h k = other f k
   where
-    other : (f : Form) → takes f (view.Parameter index section declared) ≡ true → takes f in_memory ≡ true
+    other : (f : OperandRule) → takes f (view.Parameter index section declared) ≡ true → takes f in_memory ≡ true
     other form.LoadsAr1 k = refl
     other form.LoadsAr2 k = refl
     other form.StoresAr1 k = refl
@@ -173,7 +173,7 @@ memory_form f (view.Parameter index section declared) h k = other f k
     other _ k = k
 memory_form f (view.ByMemory a w from byte) h k = other f k
   where
-    other : (f : Form) → takes f (view.ByMemory a w from byte) ≡ true → takes f in_memory ≡ true
+    other : (f : OperandRule) → takes f (view.ByMemory a w from byte) ≡ true → takes f in_memory ≡ true
     other form.LoadsAr1 k = refl
     other form.LoadsAr2 k = refl
     other form.StoresAr1 k = refl
@@ -181,7 +181,7 @@ memory_form f (view.ByMemory a w from byte) h k = other f k
     other _ k = k
 memory_form f (view.ByRegister a w r bits) h k = other f k
   where
-    other : (f : Form) → takes f (view.ByRegister a w r bits) ≡ true → takes f in_memory ≡ true
+    other : (f : OperandRule) → takes f (view.ByRegister a w r bits) ≡ true → takes f in_memory ≡ true
     other form.LoadsAr1 k = refl
     other form.LoadsAr2 k = refl
     other form.StoresAr1 k = refl
@@ -233,7 +233,7 @@ widths code.Tar1 o w h k = dword_only (operation_takes code.Tar1 o) refl w k
 widths code.Tar2 o w h k = dword_only (operation_takes code.Tar2 o) refl w k
 widths _ o w h k = absurd cc
 
-no_lack : (m : Mnemonic) (o : Operand) (v : View) (w : Width) → is_in_memory v ≡ true
+no_lack : (m : Mnemonic) (o : Operand) (v : ResolvedOperand) (w : Width) → is_in_memory v ≡ true
     → width_in v ≡ Some w → IsAllowed (form_of m) v
     → lacks_width (ending (operation_for m o v) (operand_of o v)) w ≡ false
 no_lack m o v w mem is h =
@@ -272,7 +272,7 @@ abbrev pub HasWidth : Width → Option Simple → Type 0
 HasWidth w None = Unit {0}
 HasWidth w (Some kind) = w ≡ width_of kind
 
-abbrev pub ViewFits : Around → View → Type 0
+abbrev pub ViewFits : Around → ResolvedOperand → Type 0
 ViewFits a (view.Direct place w s declared) =
     (is_bad_place a place.area w place.byte place.bit ≡ false) × HasWidth w declared
 ViewFits a (view.Parameter index section declared) =
@@ -295,7 +295,7 @@ register_fits a w register.Dilg = tt
 register_fits a w register.Dino = tt
 register_fits a w _ = tt
 
-pub operand_fits : (a : Around) (m : Mnemonic) (o : Operand) (v : View) → IsAllowed (form_of m) v
+pub operand_fits : (a : Around) (m : Mnemonic) (o : Operand) (v : ResolvedOperand) → IsAllowed (form_of m) v
     → ViewFits a v
     → IsRightOperand a (ending (operation_for m o v) (operand_of o v)) (operand_of o v)
 unfolding operand_of
@@ -329,7 +329,7 @@ opened_for area.Db w number byte bit = by (nat_eq number 0)
     by false = refl
 opened_for _ w number byte bit = tt
 
-pub opened_fits : (o : Operand) (v : View) → IsOpenedFor (operand_of o v) (opened_by v)
+pub opened_fits : (o : Operand) (v : ResolvedOperand) → IsOpenedFor (operand_of o v) (opened_by v)
 unfolding operand_of
 opened_fits o (view.Direct place w s declared) =
     opened_for place.area w place.number place.byte place.bit

@@ -35,11 +35,11 @@ use Rattle.stl_types.specs.Calls.{misfits}
 use Rattle.stl_types.specs.Constants.{takes_constant}
 use Rattle.stl_types.specs.Context.{Context}
 use Rattle.stl_types.specs.Forms.{form_of}
-use Rattle.stl_types.specs.Seen.{seen}
+use Rattle.stl_types.specs.Resolution.{seen}
 use Rattle.stl_types.specs.declared.parameters.Formal.{Formal}
-use Rattle.stl_types.specs.declared.views.Seen.TheVariants.{Sees}
-use Rattle.stl_types.specs.declared.views.View.{View}
-use Rattle.stl_types.specs.declared.views.View.TheVariants as view
+use Rattle.stl_types.specs.declared.views.Resolution.TheVariants.{Resolved}
+use Rattle.stl_types.specs.declared.views.ResolvedOperand.{ResolvedOperand}
+use Rattle.stl_types.specs.declared.views.ResolvedOperand.TheVariants as view
 use Rattle.stl_codegen.specs.Generated.{section_number}
 use Rattle.stl_codegen.specs.Passed.{passed_actual, passed_place, passed_seen, passings_from, supplied, with_index}
 use Rattle.stl_codegen.specs.Operations.{operation_for}
@@ -207,8 +207,8 @@ own_section true own e = refl
 own_section false true e = absurd cc
 own_section false false e = refl
 
-view_passes : (a : Around) (c : Context) (f : Formal) (r : ParameterRecord) (o : Operand) (v : View)
-    → seen c o ≡ Sees v → ViewFits a v → IsRecordOf f r → fits_view f v ≡ true → Passes a c r o
+view_passes : (a : Around) (c : Context) (f : Formal) (r : ParameterRecord) (o : Operand) (v : ResolvedOperand)
+    → seen c o ≡ Resolved v → ViewFits a v → IsRecordOf f r → fits_view f v ≡ true → Passes a c r o
 unfolding fits_view
 view_passes a c f r o (view.Direct place w side declared) e fits h taken = record {
   actual = passed_place place w;

@@ -15,20 +15,20 @@ use Rattle.block_layout.specs.declared.cells.Element.{Element}
 use Rattle.block_layout.specs.declared.cells.Element.TheVariants.{Plain, Structure, DateAndTime, Udt, Unknown}
 use Rattle.block_layout.specs.Sizes.{largest}
 use Rattle.block_layout.specs.declared.members.Member.{Member}
-use Rattle.block_layout.specs.declared.walks.Spot.{Spot}
-use Rattle.block_layout.specs.declared.walks.Walk.{Walk}
-use Rattle.block_layout.specs.declared.walks.Walk.TheVariants as walk
+use Rattle.block_layout.specs.declared.walks.ComponentAt.{ComponentAt}
+use Rattle.block_layout.specs.declared.walks.PathEnd.{PathEnd}
+use Rattle.block_layout.specs.declared.walks.PathEnd.TheVariants as walk
 use Rattle.sem_kept.proofs.accepted.OperandsWalks.{AreRight, Goes, IsSettled, Lies, Meets, element_within, found_lies, index_meets, inner_even, outermost_lies, settled_even, structure_ends}
 use Rattle.sem_kept.proofs.accepted.Shared.{or_first, or_second}
 
 -- ---- no path rests
 
-abbrev pub Moves : Walk → Type 0
+abbrev pub Moves : PathEnd → Type 0
 Moves (walk.Reaches s) = Unit {0}
 Moves walk.Unknown = Unit {0}
 Moves walk.Rests = ⊥
 
-sound_moves : (sound : Bool) (s : Spot) → sound ≡ true
+sound_moves : (sound : Bool) (s : ComponentAt) → sound ≡ true
     → Moves (if sound then walk.Reaches s else walk.Rests)
 sound_moves true s e = tt
 sound_moves false s e = absurd cc
@@ -57,7 +57,7 @@ unfolding outermost
 outermost_moves l right block temporary offset name =
     found_moves l right block temporary 0 offset (component 0 0 0 name (cells_at l block temporary))
 
-named_in_moves : (l : List BlockLayout) → AreRight l → (s : Spot) (name : List ℕ) (c : Cell)
+named_in_moves : (l : List BlockLayout) → AreRight l → (s : ComponentAt) (name : List ℕ) (c : Cell)
     (of : Element) → Moves (named_in l s name c of)
 named_in_moves l right s name c Structure =
     found_moves l right s.block s.temporary (s.place + 1) s.offset
@@ -67,18 +67,18 @@ named_in_moves l right s name c (Plain kind) = tt
 named_in_moves l right s name c DateAndTime = tt
 named_in_moves l right s name c Unknown = tt
 
-if_moves : (t : Bool) (w : Walk) → Moves w → Moves (if t then w else walk.Unknown)
+if_moves : (t : Bool) (w : PathEnd) → Moves w → Moves (if t then w else walk.Unknown)
 if_moves true w h = h
 if_moves false w h = tt
 
-behind_moves : (l : List BlockLayout) → AreRight l → (s : Spot) (name : List ℕ) (o : Option Cell)
+behind_moves : (l : List BlockLayout) → AreRight l → (s : ComponentAt) (name : List ℕ) (o : Option Cell)
     → Moves (named_behind l s name o)
 behind_moves l right s name None = tt
 behind_moves l right s name (Some c) =
     if_moves (nat_eq s.depth (length c.bounds)) (named_in l s name c c.of)
     (named_in_moves l right s name c c.of)
 
-within_moves : (s : Spot) (c : Cell) (behind : List Cell) (at : ℤ) (o : Option Bounds)
+within_moves : (s : ComponentAt) (c : Cell) (behind : List Cell) (at : ℤ) (o : Option Bounds)
     → Moves (within s c behind at o)
 within_moves s c behind at None = tt
 within_moves s c behind at (Some b) = by (is_beyond b at)
@@ -93,13 +93,13 @@ within_moves s c behind at (Some b) = by (is_beyond b at)
     by true = tt
     by false = tt
 
-indexed_moves : (s : Spot) (cells : List Cell) (at : ℤ) (o : Option Cell)
+indexed_moves : (s : ComponentAt) (cells : List Cell) (at : ℤ) (o : Option Cell)
     → Moves (indexed_behind s cells at o)
 indexed_moves s cells at None = tt
 indexed_moves s cells at (Some c) =
     within_moves s c (drop (s.place + 1) cells) at (slice_get c.bounds s.depth)
 
-step_moves : (l : List BlockLayout) → AreRight l → (s : Spot) (p : PathStep) → Moves (step_of l s p)
+step_moves : (l : List BlockLayout) → AreRight l → (s : ComponentAt) (p : PathStep) → Moves (step_of l s p)
 unfolding step_of named indexed
 step_moves l right s (step.Named name) =
     behind_moves l right s name (slice_get (cells_at l s.block s.temporary) s.place)
@@ -107,13 +107,13 @@ step_moves l right s (step.Index at) =
     indexed_moves s (cells_at l s.block s.temporary) at
     (slice_get (cells_at l s.block s.temporary) s.place)
 
-on_moves : (w : Walk) (next : Spot → Walk) → Moves w → ((s : Spot) → Moves (next s))
+on_moves : (w : PathEnd) (next : ComponentAt → PathEnd) → Moves w → ((s : ComponentAt) → Moves (next s))
     → Moves (goes_on w next)
 on_moves (walk.Reaches s) next h k = k s
 on_moves walk.Unknown next h k = tt
 on_moves walk.Rests next h k = h
 
-pub walked_moves : (l : List BlockLayout) → AreRight l → (s : Spot) (ps : List PathStep)
+pub walked_moves : (l : List BlockLayout) → AreRight l → (s : ComponentAt) (ps : List PathStep)
     → Moves (walked l s ps)
 walked_moves l right s [] = tt
 walked_moves l right s (p ∷ ps) =
@@ -180,14 +180,14 @@ index_counts b at e =
     by true e h = absurd cc
     by false e h = h
 
-element_structure : (c : Cell) (cs : List Cell) → c.of ≡ Structure → c.sound ≡ true
+pub element_structure : (c : Cell) (cs : List Cell) → c.of ≡ Structure → c.sound ≡ true
     → element_of c cs ≡ capped (up (end_of (c.level + 1) 0 cs) 16)
 unfolding element_of
 element_structure c cs is sound =
     ap (λ (of : Element). element_bits of (if c.sound then capped (up (end_of (c.level + 1) 0 cs) 16) else 0)) is
     ∙ ap (λ (t : Bool). if t then capped (up (end_of (c.level + 1) 0 cs) 16) else 0) sound
 
-element_udt : (c : Cell) (cs : List Cell) (block bits : ℕ) → c.of ≡ Udt block bits
+pub element_udt : (c : Cell) (cs : List Cell) (block bits : ℕ) → c.of ≡ Udt block bits
     → element_of c cs ≡ capped bits
 unfolding element_of
 element_udt c cs block bits is =
@@ -199,7 +199,7 @@ unfolding element_of
 element_plain c cs kind is =
     ap (λ (of : Element). element_bits of (if c.sound then capped (up (end_of (c.level + 1) 0 cs) 16) else 0)) is
 
-element_parts : (c : Cell) (cs : List Cell) → (components : ℕ) × (components % 16 ≡ 0)
+pub element_parts : (c : Cell) (cs : List Cell) → (components : ℕ) × (components % 16 ≡ 0)
     × (element_of c cs ≡ element_bits c.of components)
 unfolding element_of
 element_parts c cs = (
@@ -208,25 +208,25 @@ element_parts c cs = (
   refl,
 )
 
-structure_fits : (offset element end limit : ℕ) → offset + element ≤ limit → element ≡ capped (up end 16)
+pub structure_fits : (offset element end limit : ℕ) → offset + element ≤ limit → element ≡ capped (up end 16)
     → limit < largest → offset + end ≤ limit
 structure_fits offset element end limit inside is near =
     let short : capped (up end 16) < largest = omega (arith, inside, is, near) in
     let ends = structure_ends end (capped (up end 16)) refl short in
     omega (arith, inside, is, ends)
 
-udt_fits : (offset element bits whole limit : ℕ) → offset + element ≤ limit → element ≡ capped bits
+pub udt_fits : (offset element bits whole limit : ℕ) → offset + element ≤ limit → element ≡ capped bits
     → bits ≡ whole → limit < largest → offset + whole ≤ limit
 udt_fits offset element bits whole limit inside is same near = omega (arith, inside, is, same, near)
 
 module _ (l : List BlockLayout) (limit : ℕ) (right : AreRight l) (near : limit < largest) where
-  even_here : (s : Spot) (h : Lies l limit s) (of : Element) → h.cell.of ≡ of
+  even_here : (s : ComponentAt) (h : Lies l limit s) (of : Element) → h.cell.of ≡ of
       → drop s.depth h.cell.bounds ≡ [] → Meets s.offset [] of
   even_here s h of is none =
       subst (λ (of : Element). Meets s.offset [] of) is
       (subst (λ (bs : List Bounds). Meets s.offset bs h.cell.of) none h.even)
 
-  inside_here : (s : Spot) (h : Lies l limit s) → drop s.depth h.cell.bounds ≡ []
+  inside_here : (s : ComponentAt) (h : Lies l limit s) → drop s.depth h.cell.bounds ≡ []
       → s.offset + element_of h.cell (drop (s.place + 1) (cells_at l s.block s.temporary)) ≤ limit
   inside_here s h none =
       subst (λ (n : ℕ). s.offset + element_of h.cell (drop n (cells_at l s.block s.temporary)) ≤ limit)
@@ -234,7 +234,7 @@ module _ (l : List BlockLayout) (limit : ℕ) (right : AreRight l) (near : limit
       (subst (λ (bs : List Bounds). s.offset + array_bits bs (element_of h.cell (drop (suc s.place) (cells_at l s.block s.temporary))) ≤ limit)
       none h.within)
 
-  named_lies : (s : Spot) (name : List ℕ) (h : Lies l limit s) (of : Element) → h.cell.of ≡ of
+  named_lies : (s : ComponentAt) (name : List ℕ) (h : Lies l limit s) (of : Element) → h.cell.of ≡ of
       → drop s.depth h.cell.bounds ≡ [] → Goes l limit (named_in l s name h.cell of)
   named_lies s name h Structure is none =
       found_lies l limit right s.block s.temporary (h.cell.level + 1) (s.place + 1) s.offset name
@@ -254,7 +254,7 @@ module _ (l : List BlockLayout) (limit : ℕ) (right : AreRight l) (near : limit
   named_lies s name h DateAndTime is none = tt
   named_lies s name h Unknown is none = tt
 
-  named_goes : (s : Spot) (name : List ℕ) → Lies l limit s → Goes l limit (named l s name)
+  named_goes : (s : ComponentAt) (name : List ℕ) → Lies l limit s → Goes l limit (named l s name)
   unfolding named
   named_goes s name h =
       subst (λ (o : Option Cell). Goes l limit (named_behind l s name o)) (sym h.there)
@@ -269,13 +269,13 @@ module _ (l : List BlockLayout) (limit : ℕ) (right : AreRight l) (near : limit
       by false e = tt
 
   -- the spot of an element
-  abbrev element_spot : (s : Spot) (c : Cell) (behind : List Cell) (k : ℕ) → Spot
+  abbrev element_spot : (s : ComponentAt) (c : Cell) (behind : List Cell) (k : ℕ) → ComponentAt
   element_spot s c behind k = record s {
     depth = s.depth + 1;
     offset = capped (s.offset + capped (k * array_bits (drop (s.depth + 1) c.bounds) (element_of c behind)));
   }
 
-  element_lies : (s : Spot) (h : Lies l limit s) (b : Bounds) (k : ℕ)
+  element_lies : (s : ComponentAt) (h : Lies l limit s) (b : Bounds) (k : ℕ)
       → slice_get h.cell.bounds s.depth ≡ Some b → k < count b
       → Lies l limit (element_spot s h.cell (drop (s.place + 1) (cells_at l s.block s.temporary)) k)
   element_lies s h b k there counts = record {
@@ -316,7 +316,7 @@ module _ (l : List BlockLayout) (limit : ℕ) (right : AreRight l) (near : limit
           × (s.offset + k * array_bits bs element + array_bits bs element ≤ limit)
       sizes = element_within s.offset limit k b bs element counts near fits
 
-  within_goes : (s : Spot) (h : Lies l limit s) (at : ℤ) (o : Option Bounds)
+  within_goes : (s : ComponentAt) (h : Lies l limit s) (at : ℤ) (o : Option Bounds)
       → slice_get h.cell.bounds s.depth ≡ o → is_beyond_left o at ≡ false
       → Goes l limit (within s h.cell (drop (s.place + 1) (cells_at l s.block s.temporary)) at o)
   within_goes s h at None e inside = tt
@@ -326,7 +326,7 @@ module _ (l : List BlockLayout) (limit : ℕ) (right : AreRight l) (near : limit
       (unsigned_abs (at -ℤ b.low))))) (sym inside)
       (element_lies s h b (unsigned_abs (at -ℤ b.low)) e (index_counts b at inside))
 
-  indexed_goes : (s : Spot) (at : ℤ) → Lies l limit s
+  indexed_goes : (s : ComponentAt) (at : ℤ) → Lies l limit s
       → is_beyond_in s.depth (slice_get (cells_at l s.block s.temporary) s.place) at ≡ false
       → Goes l limit (indexed l s at)
   unfolding indexed
@@ -336,21 +336,21 @@ module _ (l : List BlockLayout) (limit : ℕ) (right : AreRight l) (near : limit
       (within_goes s h at (slice_get h.cell.bounds s.depth) refl
       (subst (λ (o : Option Cell). is_beyond_in s.depth o at ≡ false) h.there inside))
 
-  step_goes : (s : Spot) (p : PathStep) → Lies l limit s → step_is_beyond l s p ≡ false
+  step_goes : (s : ComponentAt) (p : PathStep) → Lies l limit s → step_is_beyond l s p ≡ false
       → Goes l limit (step_of l s p)
   unfolding step_of
   step_goes s (step.Named name) h inside = named_goes s name h
   step_goes s (step.Index at) h inside = indexed_goes s at h inside
 
-  on_goes : (w : Walk) (next : Spot → Walk) (beyond : Spot → Bool) → Goes l limit w
+  on_goes : (w : PathEnd) (next : ComponentAt → PathEnd) (beyond : ComponentAt → Bool) → Goes l limit w
       → further w beyond ≡ false
-      → ((s : Spot) → Lies l limit s → beyond s ≡ false → Goes l limit (next s))
+      → ((s : ComponentAt) → Lies l limit s → beyond s ≡ false → Goes l limit (next s))
       → Goes l limit (goes_on w next)
   on_goes (walk.Reaches s) next beyond h inside k = k s h inside
   on_goes walk.Unknown next beyond h inside k = tt
   on_goes walk.Rests next beyond h inside k = h
 
-  pub walked_goes : (ps : List PathStep) (s : Spot) → Lies l limit s → leaves l s ps ≡ false
+  pub walked_goes : (ps : List PathStep) (s : ComponentAt) → Lies l limit s → leaves l s ps ≡ false
       → Goes l limit (walked l s ps)
   walked_goes [] s h inside = h
   walked_goes (p ∷ ps) s h inside =
@@ -376,7 +376,7 @@ module _ (l : List BlockLayout) (limit : ℕ) (right : AreRight l) (near : limit
   from_goes block temporary (step.Named name ∷ ps) fits inside =
       outer_goes block temporary name ps fits inside
 
-moves_judged : (w : Walk) → Moves w → is_judged w ≡ true
+moves_judged : (w : PathEnd) → Moves w → is_judged w ≡ true
 moves_judged (walk.Reaches s) h = refl
 moves_judged walk.Unknown h = refl
 moves_judged walk.Rests h = absurd h

@@ -39,13 +39,13 @@ use Rattle.block_layout.specs.declared.cells.Cell.{Cell}
 use Rattle.block_layout.specs.declared.cells.Element.{Element}
 use Rattle.block_layout.specs.declared.cells.Element.TheVariants.{Plain, Structure, DateAndTime, Udt, Unknown}
 use Rattle.block_layout.specs.declared.members.Member.{Member}
-use Rattle.block_layout.specs.declared.walks.Spot.{Spot}
-use Rattle.block_layout.specs.declared.walks.Walk.{Walk}
-use Rattle.block_layout.specs.declared.walks.Walk.TheVariants as walk
+use Rattle.block_layout.specs.declared.walks.ComponentAt.{ComponentAt}
+use Rattle.block_layout.specs.declared.walks.PathEnd.{PathEnd}
+use Rattle.block_layout.specs.declared.walks.PathEnd.TheVariants as walk
 use Rattle.stl_types.specs.Variables.{behind_others, in_area}
-use Rattle.stl_types.specs.declared.views.Seen.TheVariants.{Sees}
+use Rattle.stl_types.specs.declared.views.Resolution.TheVariants.{Resolved}
 use Rattle.stl_types.specs.declared.views.Side.TheVariants as side
-use Rattle.stl_types.specs.declared.views.View.TheVariants as view
+use Rattle.stl_types.specs.declared.views.ResolvedOperand.TheVariants as view
 use Rattle.stl_codegen.specs.Instruction.{return_last}
 use Rattle.sem_kept.proofs.accepted.Accepted.{there}
 use Rattle.sem_kept.proofs.accepted.OperandsWalks.{Lies, Meets, MeetsKind}
@@ -66,11 +66,11 @@ plain_of (Udt block bits) kind e = absurd cc
 plain_of Unknown kind e = absurd cc
 
 -- a spot that is an elementary variable: all its indices are there
-pub record IsElementary (s : Spot) (c : Cell) (kind : Simple) : Type 0 where
+pub record IsElementary (s : ComponentAt) (c : Cell) (kind : Simple) : Type 0 where
   pub whole : drop s.depth c.bounds ≡ []
   pub plain : c.of ≡ Plain kind
 
-pub elementary : (s : Spot) (c : Cell) (kind : Simple) → kind_of s (Some c) ≡ Some kind
+pub elementary : (s : ComponentAt) (c : Cell) (kind : Simple) → kind_of s (Some c) ≡ Some kind
     → IsElementary s c kind
 elementary s c kind e = by (nat_eq s.depth (length c.bounds)) refl e
   where
@@ -84,7 +84,7 @@ elementary s c kind e = by (nat_eq s.depth (length c.bounds)) refl e
         }
     by false is h = absurd cc
 
-pub reached_place : (l : List BlockLayout) (limit : ℕ) (s : Spot) (kind : Simple) → Lies l limit s
+pub reached_place : (l : List BlockLayout) (limit : ℕ) (s : ComponentAt) (kind : Simple) → Lies l limit s
     → elementary_at l s ≡ Some kind → IsPlaced limit s.offset kind
 reached_place l limit s kind h e = record {
   even = subst (λ (of : Element). Meets s.offset [] of) is.plain
@@ -101,7 +101,7 @@ reached_place l limit s kind h e = record {
 pub placed_sees : (a : Area) (number offset limit : ℕ) (kind : Simple) → IsPlaced limit offset kind
     → limit ≤ 524280
     → in_area kind (placed a number offset (Some kind))
-    ≡ Sees (view.Direct (place_at a number offset) (width_of kind) side.Both (Some kind))
+    ≡ Resolved (view.Direct (place_at a number offset) (width_of kind) side.Both (Some kind))
 placed_sees a number offset limit kind h few =
     ap (λ (t : Bool). in_area kind (if t then Some (place_at a number offset, width_of kind) else None))
     (le-leb (offset / 8) 65535 (small offset (plain_bits kind) limit h.within few))
@@ -309,12 +309,12 @@ count_each f (w ∷ ws) h =
 
 -- ---- a function's own paths stay among its parameters
 
-abbrev pub Stays : ℕ → Walk → Type 0
+abbrev pub Stays : ℕ → PathEnd → Type 0
 Stays k (walk.Reaches s) = (s.block ≡ k) × (s.temporary ≡ false)
 Stays k walk.Unknown = Unit {0}
 Stays k walk.Rests = Unit {0}
 
-sound_stays : (k : ℕ) (sound : Bool) (s : Spot) → s.block ≡ k → s.temporary ≡ false
+sound_stays : (k : ℕ) (sound : Bool) (s : ComponentAt) → s.block ≡ k → s.temporary ≡ false
     → Stays k (if sound then walk.Reaches s else walk.Rests)
 sound_stays k true s e f = (e, f)
 sound_stays k false s e f = tt
@@ -340,11 +340,11 @@ abbrev ArePlain : List BlockLayout → ℕ → Type 0
 ArePlain l k = (place : ℕ) (c : Cell) → slice_get (cells_at l k false) place ≡ Some c
     → IsParameterCell c
 
-if_stays : (k : ℕ) (t : Bool) (w : Walk) → Stays k w → Stays k (if t then w else walk.Unknown)
+if_stays : (k : ℕ) (t : Bool) (w : PathEnd) → Stays k w → Stays k (if t then w else walk.Unknown)
 if_stays k true w h = h
 if_stays k false w h = tt
 
-plain_named : (l : List BlockLayout) (k : ℕ) (s : Spot) (name : List ℕ) (c : Cell) (of : Element)
+plain_named : (l : List BlockLayout) (k : ℕ) (s : ComponentAt) (name : List ℕ) (c : Cell) (of : Element)
     (kind : Simple) → of ≡ Plain kind → Stays k (named_in l s name c of)
 plain_named l k s name c (Plain other) kind e = tt
 plain_named l k s name c Structure kind e = absurd cc
@@ -352,7 +352,7 @@ plain_named l k s name c DateAndTime kind e = absurd cc
 plain_named l k s name c (Udt block bits) kind e = absurd cc
 plain_named l k s name c Unknown kind e = absurd cc
 
-within_stays : (k : ℕ) (s : Spot) (c : Cell) (behind : List Cell) (at : ℤ) (o : Option Bounds)
+within_stays : (k : ℕ) (s : ComponentAt) (c : Cell) (behind : List Cell) (at : ℤ) (o : Option Bounds)
     → s.block ≡ k → s.temporary ≡ false → Stays k (within s c behind at o)
 within_stays k s c behind at None e f = tt
 within_stays k s c behind at (Some b) e f = by (is_beyond b at)
@@ -367,7 +367,7 @@ within_stays k s c behind at (Some b) e f = by (is_beyond b at)
     by true = (e, f)
     by false = (e, f)
 
-step_stays : (l : List BlockLayout) (k : ℕ) → ArePlain l k → (s : Spot) (p : PathStep)
+step_stays : (l : List BlockLayout) (k : ℕ) → ArePlain l k → (s : ComponentAt) (p : PathStep)
     → s.block ≡ k → s.temporary ≡ false → Stays k (step_of l s p)
 unfolding step_of named indexed
 step_stays l k plain s (step.Named name) e f =
@@ -388,14 +388,14 @@ step_stays l k plain s (step.Index at) e f =
     by (Some c) = within_stays k s c (drop (s.place + 1) (cells_at l s.block s.temporary)) at
         (slice_get c.bounds s.depth) e f
 
-on_stays : (k : ℕ) (w : Walk) (next : Spot → Walk) → Stays k w
-    → ((s : Spot) → s.block ≡ k → s.temporary ≡ false → Stays k (next s))
+on_stays : (k : ℕ) (w : PathEnd) (next : ComponentAt → PathEnd) → Stays k w
+    → ((s : ComponentAt) → s.block ≡ k → s.temporary ≡ false → Stays k (next s))
     → Stays k (goes_on w next)
 on_stays k (walk.Reaches s) next h g = g s h.0 h.1
 on_stays k walk.Unknown next h g = tt
 on_stays k walk.Rests next h g = tt
 
-walked_stays : (l : List BlockLayout) (k : ℕ) → ArePlain l k → (ps : List PathStep) (s : Spot)
+walked_stays : (l : List BlockLayout) (k : ℕ) → ArePlain l k → (ps : List PathStep) (s : ComponentAt)
     → s.block ≡ k → s.temporary ≡ false → Stays k (walked l s ps)
 walked_stays l k plain [] s e f = (e, f)
 walked_stays l k plain (p ∷ ps) s e f =

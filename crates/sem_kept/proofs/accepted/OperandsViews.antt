@@ -39,13 +39,14 @@ use Rattle.stl_ast.specs.declared.operands.PathHead.TheVariants as head
 use Rattle.stl_ast.specs.declared.statements.Actual.{Actual}
 use Rattle.stl_ast.specs.declared.statements.Statement.{Statement}
 use Rattle.plc_base.specs.Folding.{folded}
-use Rattle.stl_symbols.specs.Symbol.{Symbol, symbol_named}
+use Rattle.stl_symbols.specs.Symbol.{Symbol, has_symbols, symbol_named}
 use Rattle.stl_symbols.specs.declared.targets.Target.{Target}
 use Rattle.stl_symbols.specs.declared.targets.Target.TheVariants as target
 use Rattle.block_layout.specs.Around.{Outside, of_sections, of_structure, onto}
 use Rattle.block_layout.specs.Blocks.{found_block, has_structure, id_of}
 use Rattle.block_layout.specs.Cells.{cells_of, components_of, is_temp, returned_cells, section_cells, temps_of}
 use Rattle.block_layout.specs.Layouts.{block_layout, layouts_by, layouts_from, layouts_of}
+use Rattle.block_layout.specs.InitialBytes.{length_at}
 use Rattle.block_layout.specs.Lengths.{actuals_end, block_bits, farthest, is_local, least_local, length_of, local_end, local_len, named_type, referred, shape_at, shape_bits, shape_named, shape_of}
 use Rattle.block_layout.specs.Measures.{types_of}
 use Rattle.block_layout.specs.Members.{component}
@@ -63,27 +64,27 @@ use Rattle.block_layout.specs.declared.cells.Cell.{Cell}
 use Rattle.block_layout.specs.declared.cells.Element.{Element}
 use Rattle.block_layout.specs.declared.cells.Element.TheVariants.{Plain, Structure, DateAndTime, Udt}
 use Rattle.block_layout.specs.declared.cells.Element.TheVariants as cell_element
-use Rattle.block_layout.specs.declared.walks.Spot.{Spot}
-use Rattle.block_layout.specs.declared.walks.Walk.{Walk}
-use Rattle.block_layout.specs.declared.walks.Walk.TheVariants as walk
+use Rattle.block_layout.specs.declared.walks.ComponentAt.{ComponentAt}
+use Rattle.block_layout.specs.declared.walks.PathEnd.{PathEnd}
+use Rattle.block_layout.specs.declared.walks.PathEnd.TheVariants as walk
 use Rattle.stl_types.specs.Actuals.{is_input_section}
 use Rattle.stl_types.specs.Addresses.{address, address_in, area_left, area_of}
 use Rattle.stl_types.specs.Context.{data_number, data_place, in_function, is_of_function, number_of}
-use Rattle.stl_types.specs.Seen.{opened_seen, path_seen, register_of, seen, symbol_seen, target_view}
+use Rattle.stl_types.specs.Resolution.{opened_seen, path_seen, register_of, seen, symbol_seen, target_view}
 use Rattle.stl_types.specs.Unknown.{is_unknown}
 use Rattle.stl_types.specs.Variables.{composite, data_at, date_or_composite, data_path, data_variable, data_walked, in_area, own_at, own_elementary, own_variable, own_walked, parameter, parameter_at, parameter_index}
-use Rattle.stl_types.specs.declared.views.Seen.{Seen}
-use Rattle.stl_types.specs.declared.views.Seen.TheVariants.{Sees}
+use Rattle.stl_types.specs.declared.views.Resolution.{Resolution}
+use Rattle.stl_types.specs.declared.views.Resolution.TheVariants.{Resolved}
 use Rattle.stl_types.specs.declared.views.Side.TheVariants as side
-use Rattle.stl_types.specs.declared.views.View.{View}
-use Rattle.stl_types.specs.declared.views.View.TheVariants as view
+use Rattle.stl_types.specs.declared.views.ResolvedOperand.{ResolvedOperand}
+use Rattle.stl_types.specs.declared.views.ResolvedOperand.TheVariants as view
 use Rattle.stl_codegen.specs.Generated.{param, param_here, param_of, params_of, section_number}
 use Rattle.stl_codegen.specs.Instruction.{return_last}
 use Rattle.sem_kept.proofs.accepted.Accepted.{IsSound, IsSoundTree, context_at}
 use Rattle.sem_kept.proofs.accepted.OperandsCells.{IsFoundBlock, IsOrigin, all_there, are_right, cells_are, found_there, layout_of_block, measured_ids, measured_symbols, origin}
 use Rattle.sem_kept.proofs.accepted.OperandsPaths.{Moves, data_goes, local_goes, local_moves}
 use Rattle.sem_kept.proofs.accepted.OperandsPlaces.{AreParameters, GivesOne, IsElementary, IsParameterCell, IsPlaced, Stays, count_each, data_fits, elementary, function_components, in_its_order, instance_fits, local_fits, local_stays, one_each, placed_sees, reached_place}
-use Rattle.sem_kept.proofs.accepted.OperandsSymbols.{SymbolFits, TargetFits, is_symbols_area, named_fits}
+use Rattle.sem_kept.proofs.accepted.OperandsSymbols.{SymbolFits, TargetFits, named_fits}
 use Rattle.sem_kept.proofs.accepted.OperandsWalks.{AreRight, Goes, Lies, structure_even}
 use Rattle.sem_kept.proofs.accepted.OperandsOperations.{ViewFits}
 use Rattle.sem_kept.proofs.accepted.Shared.{or_second, kind_there}
@@ -229,9 +230,9 @@ no_components y b h is =
 -- ---- what is seen
 
 -- an operand is seen, and what it names fits
-pub record IsSeen (a : Around) (s : Seen) : Type 0 where
-  pub view : View
-  pub is : s ≡ Sees view
+pub record IsSeen (a : Around) (s : Resolution) : Type 0 where
+  pub view : ResolvedOperand
+  pub is : s ≡ Resolved view
   pub fits : ViewFits a view
 
 composite_fits : (a : Around) (o : Option Cell) → ViewFits a (composite o)
@@ -332,7 +333,7 @@ address_fits a ar w byte bit h ends =
     or_from (is_odd_bit w bit) (is_past_locals a (area_of ar) w byte) (no_odd_bit w bit h)
     (no_past a ar w byte ends)
 
-outside_locals : (a : Around) (ar : Area) (w : Width) (byte : ℕ) → is_symbols_area ar ≡ true
+outside_locals : (a : Around) (ar : Area) (w : Width) (byte : ℕ) → has_symbols ar ≡ true
     → is_past_locals a ar w byte ≡ false
 outside_locals a area.L w byte h = absurd cc
 outside_locals a area.I w byte h = refl
@@ -428,7 +429,7 @@ module _ (symbols : List Symbol) (t : Tree) (tree : IsSoundTree symbols t) (k : 
   function_here = ap (λ (o : Option Block). is_of_function o) block.block_there
 
   -- a temporary variable
-  temporary_seen : (s : Spot) → Lies (layouts_of t symbols) (structure_bits (cells_at (layouts_of t symbols) k true)) s
+  temporary_seen : (s : ComponentAt) → Lies (layouts_of t symbols) (structure_bits (cells_at (layouts_of t symbols) k true)) s
       → (o : Option Simple) → elementary_at (layouts_of t symbols) s ≡ o
       → IsSeen a (own_at (context_at symbols t k) true s o)
   temporary_seen s h None e = record {
@@ -465,7 +466,7 @@ module _ (symbols : List Symbol) (t : Tree) (tree : IsSoundTree symbols t) (k : 
       few limit local h k = omega (arith, h, k)
 
   -- a variable of a function block
-  instance_seen : (limit : ℕ) → limit ≤ 131072 → is_function b.kind ≡ false → (s : Spot)
+  instance_seen : (limit : ℕ) → limit ≤ 131072 → is_function b.kind ≡ false → (s : ComponentAt)
       → Lies (layouts_of t symbols) limit s
       → (o : Option Simple) → elementary_at (layouts_of t symbols) s ≡ o
       → IsSeen a (own_at (context_at symbols t k) false s o)
@@ -487,7 +488,7 @@ module _ (symbols : List Symbol) (t : Tree) (tree : IsSoundTree symbols t) (k : 
       at = reached_place (layouts_of t symbols) limit s kind h e
 
   -- a parameter of a function
-  parameter_seen : b.kind ≡ kinds.Fc → (s : Spot) → s.block ≡ k → s.temporary ≡ false
+  parameter_seen : b.kind ≡ kinds.Fc → (s : ComponentAt) → s.block ≡ k → s.temporary ≡ false
       → (o : Option Simple) → elementary_at (layouts_of t symbols) s ≡ o
       → IsSeen a (own_at (context_at symbols t k) false s o)
   parameter_seen is s at own None e = record {
@@ -555,15 +556,15 @@ module _ (symbols : List Symbol) (t : Tree) (tree : IsSoundTree symbols t) (k : 
       right : AreRight (layouts_of t symbols)
       right = are_right symbols t tree
 
-      reads : (temporary : Bool) (limit : ℕ) (w : Walk)
-          → ((s : Spot) → w ≡ walk.Reaches s → IsSeen a (own_at (context_at symbols t k) temporary s (elementary_at (layouts_of t symbols) s)))
+      reads : (temporary : Bool) (limit : ℕ) (w : PathEnd)
+          → ((s : ComponentAt) → w ≡ walk.Reaches s → IsSeen a (own_at (context_at symbols t k) temporary s (elementary_at (layouts_of t symbols) s)))
           → Moves w → is_unknown (own_walked (context_at symbols t k) temporary w) ≡ false
           → IsSeen a (own_walked (context_at symbols t k) temporary w)
       reads temporary limit (walk.Reaches s) f m known = f s refl
       reads temporary limit walk.Unknown f m known = absurd cc
       reads temporary limit walk.Rests f m known = absurd m
 
-      lies : (limit : ℕ) (w : Walk) (s : Spot) → w ≡ walk.Reaches s → Goes (layouts_of t symbols) limit w
+      lies : (limit : ℕ) (w : PathEnd) (s : ComponentAt) → w ≡ walk.Reaches s → Goes (layouts_of t symbols) limit w
           → Lies (layouts_of t symbols) limit s
       lies limit w s e g = subst (Goes (layouts_of t symbols) limit) e g
 
@@ -788,6 +789,8 @@ pub record IsStructured (symbols : List Symbol) (t : Tree) (p : ℕ) : Type 0 wh
   pub inside : ℕ
   pub is : structure_of (layouts_of t symbols) p ≡ Some inside
   pub small : structure_bits (cells_at (layouts_of t symbols) inside false) ≤ 131072
+  pub long : length_at (slice_get (layouts_of t symbols) p)
+      ≡ structure_bits (cells_at (layouts_of t symbols) inside false) / 8
 
 pub data_length : (y : Types) (blocks : List Block) (b : Block) → b.kind ≡ kinds.Db
     → length_of y blocks b ≡ shape_bits y blocks b (shape_of y b) / 8
@@ -809,6 +812,11 @@ pub layout_shape : (symbols : List Symbol) (t : Tree) (p : ℕ) (b : Block) (l :
     → IsSound symbols t p b l → l.shape ≡ shape_of (types_of symbols t.blocks) b
 unfolding block_layout
 layout_shape symbols t p b l h = ap (λ (z : BlockLayout). z.shape) h.layout
+
+layout_length : (symbols : List Symbol) (t : Tree) (p : ℕ) (b : Block) (l : BlockLayout)
+    → IsSound symbols t p b l → l.length ≡ length_of (types_of symbols t.blocks) t.blocks b
+unfolding block_layout
+layout_length symbols t p b l h = ap (λ (z : BlockLayout). z.length) h.layout
 
 pub structured : (symbols : List Symbol) (t : Tree) → IsSoundTree symbols t → (p : ℕ)
     → IsThere symbols t is_data_block p → IsStructured symbols t p
@@ -836,6 +844,15 @@ structured symbols t tree p d = by (shape_of (types_of symbols t.blocks) d.block
         (subst (λ (n : ℕ). n ≤ 16384) (data_length (types_of symbols t.blocks) t.blocks d.block kind)
         (ltb-false 16384 (length_of (types_of symbols t.blocks) t.blocks d.block) d.sound.head.by_51))
 
+    long : (sh : Shape) → shape_of (types_of symbols t.blocks) d.block ≡ sh
+        → length_at (slice_get (layouts_of t symbols) p)
+        ≡ shape_bits (types_of symbols t.blocks) t.blocks d.block sh / 8
+    long sh e =
+        ap (λ (o : Option BlockLayout). length_at o) d.laid
+        ∙ layout_length symbols t p d.block d.layout d.sound
+        ∙ data_length (types_of symbols t.blocks) t.blocks d.block kind
+        ∙ ap (λ (s : Shape). shape_bits (types_of symbols t.blocks) t.blocks d.block s / 8) e
+
     by : (sh : Shape) → shape_of (types_of symbols t.blocks) d.block ≡ sh → IsStructured symbols t p
     by shape.Own e = record {
       inside = p;
@@ -845,6 +862,9 @@ structured symbols t tree p d = by (shape_of (types_of symbols t.blocks) d.block
           (short_bits (structure_bits (components_of (types_of symbols t.blocks) d.block) / 8)
           (structure_bits (components_of (types_of symbols t.blocks) d.block)) (short shape.Own e) refl
           (structure_even (components_of (types_of symbols t.blocks) d.block)));
+      long = long shape.Own e
+          ∙ ap (λ (cs : List Cell). structure_bits cs / 8)
+          (sym (cells_are symbols t p d.block d.layout d.sound false));
     }
     by (shape.Of other) e = record {
       inside = other;
@@ -858,6 +878,10 @@ structured symbols t tree p d = by (shape_of (types_of symbols t.blocks) d.block
           (subst (λ (o : Option Block). block_bits (types_of symbols t.blocks) o / 8 ≤ 16384)
           there.sound.block_there (short (shape.Of other) e)) refl
           (structure_even (components_of (types_of symbols t.blocks) there.block)));
+      long = long (shape.Of other) e
+          ∙ ap (λ (o : Option Block). block_bits (types_of symbols t.blocks) o / 8) there.sound.block_there
+          ∙ ap (λ (cs : List Cell). structure_bits cs / 8)
+          (sym (cells_are symbols t other there.block there.layout there.sound false));
     }
       where
         found : (n : BlockName) × (found_block (types_of symbols t.blocks).symbols (types_of symbols t.blocks).ids has_structure n ≡ Some other)
@@ -883,7 +907,7 @@ pub data_seen : (symbols : List Symbol) (t : Tree) → IsSoundTree symbols t →
 data_seen symbols t tree k a name steps there known stays =
     subst (IsSeen a) (sym whole)
     (reads (walked_data (layouts_of t symbols) d.place steps) refl goes
-    (subst (λ (s : Seen). is_unknown s ≡ false) whole known))
+    (subst (λ (s : Resolution). is_unknown s ≡ false) whole known))
   where
     d : IsData symbols t k name
     d = data_there symbols t tree k name there
@@ -904,7 +928,7 @@ data_seen symbols t tree k a name steps there known stays =
         (omega arith)
         (subst (λ (o : Option ℕ). leaves_found (layouts_of t symbols) o steps ≡ false) d.listed stays)
 
-    at : (w : Spot) → Lies (layouts_of t symbols) (structure_bits (cells_at (layouts_of t symbols) s.inside false)) w
+    at : (w : ComponentAt) → Lies (layouts_of t symbols) (structure_bits (cells_at (layouts_of t symbols) s.inside false)) w
         → (o : Option Simple) → elementary_at (layouts_of t symbols) w ≡ o
         → IsSeen a (data_at (context_at symbols t k) d.block.id.number w o)
     at w h None e = record {
@@ -926,7 +950,7 @@ data_seen symbols t tree k a name steps there known stays =
         place : IsPlaced (structure_bits (cells_at (layouts_of t symbols) s.inside false)) w.offset kind
         place = reached_place (layouts_of t symbols) (structure_bits (cells_at (layouts_of t symbols) s.inside false)) w kind h e
 
-    reads : (w : Walk) → w ≡ walked_data (layouts_of t symbols) d.place steps
+    reads : (w : PathEnd) → w ≡ walked_data (layouts_of t symbols) d.place steps
         → Goes (layouts_of t symbols) (structure_bits (cells_at (layouts_of t symbols) s.inside false)) w
         → is_unknown (data_walked (context_at symbols t k) d.block.id.number w) ≡ false
         → IsSeen a (data_walked (context_at symbols t k) d.block.id.number w)

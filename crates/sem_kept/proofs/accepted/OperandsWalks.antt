@@ -17,9 +17,9 @@ use Rattle.block_layout.specs.declared.cells.Element.{Element}
 use Rattle.block_layout.specs.declared.cells.Element.TheVariants.{Plain, Structure, DateAndTime, Udt, Unknown}
 use Rattle.block_layout.specs.Sizes.{largest}
 use Rattle.block_layout.specs.declared.members.Member.{Member}
-use Rattle.block_layout.specs.declared.walks.Spot.{Spot}
-use Rattle.block_layout.specs.declared.walks.Walk.{Walk}
-use Rattle.block_layout.specs.declared.walks.Walk.TheVariants as walk
+use Rattle.block_layout.specs.declared.walks.ComponentAt.{ComponentAt}
+use Rattle.block_layout.specs.declared.walks.PathEnd.{PathEnd}
+use Rattle.block_layout.specs.declared.walks.PathEnd.TheVariants as walk
 
 -- ---- places that meet an alignment
 
@@ -136,7 +136,7 @@ align_meets n at false true (b ∷ bs) of e is =
     let none : suc (length bs) ≡ 0 = eqb-true (length (b ∷ bs)) 0 is in
     absurd (omega (arith, none))
 
-start_meets : (n at : ℕ) (c : Cell) → n % 16 ≡ 0 → Meets (n + up at (alignment c)) c.bounds c.of
+pub start_meets : (n at : ℕ) (c : Cell) → n % 16 ≡ 0 → Meets (n + up at (alignment c)) c.bounds c.of
 start_meets n at c e = align_meets n at c.opens (nat_eq (length c.bounds) 0) c.bounds c.of e refl
 
 -- ---- sizes
@@ -172,7 +172,7 @@ unfolding structure_bits
 structure_even cells = capped_even (up (end_of 0 0 cells) 16) (up_16_even (end_of 0 0 cells))
 
 -- a data type takes a whole number of words
-abbrev UdtEven : Element → Type 0
+abbrev pub UdtEven : Element → Type 0
 UdtEven (Udt block bits) = bits % 16 ≡ 0
 UdtEven _ = Unit {0}
 
@@ -225,9 +225,9 @@ element_within offset limit k b bs element h near fits = by (k * array_bits bs e
 
 -- ---- ends of components
 
-record Grows (at next : ℕ) : Type 0 where
-  above : at ≤ next
-  near : next ≤ largest
+pub record Grows (at next : ℕ) : Type 0 where
+  pub above : at ≤ next
+  pub near : next ≤ largest
 
 grows_by : (here sound : Bool) (at first bits : ℕ) → at ≤ largest → at ≤ first
     → Grows at (if here then if sound then capped (first + bits) else at else at)
@@ -236,12 +236,12 @@ grows_by true true at first bits near behind =
 grows_by true false at first bits near behind = record { above = omega arith; near = near }
 grows_by false sound at first bits near behind = record { above = omega arith; near = near }
 
-step_grows : (level at : ℕ) (c : Cell) (bits : ℕ) → at ≤ largest
+pub step_grows : (level at : ℕ) (c : Cell) (bits : ℕ) → at ≤ largest
     → Grows at (stepped level at c bits)
 step_grows level at c bits near =
     grows_by (nat_eq c.level level) c.sound at (up at (alignment c)) bits near (start_behind at c)
 
-end_step : (level at : ℕ) (c : Cell) (cs : List Cell) → nat_lt c.level level ≡ false
+pub end_step : (level at : ℕ) (c : Cell) (cs : List Cell) → nat_lt c.level level ≡ false
     → end_of level at (c ∷ cs) ≡ end_of level (stepped level at c (cell_bits c cs)) cs
 unfolding end_of element_of
 end_step level at c cs stays = rw stays refl
@@ -307,7 +307,7 @@ component_none : (level at p : ℕ) (name : List ℕ) → component level at p n
 unfolding component
 component_none level at p name = refl
 
-here_within : (level at : ℕ) (c : Cell) (cs : List Cell) → at ≤ largest
+pub here_within : (level at : ℕ) (c : Cell) (cs : List Cell) → at ≤ largest
     → nat_lt c.level level ≡ false → nat_eq c.level level ≡ true → c.sound ≡ true
     → end_of level at (c ∷ cs) < largest
     → up at (alignment c) + cell_bits c cs ≤ end_of level at (c ∷ cs)
@@ -388,14 +388,14 @@ AreRight l = (block place : ℕ) (temporary : Bool) (c : Cell)
     → slice_get (cells_at l block temporary) place ≡ Some c → IsRightCell l c
 
 -- what a spot leaves lies within a limit, at a place that meets its alignment
-pub record Lies (l : List BlockLayout) (limit : ℕ) (s : Spot) : Type 0 where
+pub record Lies (l : List BlockLayout) (limit : ℕ) (s : ComponentAt) : Type 0 where
   pub cell : Cell
   pub there : slice_get (cells_at l s.block s.temporary) s.place ≡ Some cell
   pub even : Meets s.offset (drop s.depth cell.bounds) cell.of
   pub within : s.offset + array_bits (drop s.depth cell.bounds)
       (element_of cell (drop (suc s.place) (cells_at l s.block s.temporary))) ≤ limit
 
-abbrev pub Goes : List BlockLayout → (limit : ℕ) → Walk → Type 0
+abbrev pub Goes : List BlockLayout → (limit : ℕ) → PathEnd → Type 0
 Goes l limit (walk.Reaches s) = Lies l limit s
 Goes l limit walk.Unknown = Unit {0}
 Goes l limit walk.Rests = ⊥
@@ -468,7 +468,7 @@ found_lies l limit right block temporary level first offset name even near fits 
                     → limit < largest → capped (offset + capped more) ≡ offset + more
                 fit offset more size end limit a b c = omega (arith, a, b, c)
 
-            spot : Spot
+            spot : ComponentAt
             spot = record {
               block = block;
               temporary = temporary;

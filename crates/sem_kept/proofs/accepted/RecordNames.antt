@@ -1,46 +1,35 @@
 -- The names of a program: those of the symbols of a file, in the order of their bytes.
-use Rattle.std.proofs.Common.{◌≡◌, ℕ, zero, suc, ◌+◌, ◌-◌, ◌≤◌, ◌<◌, Bool, true, false, cond, not, eqb, leb, ltb, ◌&&◌, ◌||◌, List, [], ◌∷◌, ◌++◌, length, length-take, get_or-take, take, drop, reverse, get_or, flat_map, find, Option, Some, None, is_some, Result, Ok, Err, IfSome, refl, sym, ap, subst, ◌∙◌, arith}
-use Rattle.std.specs.Prelude.{IfOk, if◌then◌else◌}
-use Rattle.std.specs.Option.{option_map}
-use Rattle.std.specs.List.{AllByRecursion, prefix_len, suffix_len, slice_split, onto_first}
-use Rattle.std.specs.Char.{to_ascii_uppercase, is_ascii_digit}
+use Rattle.std.proofs.Common.{◌≡◌, ℕ, zero, suc, ◌+◌, ◌-◌, ◌≤◌, ◌<◌, Bool, true, false, not, eqb, ltb, ◌&&◌, ◌||◌, List, [], ◌∷◌, ◌++◌, length, get_or, flat_map, Ok, refl, sym, ap, subst, ◌∙◌, arith}
+use Rattle.std.specs.Prelude.{if◌then◌else◌}
+use Rattle.std.specs.List.{AllByRecursion}
+use Rattle.std.specs.Char.{to_ascii_uppercase}
 use Rattle.std.specs.Str.{bytes_eq}
-use Rattle.std.specs.Str.Lines.{lines, lines_of_parts, strip_carriage_return}
-use Rattle.std.proofs.lemmas.Bool.{and_from, and_parts, lt-ltb, leb-true, or_parts}
+use Rattle.std.proofs.lemmas.Bool.{and_from, eq-eqb, lt-ltb, ltb-true, or_parts}
 use Rattle.std.proofs.lemmas.Bool.Decides.{nat_tests}
-use Rattle.std.proofs.lemmas.List.{length-reverse, length-map, get_or-reverse}
-use Rattle.std.proofs.lemmas.List.Sums.{prefix_len_stops}
+use Rattle.std.proofs.lemmas.List.{length-map}
 use Rattle.std.proofs.lemmas.Slice.Eq.{bytes_eq-Decides}
 use Rattle.plc_base.specs.Widths.{width_number}
-use Rattle.csv.specs.Machine.{Read, next_record, step, is_end, fields_after, field_after, ends_at_end}
-use Rattle.csv.specs.Reading.{default_config, strip_bom, is_bom}
-use Rattle.csv.specs.declared.parser.Action.{Action}
-use Rattle.csv.specs.declared.parser.Action.TheVariants as act
-use Rattle.csv.specs.declared.parser.State.{State}
-use Rattle.csv.specs.declared.parser.State.TheVariants as st
 use Rattle.plc_base.specs.declared.places.Area.{Area}
 use Rattle.plc_base.specs.declared.places.Area.TheVariants as area
 use Rattle.plc_base.specs.declared.places.Place.{Place}
 use Rattle.plc_base.specs.declared.places.Width.{Width}
 use Rattle.plc_base.specs.declared.places.Width.TheVariants as width
-use Rattle.plc_base.specs.declared.refusals.Refusal.{Refusal}
 use Rattle.flat_code.specs.Checking.{good_names}
 use Rattle.flat_code.specs.Faults.{is_before, is_upper, ends_blank, lies_within, fault_of, name_fault}
 use Rattle.flat_code.specs.Image.{bytes_fit, name_record, name_rows, name_len, name_area, name_bit, width_field, plain_u16, name_of_entry, number_of_area, after_name}
 use Rattle.flat_code.specs.Layout.{is_fine}
 use Rattle.flat_code.specs.Programs.{NameEntry}
 use Rattle.flat_code.proofs.CheckLemmas.{text_good}
-use Rattle.stl_symbols.specs.Address.{address_letters, look_up, address_of, numbered, bit_address, bit_behind, variable, number_of, has_type}
 use Rattle.plc_base.specs.Folding.{folded, is_same_name}
-use Rattle.stl_symbols.specs.Line.{Columns, alone, only_record, columns_of, columns}
-use Rattle.stl_symbols.specs.Symbol.{Symbol, symbol_named}
+use Rattle.stl_symbols.specs.Laws.{AreApart as AreOther, Passes}
+use Rattle.stl_symbols.specs.Symbol.{IsFirstBit, IsSymbol, IsTarget as IsAddressed, Symbol}
 use Rattle.plc_base.specs.Texts.{is_blank}
-use Rattle.plc_base.proofs.DecimalLemmas.{decimal_within}
 use Rattle.plc_base.proofs.ListLemmas.{all_append}
-use Rattle.stl_symbols.specs.Symbols.{is_name, without_last_blanks, without_blanks, declared, declaration, declaration_of, most_symbols, with_symbol, with_declaration, with_columns, with_line, and_then_lines, with_lines, symbols_of}
+use Rattle.stl_symbols.specs.Symbols.{symbols_in}
+use Rattle.stl_symbols.specs.declared.languages.Language.{Language}
 use Rattle.stl_symbols.specs.declared.targets.Target.{Target}
 use Rattle.stl_symbols.specs.declared.targets.Target.TheVariants as target
-use Rattle.stl_parser.proofs.OptionLemmas.{mapped, chained, passed, none_holds}
+use Rattle.stl_symbols.proofs.FileLemmas.{symbols_right}
 use Rattle.stl_codegen.specs.Generated.{has_name, name_entry, names_of}
 use Rattle.stl_codegen.specs.Order.{is_name_before}
 use Rattle.sem_kept.proofs.accepted.Accepted.{all_sorted}
@@ -54,126 +43,6 @@ IsByte b = b < 256
 abbrev pub OfBytes : List ℕ → Type 0
 OfBytes bytes = AllByRecursion IsByte bytes
 
-taken : {A : Type 0} (P : A → Type 0) (n : ℕ) (xs : List A) → AllByRecursion P xs
-    → AllByRecursion P (take n xs)
-taken P zero xs h = tt
-taken P (suc n) [] h = tt
-taken P (suc n) (x ∷ xs) h = (h.0, taken P n xs h.1)
-
-begun : (b : ℕ) (parts : List (List ℕ)) → IsByte b → AllByRecursion OfBytes parts
-    → AllByRecursion OfBytes (onto_first b parts)
-begun b [] h k = ((h, tt), tt)
-begun b (p ∷ ps) h k = ((h, k.0), k.1)
-
-parted : (p : ℕ → Bool) (bytes : List ℕ) → OfBytes bytes → AllByRecursion OfBytes (slice_split p bytes)
-parted p [] h = (tt, tt)
-parted p (b ∷ bytes) h = by (p b) (parted p bytes h.1)
-  where
-    by : (t : Bool) → AllByRecursion OfBytes (slice_split p bytes) →
-        AllByRecursion OfBytes (cond t ([] ∷ slice_split p bytes) (onto_first b (slice_split p bytes)))
-    by true more = (tt, more)
-    by false more = begun b (slice_split p bytes) h.0 more
-
-stripped : (line : List ℕ) → OfBytes line → OfBytes (strip_carriage_return line)
-stripped line h = by (eqb (get_or line (length line - 1) 0) 13)
-  where
-    by : (t : Bool) → OfBytes (cond t (take (length line - 1) line) line)
-    by true = taken IsByte (length line - 1) line h
-    by false = h
-
-lined : (parts : List (List ℕ)) → AllByRecursion OfBytes parts → AllByRecursion OfBytes (lines_of_parts parts)
-lined [] h = tt
-lined (x ∷ []) h = by (eqb (length x) 0)
-  where
-    by : (t : Bool) → AllByRecursion OfBytes (cond t [] (x ∷ []))
-    by true = tt
-    by false = h
-lined (x ∷ y ∷ more) h = (stripped x h.0, lined (y ∷ more) h.1)
-
-lines_of_bytes : (bytes : List ℕ) → OfBytes bytes → AllByRecursion OfBytes (lines bytes)
-lines_of_bytes bytes h = lined (slice_split (λ b. eqb b 10) bytes) (parted (λ b. eqb b 10) bytes h)
-
--- ---- the fields of a line
-
-fields_next : (a : Action) (fields : List (List ℕ)) (field : List ℕ) → AllByRecursion OfBytes fields
-    → OfBytes field → AllByRecursion OfBytes (fields_after a fields field)
-fields_next act.EndField fields field h k = all_append OfBytes fields (field ∷ []) h (k, tt)
-fields_next act.Skip fields field h k = h
-fields_next act.Copy fields field h k = h
-fields_next act.EndRecord fields field h k = all_append OfBytes fields (field ∷ []) h (k, tt)
-
-field_next : (a : Action) (c : ℕ) (field : List ℕ) → IsByte c → OfBytes field → OfBytes (field_after a c field)
-field_next act.Copy c field h k = all_append IsByte field (c ∷ []) k (h, tt)
-field_next act.EndField c field h k = tt
-field_next act.Skip c field h k = k
-field_next act.EndRecord c field h k = tt
-
-record_of_bytes : (s : State) (fields : List (List ℕ)) (field text : List ℕ) → AllByRecursion OfBytes fields
-    → OfBytes field → OfBytes text
-    → IfSome (next_record default_config s fields field text) (λ r. AllByRecursion OfBytes r.0)
-unfolding next_record
-record_of_bytes s fields field [] h k t = by (ends_at_end s)
-  where
-    by : (b : Bool) → IfSome {T = Read} (cond b (Some (fields ++ (field ∷ []), st.StartRecord, [])) None) (λ r. AllByRecursion OfBytes r.0)
-    by true = all_append OfBytes fields (field ∷ []) h (k, tt)
-    by false = tt
-record_of_bytes s fields field (c ∷ rest) h k t =
-    by (is_end a)
-    (record_of_bytes next (fields_after a fields field) (field_after a c field) rest
-    (fields_next a fields field h k) (field_next a c field t.0 k) t.1)
-  where
-    a : Action
-    a = (step default_config s c).1
-
-    next : State
-    next = (step default_config s c).0
-
-    by : (b : Bool)
-        → IfSome (next_record default_config next (fields_after a fields field) (field_after a c field) rest) (λ r. AllByRecursion OfBytes r.0)
-        → IfSome {T = Read} (cond b (Some (fields_after a fields field, next, rest))
-        (next_record default_config next (fields_after a fields field) (field_after a c field) rest)) (λ r. AllByRecursion OfBytes r.0)
-    by true more = fields_next a fields field h k
-    by false more = more
-
-bare : (line : List ℕ) → OfBytes line → OfBytes (strip_bom line)
-unfolding strip_bom
-bare [] h = tt
-bare (a ∷ []) h = h
-bare (a ∷ b ∷ []) h = h
-bare (a ∷ b ∷ c ∷ rest) h = by (is_bom a b c)
-  where
-    by : (t : Bool) → OfBytes (cond t rest (a ∷ b ∷ c ∷ rest))
-    by true = h.1.1.1
-    by false = h
-
-alone_holds : (o : Option Read) → IfSome o (λ r. AllByRecursion OfBytes r.0)
-    → IfSome (alone o) (λ fields. AllByRecursion OfBytes fields)
-alone_holds None h = tt
-alone_holds (Some r) h = by (is_some (next_record default_config r.1 [] [] r.2))
-  where
-    by : (t : Bool) → IfSome (cond t None (Some r.0)) (λ fields. AllByRecursion OfBytes fields)
-    by true = tt
-    by false = h
-
-columns_hold : (fields : List (List ℕ)) → AllByRecursion OfBytes fields
-    → IfSome (columns_of fields) (λ c. OfBytes c.name)
-columns_hold [] h = tt
-columns_hold (name ∷ []) h = tt
-columns_hold (name ∷ place ∷ []) h = tt
-columns_hold (name ∷ place ∷ kind ∷ []) h = tt
-columns_hold (name ∷ place ∷ kind ∷ comment ∷ []) h = h.0
-columns_hold (name ∷ place ∷ kind ∷ comment ∷ other ∷ more) h = tt
-
-name_column : (line : List ℕ) → OfBytes line → IfSome (columns line) (λ c. OfBytes c.name)
-unfolding columns only_record
-name_column line h =
-    chained (only_record line) columns_of (λ fields. AllByRecursion OfBytes fields) (λ c. OfBytes c.name)
-    (alone_holds (next_record default_config st.StartRecord [] [] (strip_bom line))
-    (record_of_bytes st.StartRecord [] [] (strip_bom line) tt tt (bare line h)))
-    (λ fields. columns_hold fields)
-
--- ---- addresses
-
 -- a variable that has its place in an image
 pub record IsPlaced (place : Place) (w : Width) : Type 0 where
   pub number : place.number ≡ 0
@@ -185,110 +54,6 @@ abbrev pub IsTarget : Target → Type 0
 IsTarget (target.Variable place w) = IsPlaced place w
 IsTarget _ = Unit {0}
 
--- what an address declares, if anything, has its place
-abbrev Declares : {A : Type 0} → List ℕ → (A → Option Symbol) → A → Type 0
-Declares name view a = IfSome (view a) (λ s. (s.name ≡ name) × IsTarget s.target)
-
-bit_within : (text : List ℕ) → IfSome (bit_behind text) (λ bit. bit ≤ 7)
-bit_within [] = tt
-bit_within (point ∷ digits) = decimal_within 7 digits
-
-bit_placed : (name : List ℕ) (a : Area) (text : List ℕ) → IfSome (bit_address a text) (Declares name (declared name))
-unfolding bit_address
-bit_placed name a text =
-    let point = prefix_len (λ b. not (eqb b 46)) text in
-    chained (number_of (take point text)) _ (λ byte. byte ≤ 65535) (Declares name (declared name)) (decimal_within 65535 (take point text))
-    (λ byte low. mapped (bit_behind (drop point text)) _ (λ bit. bit ≤ 7) (Declares name (declared name))
-    (bit_within (drop point text)) (λ bit few. (refl, record { number = refl; byte = omega (arith, low); bit = few; whole = refl })))
-
-byte_placed : (name : List ℕ) (a : Area) (w : Width) (text : List ℕ)
-    → IfSome (option_map (λ n. variable a w n 0) (number_of text)) (Declares name (declared name))
-byte_placed name a w text =
-    mapped (number_of text) _ (λ n. n ≤ 65535) (Declares name (declared name)) (decimal_within 65535 text)
-    (λ n low. (refl, record { number = refl; byte = omega (arith, low); bit = omega arith; whole = either (eqb (width_number w) 1) }))
-  where
-    either : (t : Bool) → (t || true) ≡ true
-    either true = refl
-    either false = refl
-
-letters_placed : (name : List ℕ)
-    → AllByRecursion (λ e. (text : List ℕ) → IfSome (numbered e.1 text) (Declares name (declared name))) address_letters
-unfolding address_letters
-letters_placed name = (
-  bit_placed name area.I,
-  (
-    byte_placed name area.I width.Byte,
-    (
-      byte_placed name area.I width.Word,
-      (
-        byte_placed name area.I width.Dword,
-        (
-          bit_placed name area.Q,
-          (
-            byte_placed name area.Q width.Byte,
-            (
-              byte_placed name area.Q width.Word,
-              (
-                byte_placed name area.Q width.Dword,
-                (
-                  bit_placed name area.M,
-                  (
-                    byte_placed name area.M width.Byte,
-                    (
-                      byte_placed name area.M width.Word,
-                      (
-                        byte_placed name area.M width.Dword,
-                        (
-                          byte_placed name area.P width.Byte,
-                          (
-                            byte_placed name area.P width.Word,
-                            (
-                              byte_placed name area.P width.Dword,
-                              (
-                                byte_placed name area.P width.Byte,
-                                (
-                                  byte_placed name area.P width.Word,
-                                  (
-                                    byte_placed name area.P width.Dword,
-                                    (λ text. mapped (number_of text) _ (λ n. Unit {0}) (Declares name (declared name)) (none_holds (number_of text)) (λ n h. (refl, tt)), (λ text. mapped (number_of text) _ (λ n. Unit {0}) (Declares name (declared name)) (none_holds (number_of text)) (λ n h. (refl, tt)), (λ text. mapped (number_of text) _ (λ n. Unit {0}) (Declares name (declared name)) (none_holds (number_of text)) (λ n h. (refl, tt)), (λ text. mapped (number_of text) _ (λ n. Unit {0}) (Declares name (declared name)) (none_holds (number_of text)) (λ n h. (refl, tt)), (λ text. mapped (number_of text) _ (λ n. Unit {0}) (Declares name (declared name)) (none_holds (number_of text)) (λ n h. (refl, tt)), (λ text. mapped (number_of text) _ (λ n. Unit {0}) (Declares name (declared name)) (none_holds (number_of text)) (λ n h. (refl, tt)), (λ text. mapped (number_of text) _ (λ n. Unit {0}) (Declares name (declared name)) (none_holds (number_of text)) (λ n h. (refl, tt)), (λ text. mapped (number_of text) _ (λ n. Unit {0}) (Declares name (declared name)) (none_holds (number_of text)) (λ n h. (refl, tt)), (λ text. mapped (number_of text) _ (λ n. Unit {0}) (Declares name (declared name)) (none_holds (number_of text)) (λ n h. tt), (λ text. mapped (number_of text) _ (λ n. Unit {0}) (Declares name (declared name)) (none_holds (number_of text)) (λ n h. tt), (λ text. mapped (number_of text) _ (λ n. Unit {0}) (Declares name (declared name)) (none_holds (number_of text)) (λ n h. tt), tt))))))))))),
-                                  ),
-                                ),
-                              ),
-                            ),
-                          ),
-                        ),
-                      ),
-                    ),
-                  ),
-                ),
-              ),
-            ),
-          ),
-        ),
-      ),
-    ),
-  ),
-)
-
-found_in : {X : Type 0} (P : X → Type 0) (table : List (List ℕ × X)) (word : List ℕ)
-    → AllByRecursion (λ e. P e.1) table → IfSome (look_up table word) P
-unfolding look_up
-found_in P [] word h = tt
-found_in {X = X} P (e ∷ es) word h = by (bytes_eq word e.0) (found_in P es word h.1)
-  where
-    by : (t : Bool) → IfSome (option_map (λ f. f.1) (find (λ f. bytes_eq word f.0) es)) P
-        → IfSome (option_map {T = List ℕ × X} (λ f. f.1) (cond t (Some e) (find (λ f. bytes_eq word f.0) es))) P
-    by true more = h.0
-    by false more = more
-
-address_placed : (name text : List ℕ) → IfSome (address_of text) (Declares name (declared name))
-unfolding address_of
-address_placed name text =
-    let digits = prefix_len (λ b. not (is_ascii_digit b)) text in
-    chained (look_up address_letters (take digits text)) _ (λ l. (t : List ℕ) → IfSome (numbered l t) (Declares name (declared name))) (Declares name (declared name))
-    (found_in (λ l. (t : List ℕ) → IfSome (numbered l t) (Declares name (declared name))) address_letters (take digits text) (letters_placed name))
-    (λ l h. h (drop digits text))
-
 -- ---- names
 
 last_blank : (xs : List ℕ) → 1 ≤ length xs → ends_blank xs ≡ eqb (get_or xs (length xs - 1) 0) 32
@@ -297,37 +62,8 @@ last_blank (x ∷ []) some = refl
 last_blank (x ∷ y ∷ ys) some =
     last_blank (y ∷ ys) (omega arith) ∙ ap (λ (k : ℕ). eqb (get_or (x ∷ y ∷ ys) k 0) 32) {x = suc (length (y ∷ ys) - 1)} (omega arith)
 
-no_blank_left : (field : List ℕ) → 1 ≤ length (without_last_blanks field) → ends_blank (without_last_blanks field) ≡ false
-unfolding without_last_blanks
-no_blank_left field some =
-    last_blank name some ∙ ap (λ (k : ℕ). eqb (get_or name (k - 1) 0) 32) long ∙ ap (λ (b : ℕ). eqb b 32) there ∙ not_blank (get_or field (n - 1) 0) stays
-  where
-    m : ℕ
-    m = suffix_len is_blank field
-
-    n : ℕ
-    n = length field - m
-
-    name : List ℕ
-    name = take n field
-
-    long : length name ≡ n
-    long = length-take n field ∙ omega arith
-
-    above : 1 ≤ n
-    above = omega (arith, some, long)
-
-    there : get_or name (n - 1) 0 ≡ get_or field (n - 1) 0
-    there = get_or-take n field (n - 1) 0 (omega (arith, above))
-
-    stays : is_blank (get_or field (n - 1) 0) ≡ false
-    stays =
-        let whole = length-reverse field in
-        ap is_blank (sym (get_or-reverse field m 0 (omega (arith, above)) ∙ ap (λ (k : ℕ). get_or field k 0) (omega arith)))
-        ∙ prefix_len_stops is_blank (reverse field) 0 (omega (arith, above, whole))
-
-    not_blank : (b : ℕ) → is_blank b ≡ false → eqb b 32 ≡ false
-    not_blank b h = (or_parts (eqb b 32) (eqb b 9) h).0
+not_blank : (b : ℕ) → is_blank b ≡ false → eqb b 32 ≡ false
+not_blank b h = (or_parts (eqb b 32) (eqb b 9) h).0
 
 -- a symbol whose name and place have an image
 pub record IsNamed (s : Symbol) : Type 0 where
@@ -337,111 +73,55 @@ pub record IsNamed (s : Symbol) : Type 0 where
   pub ends : ends_blank s.name ≡ false
   pub place : IsTarget s.target
 
-abbrev IsDeclared : Option Symbol → Type 0
-IsDeclared o = IfSome o IsNamed
+bit_placed : (w : Width) (bit : ℕ) → IsFirstBit w bit
+    → (bit ≤ 7) × ((eqb (width_number w) 1 || eqb bit 0) ≡ true)
+bit_placed width.Bit bit h = (h, refl)
+bit_placed width.Byte bit h = (omega (arith, h), eq-eqb bit 0 h)
+bit_placed width.Word bit h = (omega (arith, h), eq-eqb bit 0 h)
+bit_placed width.Dword bit h = (omega (arith, h), eq-eqb bit 0 h)
 
-named_by : (field : List ℕ) (o : Option Symbol) → is_name (without_last_blanks field) ≡ true → OfBytes field
-    → IfSome o (λ s. (s.name ≡ without_last_blanks field) × IsTarget s.target) → IsDeclared o
-unfolding without_last_blanks
-named_by field None h bytes at = tt
-named_by field (Some s) h bytes at =
-    let names = at.0 in
-    let name = without_last_blanks field in
-    let p = and_parts (leb 1 (length name)) (leb (length name) 24) h in
-    let some = leb-true 1 (length name) p.0 in
-    let all : OfBytes name = taken IsByte (length field - suffix_len is_blank field) field bytes in
-    record {
-      some = subst (λ (z : List ℕ). 1 ≤ length z) (sym names) some;
-      short = subst (λ (z : List ℕ). length z ≤ 24) (sym names) (leb-true (length name) 24 p.1);
-      bytes = subst OfBytes (sym names) all;
-      ends = ap ends_blank names ∙ no_blank_left field some;
-      place = at.1;
-    }
+target_placed : (t : Target) → IsAddressed t → IsTarget t
+target_placed (target.Variable place w) h =
+    let bit = bit_placed w place.bit h.bit in
+    let low = h.byte in
+    record { number = h.number; byte = omega (arith, low); bit = bit.0; whole = bit.1 }
+target_placed (target.Timer n) h = tt
+target_placed (target.Counter n) h = tt
+target_placed (target.Block id) h = tt
 
-declaration_named : (field place kind : List ℕ) → OfBytes field
-    → IfSome (declaration (without_last_blanks field) place kind) IsDeclared
-declaration_named field place kind h =
-    passed (is_name (without_last_blanks field)) _ IsDeclared
-    (λ right. chained (address_of place) _ (Declares (without_last_blanks field) (declared (without_last_blanks field))) IsDeclared (address_placed (without_last_blanks field) place)
-    (λ a at. passed (has_type a kind) (Some (declared (without_last_blanks field) a)) IsDeclared
-    (λ typed. named_by field (declared (without_last_blanks field) a) right h at)))
+bytes_passed : (name : List ℕ) → Passes (λ b. ltb b 256) name → OfBytes name
+bytes_passed [] h = tt
+bytes_passed (b ∷ bs) h = (ltb-true b 256 h.0, bytes_passed bs h.1)
 
-line_named : (c : Columns) → OfBytes c.name → IfSome (declaration_of c) IsDeclared
-unfolding declaration_of
-line_named c h = declaration_named c.name (without_blanks c.address) (without_last_blanks c.kind) h
+passing_bytes : (file : List ℕ) → OfBytes file → Passes (λ b. ltb b 256) file
+passing_bytes [] h = tt
+passing_bytes (b ∷ bs) h = (lt-ltb b 256 h.0, passing_bytes bs h.1)
+
+named_by : (s : Symbol) → IsSymbol s → Passes (λ b. ltb b 256) s.name → IsNamed s
+named_by s is bytes = record {
+  some = is.some;
+  short = is.short;
+  bytes = bytes_passed s.name bytes;
+  ends = last_blank s.name is.some ∙ not_blank (get_or s.name (length s.name - 1) 0) is.ends;
+  place = target_placed s.target is.target;
+}
 
 -- ---- the symbols of a file
-
--- no two have one name
-abbrev pub AreOther : List Symbol → Type 0
-AreOther [] = Unit {0}
-AreOther (x ∷ xs) = AllByRecursion (λ (y : Symbol). is_same_name y.name x.name ≡ false) xs × AreOther xs
 
 abbrev pub AreNamed : List Symbol → Type 0
 AreNamed symbols = AllByRecursion IsNamed symbols × AreOther symbols
 
-other_push : (xs : List Symbol) (y : Symbol) → AreOther xs
-    → AllByRecursion (λ x. is_same_name y.name x.name ≡ false) xs → AreOther (xs ++ y ∷ [])
-other_push [] y h k = (tt, tt)
-other_push (x ∷ xs) y h k =
-    (all_append (λ z. is_same_name z.name x.name ≡ false) xs (y ∷ []) h.0 (k.0, tt), other_push xs y h.1 k.1)
+named_all : (symbols : List Symbol) → AllByRecursion IsSymbol symbols
+    → AllByRecursion (λ (s : Symbol). Passes (λ b. ltb b 256) s.name) symbols
+    → AllByRecursion IsNamed symbols
+named_all [] h k = tt
+named_all (s ∷ symbols) h k = (named_by s h.0 k.0, named_all symbols h.1 k.1)
 
-none_named : (name : List ℕ) (xs : List Symbol) → is_some (symbol_named name xs) ≡ false
-    → AllByRecursion (λ x. is_same_name name x.name ≡ false) xs
-unfolding symbol_named
-none_named name [] e = tt
-none_named name (x ∷ xs) e = by (is_same_name name x.name) refl e (none_named name xs)
-  where
-    by : (t : Bool) → is_same_name name x.name ≡ t
-        → is_some (cond t (Some x) (find (λ s. is_same_name name s.name) xs)) ≡ false
-        → (is_some (find (λ s. is_same_name name s.name) xs) ≡ false → AllByRecursion (λ x. is_same_name name x.name ≡ false) xs)
-        → AllByRecursion (λ x. is_same_name name x.name ≡ false) (x ∷ xs)
-    by true is e more = absurd cc
-    by false is e more = (is, more e)
-
-with_one : (xs : List Symbol) (x : Symbol) → AreNamed xs → IsNamed x → IfOk (with_symbol xs x) AreNamed
-unfolding with_symbol
-with_one xs x h k = by (eqb (length xs) most_symbols) (is_some (symbol_named x.name xs)) refl
-  where
-    by : (full there : Bool) → is_some (symbol_named x.name xs) ≡ there
-        → IfOk {E = ℕ} (if full then Err 15 else if there then Err 16 else Ok (xs ++ x ∷ [])) AreNamed
-    by true there e = tt
-    by false true e = tt
-    by false false e = (all_append IsNamed xs (x ∷ []) h.0 (k, tt), other_push xs x h.1 (none_named x.name xs e))
-
-with_declared : (xs : List Symbol) (o : Option (Option Symbol)) → AreNamed xs → IfSome o IsDeclared
-    → IfOk (with_declaration xs o) AreNamed
-with_declared xs None h k = tt
-with_declared xs (Some None) h k = h
-with_declared xs (Some (Some x)) h k = with_one xs x h k
-
-with_read : (xs : List Symbol) (o : Option Columns) → AreNamed xs → IfSome o (λ c. OfBytes c.name)
-    → IfOk (with_columns xs o) AreNamed
-with_read xs None h k = tt
-with_read xs (Some c) h k = with_declared xs (declaration_of c) h (line_named c k)
-
-with_lined : (xs : List Symbol) (line : List ℕ) → AreNamed xs → OfBytes line → IfOk (with_line xs line) AreNamed
-unfolding with_line
-with_lined xs [] h k = h
-with_lined xs (b ∷ line) h k = with_read xs (columns (b ∷ line)) h (name_column (b ∷ line) k)
-
-symbols_from : (number : ℕ) (xs : List Symbol) (left : List (List ℕ)) → AreNamed xs → AllByRecursion OfBytes left
-    → IfOk (with_lines number xs left) AreNamed
-unfolding with_lines
-symbols_from number xs [] h k = h
-symbols_from number xs (line ∷ more) h k =
-    by (with_line xs line) (with_lined xs line h k.0) (λ ys named. symbols_from (number + 1) ys more named k.1)
-  where
-    by : (r : Result (List Symbol) ℕ) → IfOk r AreNamed
-        → ((ys : List Symbol) → AreNamed ys → IfOk (with_lines (number + 1) ys more) AreNamed)
-        → IfOk (and_then_lines number (λ next. with_lines (number + 1) next more) r) AreNamed
-    by (Ok ys) named next = next ys named
-    by (Err rule) named next = tt
-
-pub symbols_named : (bytes : List ℕ) (symbols : List Symbol) → OfBytes bytes → symbols_of bytes ≡ Ok symbols → AreNamed symbols
-unfolding symbols_of
-symbols_named bytes symbols h e =
-    subst (λ (r : Result (List Symbol) Refusal). IfOk r AreNamed) e (symbols_from 1 [] (lines bytes) (tt, tt) (lines_of_bytes bytes h))
+pub symbols_named : (language : Language) (bytes : List ℕ) (symbols : List Symbol) → OfBytes bytes
+    → symbols_in language bytes ≡ Ok symbols → AreNamed symbols
+symbols_named language bytes symbols h e =
+    let right = symbols_right language bytes symbols e in
+    (named_all symbols right.each (right.bytes (λ b. ltb b 256) (passing_bytes bytes h)), right.apart)
 
 -- ---- the entries
 

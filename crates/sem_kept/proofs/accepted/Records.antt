@@ -14,7 +14,8 @@ use Rattle.stl_ast.specs.declared.blocks.Tree.{Tree}
 use Rattle.stl_parser.specs.Lines.{Rises, lines_of, LinesRise}
 use Rattle.stl_parser.proofs.RiseLemmas.{lines_rise}
 use Rattle.stl_symbols.specs.Symbol.{Symbol}
-use Rattle.stl_symbols.specs.Symbols.{symbols_of}
+use Rattle.stl_symbols.specs.Symbols.{symbols_in}
+use Rattle.stl_symbols.specs.declared.languages.Language.{Language}
 use Rattle.block_layout.specs.Layouts.{layouts_of}
 use Rattle.stl_codegen.specs.Compiled.{compiled}
 use Rattle.stl_codegen.specs.Generated.{code_blocks_of}
@@ -72,8 +73,9 @@ all_from : (bytes : List ℕ) → ((i : ℕ) → get_or bytes i 0 < 256) → OfB
 all_from [] h = tt
 all_from (b ∷ bytes) h = (h 0, all_from bytes (λ i. h (suc i)))
 
-pub file_named : (file : List ℕ) (symbols : List Symbol) → symbols_of file ≡ Ok symbols → IsOfBytes file → AreNamed symbols
-file_named file symbols are bytes = symbols_named file symbols (all_from file bytes) are
+pub file_named : (language : Language) (file : List ℕ) (symbols : List Symbol)
+    → symbols_in language file ≡ Ok symbols → IsOfBytes file → AreNamed symbols
+file_named language file symbols are bytes = symbols_named language file symbols (all_from file bytes) are
 
 pub right_by : LinesRise → RecordsAreRight
 right_by law source file symbols t a bytes codes enough judged =
@@ -82,7 +84,7 @@ right_by law source file symbols t a bytes codes enough judged =
     body_good judged (program_in symbols t) enough
     (code_blocks_right symbols t (1 + length source) judged h (omega (arith, short)) (law source a.tokens t a.lexed a.parsed) codes)
     (data_blocks_right symbols t h (data_blocks_rise symbols t h))
-    (names_right symbols (file_named file symbols a.named bytes))
+    (names_right symbols (file_named a.language file symbols a.named bytes))
 
 pub records_right : RecordsAreRight
 records_right = right_by lines_rise

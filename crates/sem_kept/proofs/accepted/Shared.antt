@@ -26,13 +26,13 @@ use Rattle.stl_types.specs.Context.{Context}
 use Rattle.stl_types.specs.Forms.{form_of}
 use Rattle.stl_types.specs.Kinds.{is_called}
 use Rattle.stl_types.specs.Operands.{operand_rule, rule_of, rule_seen, takes}
-use Rattle.stl_types.specs.Seen.{seen}
-use Rattle.stl_types.specs.declared.forms.Form.{Form}
-use Rattle.stl_types.specs.declared.forms.Form.TheVariants as form
-use Rattle.stl_types.specs.declared.views.Seen.{Seen}
-use Rattle.stl_types.specs.declared.views.Seen.TheVariants.{Sees}
-use Rattle.stl_types.specs.declared.views.View.{View}
-use Rattle.stl_types.specs.declared.views.View.TheVariants as view
+use Rattle.stl_types.specs.Resolution.{seen}
+use Rattle.stl_types.specs.declared.forms.OperandRule.{OperandRule}
+use Rattle.stl_types.specs.declared.forms.OperandRule.TheVariants as form
+use Rattle.stl_types.specs.declared.views.Resolution.{Resolution}
+use Rattle.stl_types.specs.declared.views.Resolution.TheVariants.{Resolved}
+use Rattle.stl_types.specs.declared.views.ResolvedOperand.{ResolvedOperand}
+use Rattle.stl_types.specs.declared.views.ResolvedOperand.TheVariants as view
 use Rattle.stl_codegen.specs.Generated.{stated_from}
 use Rattle.stl_codegen.specs.Instruction.{instruction}
 use Rattle.stl_codegen.specs.Operations.{call_of, jump_of}
@@ -143,15 +143,15 @@ call_form _ how h = absurd cc
 abbrev allowed_if : Bool → Option ℕ
 allowed_if b = if b then None else Some 25
 
-pub rule_there : (c : Context) (f : Form) (o : Operand) (v : View)
+pub rule_there : (c : Context) (f : OperandRule) (o : Operand) (v : ResolvedOperand)
     → ((value : Literal) → takes_constant f value ≡ false) → operand_rule c f o ≡ None
-    → seen c o ≡ Sees v → rule_of f v ≡ None
+    → seen c o ≡ Resolved v → rule_of f v ≡ None
 rule_there c f (operand.Constant value) v never h e = by (takes_constant f value) (never value) h
   where
     by : (b : Bool) → b ≡ false → allowed_if b ≡ None → rule_of f v ≡ None
     by true e h = absurd cc
     by false e h = absurd cc
-rule_there c f _ v never h e = sym (ap (λ (s : Seen). rule_seen f s) e) ∙ h
+rule_there c f _ v never h e = sym (ap (λ (s : Resolution). rule_seen f s) e) ∙ h
 
 pub no_jump_constant : (value : Literal) → takes_constant form.Jumps value ≡ false
 unfolding takes_constant
@@ -162,7 +162,7 @@ unfolding takes_constant
 no_call_constant value = refl
 
 -- what is called can be
-pub calls_called : (v : View) → rule_of form.Calls v ≡ None → is_called v ≡ true
+pub calls_called : (v : ResolvedOperand) → rule_of form.Calls v ≡ None → is_called v ≡ true
 unfolding takes
 calls_called v e = (allowed form.Calls v e).taken
 

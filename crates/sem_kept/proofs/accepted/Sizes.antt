@@ -706,7 +706,7 @@ ready_once symbols t sound =
 pub accepted_is_small : AcceptedIsSmall
 accepted_is_small source file symbols t is =
     let sound = right_tree source file symbols t is in
-    let fine = symbols_fine file symbols is.named in
+    let fine = symbols_fine is.language file symbols is.named in
     let y = types_of symbols t.blocks in
     let ready : IsReady symbols t = record {
       fine = fine.each;

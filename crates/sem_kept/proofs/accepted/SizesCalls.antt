@@ -45,7 +45,7 @@ use Rattle.block_layout.specs.declared.cells.Element.{Element}
 use Rattle.block_layout.specs.declared.cells.Element.TheVariants as element
 use Rattle.stl_types.specs.Context.{Context, whole_place}
 use Rattle.stl_types.specs.Parameters.{Callee, callee_by, callee_of, formal_here, formal_of, formals_of, is_one_of, is_sound_formal, sound_formals, source_callee, system_formals}
-use Rattle.stl_types.specs.Seen.{seen}
+use Rattle.stl_types.specs.Resolution.{seen}
 use Rattle.stl_types.specs.declared.parameters.Formal.{Formal}
 use Rattle.stl_parser.proofs.OptionLemmas.{both, chained, mapped, none_holds, passed}
 use Rattle.stl_codegen.specs.Instruction.{block_at, in_order, passings_to, return_last}

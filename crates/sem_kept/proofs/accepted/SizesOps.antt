@@ -49,25 +49,25 @@ use Rattle.block_layout.specs.Offsets.{place_at, placed, width_of}
 use Rattle.block_layout.specs.declared.cells.Cell.{Cell}
 use Rattle.block_layout.specs.declared.cells.Element.{Element}
 use Rattle.block_layout.specs.declared.cells.Element.TheVariants as element
-use Rattle.block_layout.specs.declared.walks.Spot.{Spot}
-use Rattle.block_layout.specs.declared.walks.Walk.{Walk}
-use Rattle.block_layout.specs.declared.walks.Walk.TheVariants as walk
+use Rattle.block_layout.specs.declared.walks.ComponentAt.{ComponentAt}
+use Rattle.block_layout.specs.declared.walks.PathEnd.{PathEnd}
+use Rattle.block_layout.specs.declared.walks.PathEnd.TheVariants as walk
 use Rattle.stl_types.specs.Addresses.{address_in, area_of}
 use Rattle.stl_types.specs.Context.{Context, data_number, in_function}
 use Rattle.stl_types.specs.Kinds.{is_called}
 use Rattle.stl_types.specs.Operands.{operand_rule, rule_of, statement_rule, takes}
 use Rattle.stl_types.specs.Parameters.{callee_of}
 use Rattle.stl_types.specs.Resolved.{resolved, seen_view}
-use Rattle.stl_types.specs.Seen.{called_seen, direct_seen, opened_seen, path_seen, register_of, seen, symbol_seen, target_view}
+use Rattle.stl_types.specs.Resolution.{called_seen, direct_seen, opened_seen, path_seen, register_of, seen, symbol_seen, target_view}
 use Rattle.stl_types.specs.Variables.{composite, data_at, data_path, data_walked, date_or_composite, in_area, own_at, own_elementary, own_walked, parameter, parameter_at}
-use Rattle.stl_types.specs.declared.forms.Form.{Form}
-use Rattle.stl_types.specs.declared.forms.Form.TheVariants as form
+use Rattle.stl_types.specs.declared.forms.OperandRule.{OperandRule}
+use Rattle.stl_types.specs.declared.forms.OperandRule.TheVariants as form
 use Rattle.stl_types.specs.declared.views.Register.{Register}
 use Rattle.stl_types.specs.declared.views.Register.TheVariants as register
-use Rattle.stl_types.specs.declared.views.Seen.{Seen}
-use Rattle.stl_types.specs.declared.views.Seen.TheVariants.{Rests, Sees, Unknown}
-use Rattle.stl_types.specs.declared.views.View.{View}
-use Rattle.stl_types.specs.declared.views.View.TheVariants as view
+use Rattle.stl_types.specs.declared.views.Resolution.{Resolution}
+use Rattle.stl_types.specs.declared.views.Resolution.TheVariants.{Unjudged, Resolved, Unknown}
+use Rattle.stl_types.specs.declared.views.ResolvedOperand.{ResolvedOperand}
+use Rattle.stl_types.specs.declared.views.ResolvedOperand.TheVariants as view
 use Rattle.stl_codegen.specs.Compiled.{Stated, aimed, aimed_op, code_in, lines_in, ops_in, placed_ops}
 use Rattle.stl_codegen.specs.Emitted.{call_op, ending, opening, ops_of, passing, preparing}
 use Rattle.stl_codegen.specs.Generated.{returning, stated_from, statements_of}
@@ -232,20 +232,20 @@ returns_sized how = one_sized _
 
 -- ---- of what operands name
 
-abbrev ViewFits : ℕ → Operand → View → Type 0
+abbrev ViewFits : ℕ → Operand → ResolvedOperand → Type 0
 ViewFits n o v = opened_size (opened_by v) + flat_size (operand_of o v) ≤ n
 
-abbrev SeenFits : ℕ → Operand → Seen → Type 0
-SeenFits n o (Sees v) = ViewFits n o v
+abbrev SeenFits : ℕ → Operand → Resolution → Type 0
+SeenFits n o (Resolved v) = ViewFits n o v
 SeenFits n o _ = Unit {0}
 
 composite_fits : (n : ℕ) (o : Operand) (c : Option Cell) → 2 ≤ n
-    → SeenFits n o (Sees (composite c))
+    → SeenFits n o (Resolved (composite c))
 unfolding operand_of
 composite_fits n o None h = omega (arith, h)
 composite_fits n o (Some c) h = by c.of
   where
-    by : (e : Element) → SeenFits n o (Sees (date_or_composite e))
+    by : (e : Element) → SeenFits n o (Resolved (date_or_composite e))
     by element.DateAndTime = omega (arith, h)
     by _ = omega (arith, h)
 
@@ -282,7 +282,7 @@ unfolding operand_of
 parameter_fits o index kind None = tt
 parameter_fits o index kind (Some c) = omega arith
 
-own_elementary_fits : (c : Context) (o : Operand) (temporary : Bool) (spot : Spot) (kind : Simple)
+own_elementary_fits : (c : Context) (o : Operand) (temporary : Bool) (spot : ComponentAt) (kind : Simple)
     → SeenFits 7 o (own_elementary c temporary spot kind)
 own_elementary_fits c o true spot kind = own_area_fits o area.L spot.offset kind
 own_elementary_fits c o false spot kind = by (in_function c)
@@ -292,12 +292,12 @@ own_elementary_fits c o false spot kind = by (in_function c)
     by true = parameter_fits o _ kind _
     by false = own_area_fits o area.Di spot.offset kind
 
-own_at_fits : (c : Context) (o : Operand) (temporary : Bool) (spot : Spot) (kind : Option Simple)
+own_at_fits : (c : Context) (o : Operand) (temporary : Bool) (spot : ComponentAt) (kind : Option Simple)
     → SeenFits 7 o (own_at c temporary spot kind)
 own_at_fits c o temporary spot None = composite_fits 7 o _ (omega arith)
 own_at_fits c o temporary spot (Some kind) = own_elementary_fits c o temporary spot kind
 
-own_fits : (c : Context) (o : Operand) (temporary : Bool) (w : Walk)
+own_fits : (c : Context) (o : Operand) (temporary : Bool) (w : PathEnd)
     → SeenFits 7 o (own_walked c temporary w)
 own_fits c o temporary (walk.Reaches spot) = own_at_fits c o temporary spot _
 own_fits c o temporary walk.Unknown = tt
@@ -313,12 +313,12 @@ data_area_fits o number bits kind = by (nat_le (bits / 8) 65535)
         place_fits o (place_at area.Db number bits) (is_in_named_block (place_at area.Db number bits))
     by false = tt
 
-data_at_fits : (c : Context) (o : Operand) (number : ℕ) (spot : Spot) (kind : Option Simple)
+data_at_fits : (c : Context) (o : Operand) (number : ℕ) (spot : ComponentAt) (kind : Option Simple)
     → SeenFits 11 o (data_at c number spot kind)
 data_at_fits c o number spot None = composite_fits 11 o _ (omega arith)
 data_at_fits c o number spot (Some kind) = data_area_fits o number spot.offset kind
 
-data_walked_fits : (c : Context) (o : Operand) (number : ℕ) (w : Walk)
+data_walked_fits : (c : Context) (o : Operand) (number : ℕ) (w : PathEnd)
     → SeenFits 11 o (data_walked c number w)
 data_walked_fits c o number (walk.Reaches spot) = data_at_fits c o number spot _
 data_walked_fits c o number walk.Unknown = tt
@@ -330,7 +330,7 @@ data_path_fits c o steps (Some number) (Some block) = data_walked_fits c o numbe
 data_path_fits c o steps (Some number) None = tt
 data_path_fits c o steps None block = tt
 
-target_fits : (o : Operand) (t : Target) → IsApart t → SeenFits 7 o (Sees (target_view t))
+target_fits : (o : Operand) (t : Target) → IsApart t → SeenFits 7 o (Resolved (target_view t))
 unfolding operand_of
 target_fits o (target.Variable place width) h = apart_fits place h
 target_fits o (target.Timer number) h = omega arith
@@ -453,19 +453,19 @@ least_op (operand.OpenBlock di name) = omega arith
 least_op (operand.Called name instance) = omega arith
 
 -- a jump has its label, a call its block: an operand of seven bytes
-abbrev IsWide : View → Type 0
+abbrev IsWide : ResolvedOperand → Type 0
 IsWide view.Label = Unit {0}
 IsWide (view.Called id instance) = Unit {0}
 IsWide _ = ⊥
 
-abbrev SeenWide : ℕ → Seen → Type 0
-SeenWide n (Sees v) = IsWide v → 7 ≤ n
+abbrev SeenWide : ℕ → Resolution → Type 0
+SeenWide n (Resolved v) = IsWide v → 7 ≤ n
 SeenWide n _ = Unit {0}
 
-any_wide : (n : ℕ) (s : Seen) → 7 ≤ n → SeenWide n s
-any_wide n (Sees v) h = λ wide. h
+any_wide : (n : ℕ) (s : Resolution) → 7 ≤ n → SeenWide n s
+any_wide n (Resolved v) h = λ wide. h
 any_wide n Unknown h = tt
-any_wide n Rests h = tt
+any_wide n Unjudged h = tt
 
 opened_wide : (n : ℕ) (di : Bool) (number : Option ℕ) → SeenWide n (opened_seen di number)
 opened_wide n di None = tt
@@ -495,14 +495,14 @@ Opens c (operand.OpenBlock di name) = is_some (data_number c name) ≡ true
 Opens c _ = Unit {0}
 
 -- what isn't seen is a path, an address in a data block or a call
-abbrev SeenOrWide : ℕ → Seen → Type 0
-SeenOrWide n (Sees v) = Unit {0}
+abbrev SeenOrWide : ℕ → Resolution → Type 0
+SeenOrWide n (Resolved v) = Unit {0}
 SeenOrWide n _ = 7 ≤ n
 
-wide_anyway : (n : ℕ) (s : Seen) → 7 ≤ n → SeenOrWide n s
-wide_anyway n (Sees v) h = tt
+wide_anyway : (n : ℕ) (s : Resolution) → 7 ≤ n → SeenOrWide n s
+wide_anyway n (Resolved v) h = tt
 wide_anyway n Unknown h = h
-wide_anyway n Rests h = h
+wide_anyway n Unjudged h = h
 
 opened_seen_there : (n : ℕ) (di : Bool) (number : Option ℕ) → is_some number ≡ true
     → SeenOrWide n (opened_seen di number)
@@ -528,59 +528,59 @@ seen_or_wide c (operand.OpenBlock di name) h = opened_seen_there _ di (data_numb
 seen_or_wide c (operand.Called name instance) h = wide_anyway _ _ (omega arith)
 
 -- what such a form takes
-jumps_wide : (v : View) → rule_of form.Jumps v ≡ None → IsWide v
+jumps_wide : (v : ResolvedOperand) → rule_of form.Jumps v ≡ None → IsWide v
 unfolding rule_of takes
 jumps_wide view.Label h = tt
 jumps_wide (view.Called id instance) h = tt
 jumps_wide _ h = absurd cc
 
-seen_holds : (n : ℕ) (s : Seen) (v : View) → s ≡ Sees v → SeenWide n s
+seen_holds : (n : ℕ) (s : Resolution) (v : ResolvedOperand) → s ≡ Resolved v → SeenWide n s
     → IsWide v → 7 ≤ n
-seen_holds n s v e h wide = subst (λ (s : Seen). SeenWide n s) e h wide
+seen_holds n s v e h wide = subst (λ (s : Resolution). SeenWide n s) e h wide
 
-view_holds : (n : ℕ) (o : Operand) (s : Seen) (v : View) → s ≡ Sees v → SeenFits n o s
+view_holds : (n : ℕ) (o : Operand) (s : Resolution) (v : ResolvedOperand) → s ≡ Resolved v → SeenFits n o s
     → ViewFits n o v
-view_holds n o s v e h = subst (λ (s : Seen). SeenFits n o s) e h
+view_holds n o s v e h = subst (λ (s : Resolution). SeenFits n o s) e h
 
 -- what a statement passes is no more than it has
 abbrev pub PassesFew : Context → Statement → Type 0
 PassesFew c s = length (passings_to c s (callee_of c s.operand)) ≤ length s.actuals
 
-jump_fits : (c : Context) (n : ℕ) (s : Statement) (how : JumpOperation) (v : View)
-    → jump_of s.code ≡ Some how → statement_rule c s ≡ None → seen c s.operand ≡ Sees v
+jump_fits : (c : Context) (n : ℕ) (s : Statement) (how : JumpOperation) (v : ResolvedOperand)
+    → jump_of s.code ≡ Some how → statement_rule c s ≡ None → seen c s.operand ≡ Resolved v
     → (target : ℕ) → bytes_in (ops_of (jump_instr how n target)) ≤ op_size s.operand
 jump_fits c n s how v is rule e target =
     let there = rule_there c form.Jumps s.operand v no_jump_constant
-    (ap (λ (f : Form). operand_rule c f s.operand) (sym (jump_form s.code how is)) ∙ rule) e in
+    (ap (λ (f : OperandRule). operand_rule c f s.operand) (sym (jump_form s.code how is)) ∙ rule) e in
     let wide = seen_holds (op_size s.operand) (seen c s.operand) v e
     (seen_wide c s.operand) (jumps_wide v there) in
     omega (arith, jump_sized how n target, wide)
 
-called_view_fits : (c : Context) (s : Statement) (how : CallOperation) (v : View)
+called_view_fits : (c : Context) (s : Statement) (how : CallOperation) (v : ResolvedOperand)
     → is_called v ≡ true → 7 ≤ op_size s.operand → PassesFew c s
     → bytes_in (ops_of (call_instr c s how v)) ≤ op_size s.operand + 11 * length s.actuals
 called_view_fits c s how (view.Called id instance) h wide few =
     omega (arith, calls_sized how id instance (passings_to c s (callee_of c s.operand)), wide, few)
 called_view_fits c s how _ h wide few = absurd cc
 
-called_wide : (v : View) → is_called v ≡ true → IsWide v
+called_wide : (v : ResolvedOperand) → is_called v ≡ true → IsWide v
 called_wide (view.Called id instance) h = tt
 called_wide _ h = absurd cc
 
-call_fits : (c : Context) (s : Statement) (how : CallOperation) (v : View)
-    → call_of s.code ≡ Some how → statement_rule c s ≡ None → seen c s.operand ≡ Sees v
+call_fits : (c : Context) (s : Statement) (how : CallOperation) (v : ResolvedOperand)
+    → call_of s.code ≡ Some how → statement_rule c s ≡ None → seen c s.operand ≡ Resolved v
     → PassesFew c s
     → bytes_in (ops_of (call_instr c s how v)) ≤ op_size s.operand + 11 * length s.actuals
 call_fits c s how v is rule e few =
     let there = rule_there c form.Calls s.operand v no_call_constant
-    (ap (λ (f : Form). operand_rule c f s.operand) (sym (call_form s.code how is)) ∙ rule) e in
+    (ap (λ (f : OperandRule). operand_rule c f s.operand) (sym (call_form s.code how is)) ∙ rule) e in
     let called = calls_called v there in
     let wide = seen_holds (op_size s.operand) (seen c s.operand) v e
     (seen_wide c s.operand) (called_wide v called) in
     called_view_fits c s how v called wide few
 
-end_fits : (c : Context) (s : Statement) (v : View) (how : Option EndOperation)
-    → AllByRecursion IsFine c.symbols → seen c s.operand ≡ Sees v
+end_fits : (c : Context) (s : Statement) (v : ResolvedOperand) (how : Option EndOperation)
+    → AllByRecursion IsFine c.symbols → seen c s.operand ≡ Resolved v
     → bytes_in (ops_of (end_instr s v how)) ≤ op_size s.operand
 end_fits c s v None fine e =
     omega (
@@ -590,9 +590,9 @@ end_fits c s v None fine e =
     )
 end_fits c s v (Some how) fine e = omega (arith, returns_sized how, least_op s.operand)
 
-view_instr_fits : (c : Context) (s : Statement) (v : View) (how : Option CallOperation)
+view_instr_fits : (c : Context) (s : Statement) (v : ResolvedOperand) (how : Option CallOperation)
     → call_of s.code ≡ how → AllByRecursion IsFine c.symbols → statement_rule c s ≡ None
-    → seen c s.operand ≡ Sees v → PassesFew c s
+    → seen c s.operand ≡ Resolved v → PassesFew c s
     → bytes_in (ops_of (view_instr c s v how)) ≤ op_size s.operand + 11 * length s.actuals
 view_instr_fits c s v None is fine rule e few = omega (arith, end_fits c s v (end_of s.code) fine e)
 view_instr_fits c s v (Some how) is fine rule e few = call_fits c s how v is rule e few
@@ -613,33 +613,33 @@ unfolding ops_of
 filler_sized = one_sized _
 
 -- an instruction that isn't a jump
-view_fits : (c : Context) (s : Statement) (found : Seen) → AllByRecursion IsFine c.symbols
+view_fits : (c : Context) (s : Statement) (found : Resolution) → AllByRecursion IsFine c.symbols
     → IsTaken c s → seen c s.operand ≡ found
     → bytes_in (ops_of (resolved_instr c s (seen_view found)))
     ≤ op_size s.operand + 11 * length s.actuals
-view_fits c s (Sees v) fine is e =
+view_fits c s (Resolved v) fine is e =
     view_instr_fits c s v (call_of s.code) refl fine is.allowed e is.few
 view_fits c s Unknown fine is e =
-    let wide = subst (λ (s' : Seen). SeenOrWide (op_size s.operand) s') e
+    let wide = subst (λ (s' : Resolution). SeenOrWide (op_size s.operand) s') e
     (seen_or_wide c s.operand is.opens) in
     omega (arith, wide, filler_sized)
-view_fits c s Rests fine is e =
-    let wide = subst (λ (s' : Seen). SeenOrWide (op_size s.operand) s') e
+view_fits c s Unjudged fine is e =
+    let wide = subst (λ (s' : Resolution). SeenOrWide (op_size s.operand) s') e
     (seen_or_wide c s.operand is.opens) in
     omega (arith, wide, filler_sized)
 
 -- a jump
-jump_seen_fits : (c : Context) (n : ℕ) (s : Statement) (how : JumpOperation) (found : Seen)
+jump_seen_fits : (c : Context) (n : ℕ) (s : Statement) (how : JumpOperation) (found : Resolution)
     → IsTaken c s → jump_of s.code ≡ Some how → seen c s.operand ≡ found → (target : ℕ)
     → bytes_in (ops_of (jump_instr how n target)) ≤ op_size s.operand
-jump_seen_fits c n s how (Sees v) is jumps e target =
+jump_seen_fits c n s how (Resolved v) is jumps e target =
     jump_fits c n s how v jumps is.allowed e target
 jump_seen_fits c n s how Unknown is jumps e target =
-    let wide = subst (λ (s' : Seen). SeenOrWide (op_size s.operand) s') e
+    let wide = subst (λ (s' : Resolution). SeenOrWide (op_size s.operand) s') e
     (seen_or_wide c s.operand is.opens) in
     omega (arith, wide, jump_sized how n target)
-jump_seen_fits c n s how Rests is jumps e target =
-    let wide = subst (λ (s' : Seen). SeenOrWide (op_size s.operand) s') e
+jump_seen_fits c n s how Unjudged is jumps e target =
+    let wide = subst (λ (s' : Resolution). SeenOrWide (op_size s.operand) s') e
     (seen_or_wide c s.operand is.opens) in
     omega (arith, wide, jump_sized how n target)
 

@@ -72,7 +72,7 @@ accepted_verifies source file symbols t a bytes file_bytes =
     let blocks : good_blocks (0, 0) p.code_blocks ≡ true =
     code_blocks_right symbols t (1 + length source) false tree (omega (arith, short)) (lines_rise source a.tokens t a.lexed a.parsed) codes in
     let datas = data_blocks_right symbols t tree (data_blocks_rise symbols t tree) in
-    let names = names_right symbols (file_named file symbols a.named (below file file_bytes)) in (
+    let names = names_right symbols (file_named a.language file symbols a.named (below file file_bytes)) in (
       small_is_program p small blocks datas names,
       record {
         right = records_right source file symbols t a (below file file_bytes) codes small.counts true;

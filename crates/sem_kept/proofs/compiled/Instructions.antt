@@ -40,24 +40,24 @@ use Rattle.block_layout.specs.declared.blocks.BlockLayout.{BlockLayout}
 use Rattle.block_layout.specs.declared.cells.Cell.{Cell}
 use Rattle.block_layout.specs.declared.cells.Element.{Element}
 use Rattle.block_layout.specs.declared.cells.Element.TheVariants as element
-use Rattle.block_layout.specs.declared.walks.Spot.{Spot}
-use Rattle.block_layout.specs.declared.walks.Walk.{Walk}
-use Rattle.block_layout.specs.declared.walks.Walk.TheVariants as walk
+use Rattle.block_layout.specs.declared.walks.ComponentAt.{ComponentAt}
+use Rattle.block_layout.specs.declared.walks.PathEnd.{PathEnd}
+use Rattle.block_layout.specs.declared.walks.PathEnd.TheVariants as walk
 use Rattle.stl_types.specs.Addresses.{address_in}
 use Rattle.stl_types.specs.Context.{Context, ids, number_of, data_place, data_number, in_function}
 use Rattle.stl_types.specs.Forms.{form_of}
 use Rattle.stl_types.specs.Operands.{rule_of, rule_seen, operand_rule, statement_rule}
 use Rattle.stl_types.specs.Resolved.{seen_view, resolved}
-use Rattle.stl_types.specs.Seen.{target_view, symbol_seen, path_seen, direct_seen, opened_seen, called_seen, instance_number, whole_block as whole_called, seen}
+use Rattle.stl_types.specs.Resolution.{target_view, symbol_seen, path_seen, direct_seen, opened_seen, called_seen, instance_number, whole_block as whole_called, seen}
 use Rattle.stl_types.specs.Variables.{date_or_composite, composite, in_area, parameter, parameter_index, parameter_at, is_temporary, own_elementary, own_at, own_walked, data_at, data_walked, data_path}
-use Rattle.stl_types.specs.declared.forms.Form.{Form}
-use Rattle.stl_types.specs.declared.forms.Form.TheVariants as form
+use Rattle.stl_types.specs.declared.forms.OperandRule.{OperandRule}
+use Rattle.stl_types.specs.declared.forms.OperandRule.TheVariants as form
 use Rattle.stl_types.specs.declared.views.Register.{Register}
 use Rattle.stl_types.specs.declared.views.Register.TheVariants as register
-use Rattle.stl_types.specs.declared.views.Seen.{Seen}
-use Rattle.stl_types.specs.declared.views.Seen.TheVariants.{Sees, Unknown, Rests}
-use Rattle.stl_types.specs.declared.views.View.{View}
-use Rattle.stl_types.specs.declared.views.View.TheVariants as view
+use Rattle.stl_types.specs.declared.views.Resolution.{Resolution}
+use Rattle.stl_types.specs.declared.views.Resolution.TheVariants.{Resolved, Unknown, Unjudged}
+use Rattle.stl_types.specs.declared.views.ResolvedOperand.{ResolvedOperand}
+use Rattle.stl_types.specs.declared.views.ResolvedOperand.TheVariants as view
 use Rattle.stl_codegen.specs.Instruction.{numbers_from, jump_instr, target_of, call_instr, end_instr, view_instr, resolved_instr, instr_by, instruction}
 use Rattle.stl_codegen.specs.Operands.{numbered_operand, register_operand, operand_of}
 use Rattle.stl_codegen.specs.Operations.{jump_of, call_of, end_of, or_operation, load_operation, transfer_operation, load_pointer_operation, store_pointer_operation, add_operation, operation_for}
@@ -74,24 +74,24 @@ IsMade n (Returns how) = Unit {0}
 
 -- ---- operations and operands of instructions that go on
 
-or_goes_on : (v : View) → goes_on (or_operation v) ≡ true
+or_goes_on : (v : ResolvedOperand) → goes_on (or_operation v) ≡ true
 or_goes_on view.Nothing = refl
 or_goes_on _ = refl
 
-load_goes_on : (v : View) → goes_on (load_operation v) ≡ true
+load_goes_on : (v : ResolvedOperand) → goes_on (load_operation v) ≡ true
 load_goes_on (view.Register register.Stw) = refl
 load_goes_on (view.Register _) = refl
 load_goes_on _ = refl
 
-transfer_goes_on : (v : View) → goes_on (transfer_operation v) ≡ true
+transfer_goes_on : (v : ResolvedOperand) → goes_on (transfer_operation v) ≡ true
 transfer_goes_on (view.Register which) = refl
 transfer_goes_on _ = refl
 
-load_pointer_goes_on : (v : View) → goes_on (load_pointer_operation v) ≡ true
+load_pointer_goes_on : (v : ResolvedOperand) → goes_on (load_pointer_operation v) ≡ true
 load_pointer_goes_on (view.Register which) = refl
 load_pointer_goes_on _ = refl
 
-store_pointer_goes_on : (v : View) → goes_on (store_pointer_operation v) ≡ true
+store_pointer_goes_on : (v : ResolvedOperand) → goes_on (store_pointer_operation v) ≡ true
 store_pointer_goes_on (view.Register which) = refl
 store_pointer_goes_on _ = refl
 
@@ -100,7 +100,7 @@ add_goes_on (operand.Constant (literal.Long value)) = refl
 add_goes_on (operand.Constant _) = refl
 add_goes_on _ = refl
 
-operation_goes_on : (m : Mnemonic) (o : Operand) (v : View) → goes_on (operation_for m o v) ≡ true
+operation_goes_on : (m : Mnemonic) (o : Operand) (v : ResolvedOperand) → goes_on (operation_for m o v) ≡ true
 unfolding operation_for
 operation_goes_on code.O o v = or_goes_on v
 operation_goes_on code.L o v = load_goes_on v
@@ -124,7 +124,7 @@ by_register register.Dilg = refl
 by_register register.Dino = refl
 by_register _ = refl
 
-pub no_target : (o : Operand) (v : View) → is_target (operand_of o v) ≡ false
+pub no_target : (o : Operand) (v : ResolvedOperand) → is_target (operand_of o v) ≡ false
 unfolding operand_of
 no_target o (view.NumberBy what from byte) = by_number what from byte
 no_target o (view.Register which) = by_register which
@@ -133,16 +133,16 @@ no_target o _ = refl
 -- ---- what is called
 
 -- what is taken is seen, and breaks no rule
-taken : (r : Option ℕ) (x : Seen) (v : View)
-    → (if is_none r then seen_view x else None) ≡ Some v → (r ≡ None) × (x ≡ Sees v)
-taken None (Sees w) v e = (refl, cc)
+taken : (r : Option ℕ) (x : Resolution) (v : ResolvedOperand)
+    → (if is_none r then seen_view x else None) ≡ Some v → (r ≡ None) × (x ≡ Resolved v)
+taken None (Resolved w) v e = (refl, cc)
 taken None Unknown v e = absurd cc
-taken None Rests v e = absurd cc
+taken None Unjudged v e = absurd cc
 taken (Some rule) x v e = absurd cc
 
 -- an operand that names a called block breaks the rule of what it names
-rule_none : (c : Context) (f : Form) (o : Operand) (id : BlockId) (i : Option ℕ)
-    → operand_rule c f o ≡ None → seen c o ≡ Sees (view.Called id i)
+rule_none : (c : Context) (f : OperandRule) (o : Operand) (id : BlockId) (i : Option ℕ)
+    → operand_rule c f o ≡ None → seen c o ≡ Resolved (view.Called id i)
     → rule_of f (view.Called id i) ≡ None
 unfolding seen
 rule_none c f (operand.Constant value) id i e s = absurd cc
@@ -151,15 +151,15 @@ rule_none c f _ id i e s = ap (rule_seen f) (sym s) ∙ e
 -- ---- its instance
 
 -- only an operand that calls a block names one
-abbrev names_called : Seen → Bool
-names_called (Sees (view.Called id instance)) = true
+abbrev names_called : Resolution → Bool
+names_called (Resolved (view.Called id instance)) = true
 names_called _ = false
 
-of_element : (e : Element) → names_called (Sees (date_or_composite e)) ≡ false
+of_element : (e : Element) → names_called (Resolved (date_or_composite e)) ≡ false
 of_element element.DateAndTime = refl
 of_element _ = refl
 
-of_cell : (c : Option Cell) → names_called (Sees (composite c)) ≡ false
+of_cell : (c : Option Cell) → names_called (Resolved (composite c)) ≡ false
 of_cell None = refl
 of_cell (Some c) = of_element c.of
 
@@ -172,7 +172,7 @@ of_parameter : (index : ℕ) (kind : Simple) (c : Option Cell)
 of_parameter index kind None = refl
 of_parameter index kind (Some c) = refl
 
-of_function : (c : Context) (function : Bool) (spot : Spot) (kind : Simple) (p : Option (Place × Width))
+of_function : (c : Context) (function : Bool) (spot : ComponentAt) (kind : Simple) (p : Option (Place × Width))
     → names_called (if function then parameter_at c spot kind else in_area kind p) ≡ false
 of_function c true spot kind p =
     of_parameter
@@ -181,32 +181,32 @@ of_function c true spot kind p =
     kind (slice_get (cells_at c.layouts c.block false) spot.place)
 of_function c false spot kind p = of_area kind p
 
-of_elementary : (c : Context) (temporary : Bool) (spot : Spot) (kind : Simple)
+of_elementary : (c : Context) (temporary : Bool) (spot : ComponentAt) (kind : Simple)
     → names_called (own_elementary c temporary spot kind) ≡ false
 of_elementary c true spot kind = of_area kind (placed _ 0 spot.offset (Some kind))
 of_elementary c false spot kind =
     of_function c (in_function c) spot kind (placed _ 0 spot.offset (Some kind))
 
-of_own_at : (c : Context) (temporary : Bool) (spot : Spot) (k : Option Simple)
+of_own_at : (c : Context) (temporary : Bool) (spot : ComponentAt) (k : Option Simple)
     → names_called (own_at c temporary spot k) ≡ false
 of_own_at c temporary spot None =
     of_cell (slice_get (cells_at c.layouts spot.block spot.temporary) spot.place)
 of_own_at c temporary spot (Some kind) = of_elementary c temporary spot kind
 
-of_own : (c : Context) (temporary : Bool) (w : Walk)
+of_own : (c : Context) (temporary : Bool) (w : PathEnd)
     → names_called (own_walked c temporary w) ≡ false
 of_own c temporary (walk.Reaches spot) =
     of_own_at c temporary spot (elementary_at c.layouts spot)
 of_own c temporary walk.Unknown = refl
 of_own c temporary walk.Rests = refl
 
-of_data_at : (c : Context) (number : ℕ) (spot : Spot) (k : Option Simple)
+of_data_at : (c : Context) (number : ℕ) (spot : ComponentAt) (k : Option Simple)
     → names_called (data_at c number spot k) ≡ false
 of_data_at c number spot None =
     of_cell (slice_get (cells_at c.layouts spot.block spot.temporary) spot.place)
 of_data_at c number spot (Some kind) = of_area kind (placed _ number spot.offset (Some kind))
 
-of_data : (c : Context) (number : ℕ) (w : Walk) → names_called (data_walked c number w) ≡ false
+of_data : (c : Context) (number : ℕ) (w : PathEnd) → names_called (data_walked c number w) ≡ false
 of_data c number (walk.Reaches spot) = of_data_at c number spot (elementary_at c.layouts spot)
 of_data c number walk.Unknown = refl
 of_data c number walk.Rests = refl
@@ -218,7 +218,7 @@ of_data_path c steps (Some number) (Some block) =
 of_data_path c steps (Some number) None = refl
 of_data_path c steps None place = refl
 
-of_target : (t : Target) → names_called (Sees (target_view t)) ≡ false
+of_target : (t : Target) → names_called (Resolved (target_view t)) ≡ false
 of_target (target.Variable place width) = refl
 of_target (target.Timer number) = refl
 of_target (target.Counter number) = refl
@@ -354,24 +354,24 @@ least_data_number c name number e =
 
 called_instance : (c : Context) (b : Option BlockId) (named : Option BlockName) (id : BlockId)
     (number : ℕ)
-    → called_seen b named (instance_number c named) ≡ Sees (view.Called id (Some number))
+    → called_seen b named (instance_number c named) ≡ Resolved (view.Called id (Some number))
     → 1 ≤ number
 called_instance c None named id number e = absurd cc
 called_instance c (Some x) None id number e = absurd cc
 called_instance c (Some x) (Some name) id number e = by (data_number c name) refl e
   where
     by : (i : Option ℕ) → data_number c name ≡ i
-        → called_seen (Some x) (Some name) i ≡ Sees (view.Called id (Some number)) → 1 ≤ number
+        → called_seen (Some x) (Some name) i ≡ Resolved (view.Called id (Some number)) → 1 ≤ number
     by None is h = absurd cc
     by (Some k) is h =
         let same : k ≡ number = cc in least_data_number c name number (is ∙ ap Some same)
 
-not_called : (x : Seen) (id : BlockId) (i : Option ℕ) → names_called x ≡ false
-    → x ≡ Sees (view.Called id i) → ⊥
+not_called : (x : Resolution) (id : BlockId) (i : Option ℕ) → names_called x ≡ false
+    → x ≡ Resolved (view.Called id i) → ⊥
 not_called x id i other e = let h : false ≡ true = sym other ∙ ap names_called e in cc
 
 seen_instance : (c : Context) (o : Operand) (id : BlockId) (number : ℕ)
-    → seen c o ≡ Sees (view.Called id (Some number)) → 1 ≤ number
+    → seen c o ≡ Resolved (view.Called id (Some number)) → 1 ≤ number
 unfolding seen
 seen_instance c (operand.Called name instance) id number e =
     called_instance c (whole_called c (named_block c.symbols name)) instance id number e
@@ -386,13 +386,13 @@ seen_instance c (operand.OpenBlock di name) id number e =
 seen_instance c _ id number e = absurd cc
 
 instance_is : (c : Context) (o : Operand) (id : BlockId) (i : Option ℕ)
-    → seen c o ≡ Sees (view.Called id i) → IsInstance i
+    → seen c o ≡ Resolved (view.Called id i) → IsInstance i
 instance_is c o id None e = tt
 instance_is c o id (Some number) e = seen_instance c o id number e
 
 -- ---- instructions
 
-called_made : (c : Context) (n : ℕ) (s : Statement) (how : CallOperation) (v : View)
+called_made : (c : Context) (n : ℕ) (s : Statement) (how : CallOperation) (v : ResolvedOperand)
     → resolved c s ≡ Some v → call_of s.code ≡ Some how → IsMade n (call_instr c s how v)
 unfolding resolved
 called_made c n s how (view.Called id i) is e =
@@ -400,22 +400,22 @@ called_made c n s how (view.Called id i) is e =
     let rule : rule_of (form_of s.code) (view.Called id i) ≡ None =
     rule_none c (form_of s.code) s.operand id i t.0 t.1 in
     let calls_form : form_of s.code ≡ form.Calls = call_form s.code how e in (
-      rule_callable id i (ap (λ (f : Form). rule_of f (view.Called id i)) (sym calls_form) ∙ rule),
+      rule_callable id i (ap (λ (f : OperandRule). rule_of f (view.Called id i)) (sym calls_form) ∙ rule),
       instance_is c s.operand id i t.1,
     )
 called_made c n s how _ is e = (refl, refl)
 
-ended_made : (n : ℕ) (s : Statement) (v : View) (e : Option EndOperation)
+ended_made : (n : ℕ) (s : Statement) (v : ResolvedOperand) (e : Option EndOperation)
     → IsMade n (end_instr s v e)
 ended_made n s v None = (operation_goes_on s.code s.operand v, no_target s.operand v)
 ended_made n s v (Some how) = tt
 
-seen_made : (c : Context) (n : ℕ) (s : Statement) (v : View) → resolved c s ≡ Some v
+seen_made : (c : Context) (n : ℕ) (s : Statement) (v : ResolvedOperand) → resolved c s ≡ Some v
     → (h : Option CallOperation) → call_of s.code ≡ h → IsMade n (view_instr c s v h)
 seen_made c n s v is None e = ended_made n s v (end_of s.code)
 seen_made c n s v is (Some how) e = called_made c n s how v is e
 
-resolved_made : (c : Context) (n : ℕ) (s : Statement) (v : Option View) → resolved c s ≡ v
+resolved_made : (c : Context) (n : ℕ) (s : Statement) (v : Option ResolvedOperand) → resolved c s ≡ v
     → IsMade n (resolved_instr c s v)
 resolved_made c n s None is = (refl, refl)
 resolved_made c n s (Some v) is = seen_made c n s v is (call_of s.code) refl

@@ -1,21 +1,23 @@
 use Rattle.std.proofs.Common.{ℕ, List, Result, Err, IfErr, sym, ap, ◌∙◌, subst}
-use Rattle.std.proofs.lemmas.Result.{err_from_is_err_and}
+use Rattle.std.proofs.lemmas.Result.{IfErr-weaker, IfOk-weaker, err_from_is_err_and}
+use Rattle.stl_symbols.specs.declared.languages.Language.TheVariants.{English}
 use Rattle.s7_cli.specs.Compiling.{RefusesBy}
 use Rattle.s7_cli.specs.declared.faults.CompileFault.{CompileFault}
-use Rattle.s7_cli.proofs.CompileLemmas.{has_program}
+use Rattle.s7_cli.proofs.CompileLemmas.{by_symbols}
 use Rattle.s7_cli.proofs.compiling.judged.Goals as goal
 
-pub returns-in_err-_checked-clause-refused : goal.returns-in_err-_checked-clause-refused
-returns-in_err-_checked-clause-refused c =
+pub returns-in_err-list-clause-refused : goal.returns-in_err-list-clause-refused
+returns-in_err-list-clause-refused c =
     let given : List ℕ = c.args.symbols.now in
-    let fault = err_from_is_err_and c.from_residual-in_err-_checked.result
-    c.from_residual-in_err-_checked.ensures.1 in
-    subst (λ (r : Result Unit CompileFault). IfErr r (RefusesBy c.args.source.now given))
-    (sym (fault.1 ∙ ap Err fault.2))
-    (c.in_err-_checked.ensures.refused c.args.source.now given c.in_ok-laid.ensures.laid)
+    let fault = err_from_is_err_and c.from_residual.result c.from_residual.ensures.1 in
+    subst (λ (r : Result Unit CompileFault). IfErr r (RefusesBy c.args.source.now given)) (sym (fault.1 ∙ ap Err fault.2))
+    (by_symbols English c.args.source.now given _ c.in_err-list.ensures.refused)
 
 pub returns-clause-ok : goal.returns-clause-ok
 returns-clause-ok c =
-    let given : List ℕ = c.args.symbols.now in
-    has_program c.programs_run.ensures c.args.source.now given c.in_ok-laid.laid
-    c.law_of_files.ensures c.in_ok-laid.ensures.laid c.in_ok-_checked.ensures.sound
+    IfOk-weaker c.judged_with.result _ _ (λ done has. has English c.args.symbols.now c.law_of_files.ensures c.in_ok-list.ensures.ok)
+    c.judged_with.ensures.ok
+
+pub returns-clause-refused : goal.returns-clause-refused
+returns-clause-refused c =
+    IfErr-weaker c.judged_with.result _ _ (λ fault refuses. refuses English c.args.symbols.now c.in_ok-list.ensures.ok) c.judged_with.ensures.refused

@@ -1,34 +1,27 @@
 use Rattle.std.proofs.Common.{ℕ, List, Result, Err, IfErr, sym, ap, ◌∙◌, subst}
-use Rattle.std.proofs.lemmas.Result.{err_from_is_err_and}
+use Rattle.std.proofs.lemmas.Result.{IfErr-weaker, IfOk-weaker, err_from_is_err_and}
 use Rattle.flat_code.specs.Programs.{Program}
-use Rattle.plc_base.specs.declared.Profile.TheVariants.{Large}
-use Rattle.sem_kept.specs.Agreement.{KeepsSource}
+use Rattle.stl_symbols.specs.declared.languages.Language.TheVariants.{English}
 use Rattle.s7_cli.specs.Compiling.{RefusesBy}
 use Rattle.s7_cli.specs.declared.faults.CompileFault.{CompileFault}
-use Rattle.s7_cli.proofs.CompileLemmas.{generated_runs}
+use Rattle.s7_cli.proofs.CompileLemmas.{by_symbols}
 use Rattle.s7_cli.proofs.compiling.program_of.Goals as goal
 
-pub returns-in_err-checked-clause-refused : goal.returns-in_err-checked-clause-refused
-returns-in_err-checked-clause-refused c =
+pub returns-in_err-list-clause-refused : goal.returns-in_err-list-clause-refused
+returns-in_err-list-clause-refused c =
     let given : List ℕ = c.args.symbols.now in
-    let fault = err_from_is_err_and c.from_residual-in_err-checked.result
-    c.from_residual-in_err-checked.ensures.1 in
-    subst (λ (r : Result Program CompileFault). IfErr r (RefusesBy c.args.source.now given))
-    (sym (fault.1 ∙ ap Err fault.2))
-    (c.in_err-checked.ensures.refused c.args.source.now given c.in_ok-laid.ensures.laid)
-
-pub generate-requires : goal.generate-requires
-generate-requires c =
-    let given : List ℕ = c.args.symbols.now in
-    let runs = generated_runs c.programs_run.ensures c.args.source.now given c.in_ok-laid.laid
-    c.in_ok-checked.checked c.law_of_files.ensures c.in_ok-laid.ensures.laid
-    c.in_ok-checked.ensures.tree c.in_ok-checked.ensures.sound in
-    runs.runnable.is
+    let fault = err_from_is_err_and c.from_residual.result c.from_residual.ensures.1 in
+    subst (λ (r : Result Program CompileFault). IfErr r (RefusesBy c.args.source.now given)) (sym (fault.1 ∙ ap Err fault.2))
+    (by_symbols English c.args.source.now given _ c.in_err-list.ensures.refused)
 
 pub returns-clause-ok : goal.returns-clause-ok
 returns-clause-ok c =
-    let given : List ℕ = c.args.symbols.now in
-    let runs = generated_runs c.programs_run.ensures c.args.source.now given c.in_ok-laid.laid
-    c.in_ok-checked.checked c.law_of_files.ensures c.in_ok-laid.ensures.laid
-    c.in_ok-checked.ensures.tree c.in_ok-checked.ensures.sound in
-    subst (KeepsSource Large c.args.source.now given) (sym c.in_ok-generate.ensures) runs
+    IfOk-weaker c.program_with.result _ _ (λ p keeps. keeps English c.args.symbols.now c.law_of_files.ensures c.in_ok-list.ensures.ok)
+    c.program_with.ensures.ok
+
+pub returns-clause-refused : goal.returns-clause-refused
+returns-clause-refused c =
+    IfErr-weaker c.program_with.result _ _ (λ fault refuses. refuses English c.args.symbols.now c.in_ok-list.ensures.ok) c.program_with.ensures.refused
+
+pub program_with-requires-clause-read : goal.program_with-requires-clause-read
+program_with-requires-clause-read c = (English, c.args.symbols.now, c.law_of_files.ensures, c.in_ok-list.ensures.ok)

@@ -8,19 +8,22 @@ use Rattle.image_file.specs.Loaded.{LoadedProgram}
 use Rattle.machine.specs.Flat.{code_of}
 use Rattle.var_access.specs.History.{History as EntryHistory}
 use Rattle.var_access.specs.declared.Entry.{Entry}
-use Rattle.sem_kept.specs.Agreement.{names_in}
+use Rattle.sem_kept.specs.Agreement.{names_read_in}
+use Rattle.stl_symbols.specs.declared.languages.Language.{Language}
 use Rattle.event_text.specs.Texts.{history_of}
 use Rattle.s7_cli.specs.run_text.RunText.{run_text}
 use Rattle.s7_cli.specs.declared.failures.File.TheVariants.{History}
-use Rattle.s7_cli.specs.Answer.{Answer}
+use Rattle.s7_cli.specs.Answer.{Answer, done}
 use Rattle.s7_cli.specs.Command.{Go, Input, program_inputs}
 use Rattle.s7_cli.specs.Ends.{taking}
 use Rattle.s7_cli.specs.Inner.{TextWritten}
-use Rattle.s7_cli.specs.Says.{GoSays, go_answer}
+use Rattle.s7_cli.specs.Says.{GoSays, SourceSays, go_answer}
 use Rattle.s7_cli.specs.Texts.{contents_of, symbols_file, symbols_of}
+use Rattle.s7_cli.specs.Translating.{language_of}
 use Rattle.s7_cli.proofs.ComesLemmas.{comes-unread, comes-refused, comes-written, file-read, file-unread, read-then, unread-then}
 use Rattle.s7_cli.proofs.RunLemmas.{texts-kept}
-use Rattle.s7_cli.proofs.SaysLemmas.{go-said, within}
+use Rattle.s7_cli.proofs.SaysLemmas.{go-said, means-symbols, within}
+use Rattle.s7_cli.proofs.TranslatingLemmas.{in-english}
 use Rattle.s7_cli.proofs.going.go.Goals as goal
 
 -- the history among the input files
@@ -37,7 +40,7 @@ pub returns-in_err-text : goal.returns-in_err-text
 returns-in_err-text g c =
     let fault = err_from_is_err_and c.from_residual.result c.from_residual.ensures.1 in
     let symbols : Option (List ℕ) = option_map (λ s. s.now) c.args.symbols in
-    comes-unread contents_of (Go c.args.src.now symbols c.args.hist.now) _ _ _ (program_inputs c.args.src.now symbols)
+    comes-unread contents_of (Go c.args.src.now symbols c.args.german c.args.hist.now) _ _ _ (program_inputs c.args.src.now symbols)
     (history_input c.args.hist.now ∷ []) _ _ refl (fault.1 ∙ ap Err fault.2) c.in_err-text.ensures
 
 pub returns-in_err-history : goal.returns-in_err-history
@@ -46,7 +49,7 @@ returns-in_err-history g c =
     let symbols : Option (List ℕ) = option_map (λ s. s.now) c.args.symbols in
     let inputs : List Input = program_inputs c.args.src.now symbols in
     let last : Input = history_input c.args.hist.now in
-    comes-unread alone (Go c.args.src.now symbols c.args.hist.now) _ _ _ (inputs ++ last ∷ []) []
+    comes-unread alone (Go c.args.src.now symbols c.args.german c.args.hist.now) _ _ _ (inputs ++ last ∷ []) []
     _ _ (sym (append-nil (inputs ++ last ∷ []))) (fault.1 ∙ ap Err fault.2)
     (unread-then alone alone _ _ _ inputs (last ∷ []) (contents_of c.in_ok-text.text) _ _ refl c.in_ok-text.ensures
     (file-unread bytes_of alone _ last _ _ refl c.in_err-history.ensures))
@@ -64,13 +67,13 @@ returns-in_err-program g c =
     let contents : Contents = (g.F.Files.shown c.args.files.now).contents in
     let text = c.in_ok-text.text in
     let history : List ℕ = c.in_ok-history.history.items in
-    comes-refused (LoadedProgram × EntryHistory) (Go c.args.src.now symbols c.args.hist.now) _ _ _ (contents_of text ++ history ∷ [])
-    (GoSays text.source.items (symbols_of text) c.deref.result.now) _ _ (fault.1 ∙ ap Err fault.2)
+    comes-refused (LoadedProgram × EntryHistory) (Go c.args.src.now symbols c.args.german c.args.hist.now) _ _ _ (contents_of text ++ history ∷ [])
+    (GoSays c.args.german text.source.items (symbols_of text) c.deref.result.now) _ _ (fault.1 ∙ ap Err fault.2)
     (read-then _ _ _ (program_inputs c.args.src.now symbols) (history_input c.args.hist.now ∷ []) (contents_of text) (history ∷ []) c.in_ok-text.ensures
     (file-read bytes_of _ _ (history_input c.args.hist.now) c.in_ok-history.history c.in_ok-history.ensures))
     (λ (a : Answer) said.
-    go-said contents c.args.src.now symbols c.args.hist.now text.source.items (symbols_file text) history a c.in_ok-text.ensures.hold.1
-    (subst (λ (h : List ℕ). GoSays text.source.items (symbols_of text) h a) c.deref.ensures.value said))
+    go-said contents c.args.src.now symbols c.args.german c.args.hist.now text.source.items (symbols_file text) history a c.in_ok-text.ensures.hold.1
+    (subst (λ (h : List ℕ). GoSays c.args.german text.source.items (symbols_of text) h a) c.deref.ensures.value said))
     c.in_err-program.ensures.refused
 
 pub returns : goal.returns
@@ -81,14 +84,18 @@ returns g c =
     let history : List ℕ = c.in_ok-history.history.items in
     let running = code_of c.in_ok-program.program.program in
     let entries : List Entry = c.in_ok-program.entries.entries in
-    let runs = c.in_ok-program.ensures.keeps.runs in
-    let names = names_in (symbols_of text) in
+    let keeps = c.in_ok-program.ensures.keeps in
+    let runs = keeps.2.runs in
+    let language : Language = language_of c.args.german in
+    let read = means-symbols language keeps.0 (symbols_of text) runs.0 runs.1 in
+    let names = names_read_in language (symbols_of text) in
     let spells : history_of names history ≡ Ok entries = ap (history_of names) (sym c.deref.ensures.value) ∙ c.in_ok-program.ensures.spells in
-    comes-written (Go c.args.src.now symbols c.args.hist.now) _ _ _ (contents_of text ++ history ∷ []) (run_text Large runs.0 entries) _ refl
+    comes-written (Go c.args.src.now symbols c.args.german c.args.hist.now) _ _ _ (contents_of text ++ history ∷ []) (run_text Large runs.0 entries) _ refl
     (read-then _ _ _ (program_inputs c.args.src.now symbols) (history_input c.args.hist.now ∷ []) (contents_of text) (history ∷ []) c.in_ok-text.ensures
     (file-read bytes_of _ _ (history_input c.args.hist.now) c.in_ok-history.history c.in_ok-history.ensures))
-    (go-said contents c.args.src.now symbols c.args.hist.now text.source.items (symbols_file text) history _ c.in_ok-text.ensures.hold.1
-    (Ok runs.0, runs.1, ap (go_answer Large (Ok runs.0)) (sym spells)))
+    (go-said contents c.args.src.now symbols c.args.german c.args.hist.now text.source.items (symbols_file text) history _ c.in_ok-text.ensures.hold.1
+    (in-english c.args.german text.source.items (symbols_of text) keeps.0 read.0 (λ t. SourceSays language Large t (symbols_of text) history)
+    (done (run_text Large runs.0 entries)) read.1 keeps.1 (Ok runs.0, runs.1, ap (go_answer Large (Ok runs.0)) (sym spells))))
     (subst
     (λ (t : List ℕ). TextWritten t (taking (g.K.Sink.shown c.args.out.now) (g.K.Sink.shown c.replay_text.new.out)) c.written.result)
     (ap (λ (f : Profile). run_text f running entries) c.in_ok-program.ensures.large

@@ -18,5 +18,5 @@ returns c =
     let command : Some c.in_ok-command.command.now ≡ first_of (codes "COMMAND") (rows_of found) =
     c.in_ok-command.ensures ∙ first_value-rows found (codes "COMMAND") in
     let files = words_or_none c.get_strs.result _ refl ∙ ap (λ o. unwrap_or o []) (c.get_strs.ensures ∙ raw_values-rows found (codes "FILES")) in
-    c.asked_for.ensures ∙ asked_by-is (rows_of found) _ _ _ _ command (rw c.unwrap_or-files.ensures files)
-    (c.get_str-2.ensures ∙ first_value-rows found (codes "symbols")) (c.get_str-3.ensures ∙ first_value-rows found (codes "steps"))
+    c.asked_for.ensures ∙ asked_by-is (rows_of found) _ _ _ _ _ command (rw c.unwrap_or-files.ensures files)
+    (c.get_str-2.ensures ∙ first_value-rows found (codes "symbols")) c.has_german.ensures (c.get_str-3.ensures ∙ first_value-rows found (codes "steps"))

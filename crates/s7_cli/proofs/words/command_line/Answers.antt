@@ -12,4 +12,5 @@ returns c =
     let first = c.in_ok-arg.ensures.shape (search rules) ∙ ap₂ with_rule named c.command_word.ensures.rule in
     let second = c.in_ok-arg-2.ensures.shape (search rules) ∙ ap₂ with_rule first c.file_words.ensures.rule in
     let third = c.in_ok-arg-3.ensures.shape (search rules) ∙ ap₂ with_rule second c.symbols_option.ensures.rule in
-    IfOk-weaker c.arg-4.result _ _ (λ line h. h.shape (search rules) ∙ ap₂ with_rule third c.steps_option.ensures.rule) c.arg-4.ensures
+    let fourth = c.in_ok-arg-4.ensures.shape (search rules) ∙ ap₂ with_rule third c.steps_option.ensures.rule in
+    IfOk-weaker c.arg-5.result _ _ (λ line h. h.shape (search rules) ∙ ap₂ with_rule fourth c.german_flag.ensures.rule) c.arg-5.ensures

@@ -1,5 +1,6 @@
 use Rattle.std.proofs.Common.{refl}
 use Rattle.flat_code.specs.Stamps.{profile_of}
+use Rattle.stl_symbols.specs.declared.languages.Language.TheVariants.{English}
 use Rattle.sem_kept.specs.Accepted.{program_in}
 use Rattle.sem_kept.proofs.laws.compiled_is_kept.Goals as goal
 
@@ -8,5 +9,5 @@ returns c stamp source symbols list tokens tree files has_symbols has_tokens has
   stamp = stamp;
   program = program_in list tree;
   spelled = refl;
-  keeps = c.programs_run.ensures (profile_of stamp) source symbols list tokens tree files has_symbols has_tokens has_tree right;
+  keeps = c.programs_run.ensures English (profile_of stamp) source symbols list tokens tree files has_symbols has_tokens has_tree right;
 }

@@ -3,4 +3,6 @@ use Rattle.stl_symbols.proofs.AddressLemmas.{look_up-map}
 use Rattle.stl_symbols.proofs.addresses.look_up.Goals as goal
 
 pub returns : goal.returns
-returns c = c.entry_of.ensures ∙ sym (look_up-map (λ e. e.0.now) (λ e. e.1) c.args.table.now c.args.word.now)
+returns c =
+    c.entry_of.ensures
+    ∙ sym (look_up-map (λ e. e.0.now) (λ e. e.1.now) (λ e. e.2) c.args.language c.args.table.now c.args.word.now)

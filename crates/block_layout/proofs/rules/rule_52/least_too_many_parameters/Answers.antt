@@ -1,0 +1,12 @@
+use Rattle.std.proofs.Common.{rules, List, sym, ◌∙◌, ap}
+use Rattle.plc_base.specs.declared.refusals.Refusal.{Refusal}
+use Rattle.plc_base.specs.Least.{broken_if, least}
+use Rattle.block_layout.specs.Rule52.{has_too_many_parameters, rule_52}
+use Rattle.block_layout.proofs.HeadLemmas.{by_itself}
+use Rattle.block_layout.proofs.rules.rule_52.least_too_many_parameters.Goals as goal
+
+pub returns : goal.returns
+unfolding rule_52
+returns c =
+    c.least_of.ensures (λ b. broken_if (has_too_many_parameters b) b.line 52) (λ b r called. search rules)
+    ∙ ap (λ (rs : List Refusal). least rs) (sym (by_itself has_too_many_parameters 52 c.args.blocks.now))

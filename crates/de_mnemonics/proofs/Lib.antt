@@ -1,0 +1,5 @@
+pub mod CaseLemmas
+pub mod LawLemmas
+pub mod TableLemmas
+pub mod TranslationLemmas
+pub mod WordLemmas

@@ -1,0 +1,5 @@
+pub mod Back
+pub mod Places
+pub mod Tables
+pub mod Translation
+pub mod Words

@@ -1,0 +1,219 @@
+-- Where a word stands in a source, and so which role it has.
+use Rattle.std.specs.Prelude.{ℕ, Bool, true, false, ◌&&◌, ◌||◌, is_some, if◌then◌else◌, List, length, nat_lt}
+use Rattle.std.specs.List.{list_all, list_any}
+use Rattle.std.specs.Char.{is_ascii_digit}
+use Rattle.std.specs.Str.{str_eq_ignore_ascii_case}
+use Rattle.stl_lexer.specs.declared.kinds.TokenKind.{TokenKind}
+use Rattle.stl_lexer.specs.declared.kinds.TokenKind.TheVariants as kind
+use Rattle.stl_lexer.specs.declared.marks.Mark.{Mark}
+use Rattle.stl_lexer.specs.declared.marks.Mark.TheVariants as mark
+use Rattle.stl_lexer.specs.Marks.{mark_text}
+use Rattle.stl_symbols.specs.declared.languages.Language.TheVariants.{English, German}
+use Rattle.de_mnemonics.specs.declared.classes.TokenClass.{TokenClass}
+use Rattle.de_mnemonics.specs.declared.classes.TokenClass.TheVariants as class
+use Rattle.de_mnemonics.specs.declared.places.Place.{Place}
+use Rattle.de_mnemonics.specs.declared.places.Place.TheVariants as place
+use Rattle.de_mnemonics.specs.declared.roles.Role.{Role}
+use Rattle.de_mnemonics.specs.declared.roles.Role.TheVariants as role
+use Rattle.de_mnemonics.specs.Tables.{Pairs, jumps, operands, results, common_jumps, code_openings, data_openings, begin_words, endings, network_words, zone_words}
+use Rattle.de_mnemonics.specs.Words.{partner, letters, digits}
+
+-- a mark is written so
+abbrev pub is_text : List ℕ → Mark → Bool
+is_text text m = str_eq_ignore_ascii_case text (mark_text m)
+
+-- the class of a mark
+unfoldable pub class_of_mark : List ℕ → TokenClass
+class_of_mark text =
+    if is_text text mark.Semicolon then class.Semicolon
+    else (if is_text text mark.Dot then class.Dot
+    else (if is_text text mark.Assign then class.Assign
+    else (if is_text text mark.Colon then class.Colon
+    else (if is_text text mark.OpenBracket then class.OpenBracket
+    else (if is_text text mark.OpenParen then class.OpenParen
+    else (if is_text text mark.CloseParen then class.CloseParen
+    else (if is_text text mark.Pointer then class.Pointer
+    else class.Other)))))))
+
+-- the class of a token
+unfoldable pub class_of : TokenKind → List ℕ → TokenClass
+class_of kind.Word text = class.Word
+class_of kind.Number text = class.Number
+class_of kind.Attribute text = class.Note
+class_of kind.Title text = class.Note
+class_of kind.Mark text = class_of_mark text
+class_of _ text = class.Other
+
+-- a word is in the list, without case
+unfoldable pub is_among : List (List ℕ) → List ℕ → Bool
+is_among table word = list_any (λ entry. str_eq_ignore_ascii_case word entry) table
+
+-- a word is in one of the two columns
+unfoldable pub is_in : Pairs → List ℕ → Bool
+is_in table word = is_some (partner German table word) || is_some (partner English table word)
+
+-- an instruction word is that of a jump
+unfoldable pub is_jump : List ℕ → Bool
+is_jump word = is_in jumps word || is_among common_jumps word
+
+-- a keyword stands behind neither `:` nor `.`
+abbrev pub may_be_keyword : TokenClass → Bool
+may_be_keyword class.Colon = false
+may_be_keyword class.Dot = false
+may_be_keyword _ = true
+
+-- the place behind a word outside of blocks, or in a block of data
+unfoldable pub behind_outside : TokenClass → List ℕ → Place
+behind_outside before word = if may_be_keyword before && is_among code_openings word then place.Head else place.Outside
+
+-- the place behind a word before the body of a block of statements
+unfoldable pub behind_head : TokenClass → List ℕ → Place
+behind_head before word =
+    if may_be_keyword before
+    then (if is_among begin_words word then place.Start else (if is_among data_openings word then place.Outside else place.Head))
+    else place.Head
+
+-- the place behind an instruction word
+unfoldable pub behind_instruction : List ℕ → Place
+behind_instruction word = if is_jump word then place.Jump else place.Instruction
+
+-- the same, where it may be a label; `next` is the class of the token behind it
+abbrev pub behind_first : TokenClass → List ℕ → Place
+behind_first class.Colon word = place.Label
+behind_first next word = behind_instruction word
+
+-- the place behind a word at the start of a statement: the end of the block, a further network, a label or an instruction word
+unfoldable pub behind_start : List ℕ → TokenClass → Place
+behind_start word next =
+    if is_among endings word then place.Outside
+    else (if is_among network_words word then place.Start else behind_first next word)
+
+-- the place behind a word that follows a `)` at the front of an instruction
+unfoldable pub behind_closing : List ℕ → Place
+behind_closing word = if is_among zone_words word then place.Path else place.Inside
+
+-- the place behind a word
+unfoldable pub behind_word : Place → TokenClass → List ℕ → TokenClass → Place
+behind_word place.Outside before word next = behind_outside before word
+behind_word place.Head before word next = behind_head before word
+behind_word place.Start before word next = behind_start word next
+behind_word place.Label before word next = behind_instruction word
+behind_word place.Labelled before word next = behind_instruction word
+behind_word place.Closing before word next = behind_closing word
+behind_word _ before word next = place.Inside
+
+-- the place behind another token at the front of an instruction; a number is none
+abbrev pub behind_front : TokenClass → Place
+behind_front class.Semicolon = place.Start
+behind_front class.CloseParen = place.Closing
+behind_front class.Number = place.Inside
+behind_front _ = place.Path
+
+-- the same at the start of a statement, where titles and attributes belong to none
+abbrev pub behind_open : TokenClass → Place
+behind_open class.Note = place.Start
+behind_open c = behind_front c
+
+-- the place behind a token that is no word, within a statement: `;` ends it
+abbrev pub behind_part : Place → TokenClass → Place
+behind_part p class.Semicolon = place.Start
+behind_part p _ = p
+
+-- the place behind a token that follows an instruction word: a `(` may belong to the instruction
+abbrev pub behind_opening : TokenClass → Place
+behind_opening class.Semicolon = place.Start
+behind_opening class.OpenParen = place.Path
+behind_opening _ = place.Inside
+
+-- the place behind a token that is no word
+unfoldable pub behind_sign : Place → TokenClass → Place
+behind_sign place.Outside c = place.Outside
+behind_sign place.Head c = place.Head
+behind_sign place.Start c = behind_open c
+behind_sign place.Label c = place.Labelled
+behind_sign place.Labelled c = behind_front c
+behind_sign place.Jump c = behind_part place.Jump c
+behind_sign place.Instruction c = behind_opening c
+behind_sign _ c = behind_part place.Inside c
+
+-- the place behind a token of this class, with the classes of the tokens before and behind it
+unfoldable pub behind : Place → TokenClass → TokenClass → List ℕ → TokenClass → Place
+behind p before class.Word text next = behind_word p before text next
+behind p before c text next = behind_sign p c
+
+-- a number or an index in brackets follows
+abbrev pub opens_number : TokenClass → Bool
+opens_number class.Number = true
+opens_number class.OpenBracket = true
+opens_number _ = false
+
+-- `P#` stands before
+abbrev pub is_pointer : TokenClass → Bool
+is_pointer class.Pointer = true
+is_pointer _ = false
+
+-- an operand word with its number, in the same word or behind it
+unfoldable pub is_numbered : List ℕ → TokenClass → Bool
+is_numbered word next =
+    is_in operands (letters word) && list_all is_ascii_digit (digits word) && (nat_lt 0 (length (digits word)) || opens_number next)
+
+-- a word stands in an operand place: behind `P#`, as an operand word with its number, or as one that stands alone
+unfoldable pub is_operand_place : TokenClass → List ℕ → TokenClass → Bool
+is_operand_place before word next = is_pointer before || is_numbered word next || is_in results word
+
+-- a `.`
+abbrev pub is_dot : TokenClass → Bool
+is_dot class.Dot = true
+is_dot _ = false
+
+-- a `:=`
+abbrev pub is_assign : TokenClass → Bool
+is_assign class.Assign = true
+is_assign _ = false
+
+-- `.` before a word, or `:=` behind it: the word is a component or a parameter
+abbrev pub is_component : TokenClass → TokenClass → Bool
+is_component before next = is_dot before || is_assign next
+
+-- the place is behind an instruction
+abbrev pub is_behind_instruction : Place → Bool
+is_behind_instruction place.Instruction = true
+is_behind_instruction place.Closing = true
+is_behind_instruction place.Path = true
+is_behind_instruction _ = false
+
+-- a path may begin behind an instruction, and behind `:=`
+abbrev pub opens_path : Place → TokenClass → Bool
+opens_path p before = is_behind_instruction p || is_assign before
+
+-- the role of a word behind the instruction of a statement
+unfoldable pub role_in : Place → TokenClass → List ℕ → TokenClass → Role
+role_in p before word next =
+    if is_component before next then role.Stays
+    else (if is_operand_place before word next then role.Operand
+    else (if opens_path p before then role.Path else role.Stays))
+
+-- the role of the first word of a statement without a label before it: a keyword or a label stays
+abbrev pub role_first : TokenClass → Role
+role_first class.Colon = role.Stays
+role_first next = role.Instruction
+
+-- the same with the keywords
+unfoldable pub role_at_start : List ℕ → TokenClass → Role
+role_at_start word next =
+    if is_among endings word || is_among network_words word then role.Stays else role_first next
+
+-- the role of a word
+unfoldable pub role_of_word : Place → TokenClass → List ℕ → TokenClass → Role
+role_of_word place.Outside before word next = role.Stays
+role_of_word place.Head before word next = role.Stays
+role_of_word place.Start before word next = role_at_start word next
+role_of_word place.Label before word next = role.Instruction
+role_of_word place.Labelled before word next = role.Instruction
+role_of_word place.Jump before word next = role.Stays
+role_of_word p before word next = role_in p before word next
+
+-- the role of a token: what is no word stays
+unfoldable pub role_of : Place → TokenClass → TokenClass → List ℕ → TokenClass → Role
+role_of p before class.Word text next = role_of_word p before text next
+role_of p before c text next = role.Stays

@@ -1,0 +1,377 @@
+ghost use Rattle.std.specs.Prelude.{◌≡◌};
+ghost use Rattle.de_mnemonics.specs.Places.{
+  behind,
+  behind_closing,
+  behind_first,
+  behind_front,
+  behind_head,
+  behind_instruction,
+  behind_open,
+  behind_opening,
+  behind_outside,
+  behind_part,
+  behind_sign,
+  behind_start,
+  behind_word,
+  is_assign,
+  is_behind_instruction,
+  is_component,
+  is_dot,
+  is_numbered,
+  is_operand_place,
+  is_pointer,
+  may_be_keyword,
+  opens_number,
+  opens_path,
+  role_at_start,
+  role_first,
+  role_in,
+  role_of,
+  role_of_word,
+};
+
+use crate::classes::TokenClass;
+use crate::roles::Role;
+use crate::words::{
+    begins_body, ends_code, ends_in_digits, ends_zone, has_digits, is_jump, is_result, opens_code,
+    opens_data, opens_network, takes_number,
+};
+
+/// Where a token stands in a source.
+#[derive(Clone, Copy, Debug, PartialEq, Eq)]
+pub enum Place {
+    /// Outside of blocks, or in a block of data.
+    Outside,
+    /// In a block of statements, before its body.
+    Head,
+    /// At the start of a statement.
+    Start,
+    /// Behind the word of a label.
+    Label,
+    /// Behind the `:` of a label.
+    Labelled,
+    /// Behind the instruction word of a jump, and no word since.
+    Jump,
+    /// Behind another instruction word.
+    Instruction,
+    /// Behind a `)` at the front of an instruction.
+    Closing,
+    /// Behind the rest of an instruction, where a path may begin.
+    Path,
+    /// In the rest of a statement.
+    Inside,
+}
+
+/// Whether a keyword may stand behind a token of this class.
+fn may_be_keyword(before: TokenClass) -> bool
+    ensures { result ≡ may_be_keyword before }
+{
+    !matches!(before, TokenClass::Colon | TokenClass::Dot)
+}
+
+/// The place behind a word outside of blocks, or in a block of data.
+#[tactic(auto, unfolding(crate::specs::Places::behind_outside))]
+fn behind_outside(before: TokenClass, word: &[u8]) -> Place
+    ensures { result ≡ behind_outside before word.now }
+{
+    if may_be_keyword(before) && opens_code(word) {
+        Place::Head
+    } else {
+        Place::Outside
+    }
+}
+
+/// The place behind a word before the body of a block of statements.
+#[tactic(auto, unfolding(crate::specs::Places::behind_head))]
+fn behind_head(before: TokenClass, word: &[u8]) -> Place
+    ensures { result ≡ behind_head before word.now }
+{
+    if !may_be_keyword(before) {
+        return Place::Head;
+    }
+    if begins_body(word) {
+        return Place::Start;
+    }
+    if opens_data(word) {
+        return Place::Outside;
+    }
+    Place::Head
+}
+
+/// The place behind an instruction word.
+#[tactic(auto, unfolding(crate::specs::Places::behind_instruction))]
+fn behind_instruction(word: &[u8]) -> Place
+    ensures { result ≡ behind_instruction word.now }
+{
+    if is_jump(word) {
+        Place::Jump
+    } else {
+        Place::Instruction
+    }
+}
+
+/// The same, where the word may be a label.
+fn behind_first(next: TokenClass, word: &[u8]) -> Place
+    ensures { result ≡ behind_first next word.now }
+{
+    match next {
+        TokenClass::Colon => Place::Label,
+        _ => behind_instruction(word),
+    }
+}
+
+/// The place behind a word at the start of a statement.
+#[tactic(auto, unfolding(crate::specs::Places::behind_start))]
+fn behind_start(word: &[u8], next: TokenClass) -> Place
+    ensures { result ≡ behind_start word.now next }
+{
+    if ends_code(word) {
+        return Place::Outside;
+    }
+    if opens_network(word) {
+        return Place::Start;
+    }
+    behind_first(next, word)
+}
+
+/// The place behind a word that follows a `)` at the front of an instruction.
+#[tactic(auto, unfolding(crate::specs::Places::behind_closing))]
+fn behind_closing(word: &[u8]) -> Place
+    ensures { result ≡ behind_closing word.now }
+{
+    if ends_zone(word) {
+        Place::Path
+    } else {
+        Place::Inside
+    }
+}
+
+/// The place behind a word.
+#[tactic(auto, unfolding(crate::specs::Places::behind_word))]
+fn behind_word(place: Place, before: TokenClass, word: &[u8], next: TokenClass) -> Place
+    ensures { result ≡ behind_word place before word.now next }
+{
+    match place {
+        Place::Outside => behind_outside(before, word),
+        Place::Head => behind_head(before, word),
+        Place::Start => behind_start(word, next),
+        Place::Label => behind_instruction(word),
+        Place::Labelled => behind_instruction(word),
+        Place::Closing => behind_closing(word),
+        _ => Place::Inside,
+    }
+}
+
+/// The place behind another token at the front of an instruction.
+fn behind_front(class: TokenClass) -> Place
+    ensures { result ≡ behind_front class }
+{
+    match class {
+        TokenClass::Semicolon => Place::Start,
+        TokenClass::CloseParen => Place::Closing,
+        TokenClass::Number => Place::Inside,
+        _ => Place::Path,
+    }
+}
+
+/// The same at the start of a statement.
+fn behind_open(class: TokenClass) -> Place
+    ensures { result ≡ behind_open class }
+{
+    match class {
+        TokenClass::Note => Place::Start,
+        _ => behind_front(class),
+    }
+}
+
+/// The place behind a token that is no word, within a statement.
+fn behind_part(place: Place, class: TokenClass) -> Place
+    ensures { result ≡ behind_part place class }
+{
+    match class {
+        TokenClass::Semicolon => Place::Start,
+        _ => place,
+    }
+}
+
+/// The place behind a token that follows an instruction word.
+fn behind_opening(class: TokenClass) -> Place
+    ensures { result ≡ behind_opening class }
+{
+    match class {
+        TokenClass::Semicolon => Place::Start,
+        TokenClass::OpenParen => Place::Path,
+        _ => Place::Inside,
+    }
+}
+
+/// The place behind a token that is no word.
+#[tactic(auto, unfolding(crate::specs::Places::behind_sign))]
+fn behind_sign(place: Place, class: TokenClass) -> Place
+    ensures { result ≡ behind_sign place class }
+{
+    match place {
+        Place::Outside => Place::Outside,
+        Place::Head => Place::Head,
+        Place::Start => behind_open(class),
+        Place::Label => Place::Labelled,
+        Place::Labelled => behind_front(class),
+        Place::Jump => behind_part(Place::Jump, class),
+        Place::Instruction => behind_opening(class),
+        _ => behind_part(Place::Inside, class),
+    }
+}
+
+/// The place behind a token of this class, with the classes of the tokens before and behind it.
+#[tactic(auto, unfolding(crate::specs::Places::behind))]
+pub(crate) fn behind(
+    place: Place,
+    before: TokenClass,
+    class: TokenClass,
+    text: &[u8],
+    next: TokenClass,
+) -> Place
+    ensures { result ≡ behind place before class text.now next }
+{
+    match class {
+        TokenClass::Word => behind_word(place, before, text, next),
+        _ => behind_sign(place, class),
+    }
+}
+
+/// Whether a number or an index in brackets begins with a token of this class.
+fn opens_number(next: TokenClass) -> bool
+    ensures { result ≡ opens_number next }
+{
+    matches!(next, TokenClass::Number | TokenClass::OpenBracket)
+}
+
+/// Whether a token of this class is `P#`.
+fn is_pointer(before: TokenClass) -> bool
+    ensures { result ≡ is_pointer before }
+{
+    matches!(before, TokenClass::Pointer)
+}
+
+/// Whether a word is an operand word with its number.
+#[tactic(auto, unfolding(crate::specs::Places::is_numbered))]
+fn is_numbered(word: &[u8], next: TokenClass) -> bool
+    ensures { result ≡ is_numbered word.now next }
+{
+    takes_number(word) && ends_in_digits(word) && (has_digits(word) || opens_number(next))
+}
+
+/// Whether a word stands in an operand place.
+#[tactic(auto, unfolding(crate::specs::Places::is_operand_place))]
+fn is_operand_place(before: TokenClass, word: &[u8], next: TokenClass) -> bool
+    ensures { result ≡ is_operand_place before word.now next }
+{
+    is_pointer(before) || is_numbered(word, next) || is_result(word)
+}
+
+/// Whether a token of this class is `.`.
+fn is_dot(class: TokenClass) -> bool
+    ensures { result ≡ is_dot class }
+{
+    matches!(class, TokenClass::Dot)
+}
+
+/// Whether a token of this class is `:=`.
+fn is_assign(class: TokenClass) -> bool
+    ensures { result ≡ is_assign class }
+{
+    matches!(class, TokenClass::Assign)
+}
+
+/// Whether a word is a component or a parameter.
+fn is_component(before: TokenClass, next: TokenClass) -> bool
+    ensures { result ≡ is_component before next }
+{
+    is_dot(before) || is_assign(next)
+}
+
+/// Whether this place is behind an instruction.
+fn is_behind_instruction(place: Place) -> bool
+    ensures { result ≡ is_behind_instruction place }
+{
+    matches!(place, Place::Instruction | Place::Closing | Place::Path)
+}
+
+/// Whether a path may begin at this place.
+fn opens_path(place: Place, before: TokenClass) -> bool
+    ensures { result ≡ opens_path place before }
+{
+    is_behind_instruction(place) || is_assign(before)
+}
+
+/// The role of a word behind the instruction of a statement.
+#[tactic(auto, unfolding(crate::specs::Places::role_in))]
+fn role_in(place: Place, before: TokenClass, word: &[u8], next: TokenClass) -> Role
+    ensures { result ≡ role_in place before word.now next }
+{
+    if is_component(before, next) {
+        return Role::Stays;
+    }
+    if is_operand_place(before, word, next) {
+        return Role::Operand;
+    }
+    if opens_path(place, before) {
+        Role::Path
+    } else {
+        Role::Stays
+    }
+}
+
+/// The role of the first word of a statement that is no keyword.
+fn role_first(next: TokenClass) -> Role
+    ensures { result ≡ role_first next }
+{
+    match next {
+        TokenClass::Colon => Role::Stays,
+        _ => Role::Instruction,
+    }
+}
+
+/// The role of the first word of a statement.
+#[tactic(auto, unfolding(crate::specs::Places::role_at_start))]
+fn role_at_start(word: &[u8], next: TokenClass) -> Role
+    ensures { result ≡ role_at_start word.now next }
+{
+    if ends_code(word) || opens_network(word) {
+        return Role::Stays;
+    }
+    role_first(next)
+}
+
+/// The role of a word.
+#[tactic(auto, unfolding(crate::specs::Places::role_of_word))]
+fn role_of_word(place: Place, before: TokenClass, word: &[u8], next: TokenClass) -> Role
+    ensures { result ≡ role_of_word place before word.now next }
+{
+    match place {
+        Place::Outside => Role::Stays,
+        Place::Head => Role::Stays,
+        Place::Start => role_at_start(word, next),
+        Place::Label => Role::Instruction,
+        Place::Labelled => Role::Instruction,
+        Place::Jump => Role::Stays,
+        _ => role_in(place, before, word, next),
+    }
+}
+
+/// The role of a token.
+#[tactic(auto, unfolding(crate::specs::Places::role_of))]
+pub(crate) fn role_of(
+    place: Place,
+    before: TokenClass,
+    class: TokenClass,
+    text: &[u8],
+    next: TokenClass,
+) -> Role
+    ensures { result ≡ role_of place before class text.now next }
+{
+    match class {
+        TokenClass::Word => role_of_word(place, before, text, next),
+        _ => Role::Stays,
+    }
+}

@@ -1,0 +1,23 @@
+-- What refuses the contents of files, handed on by a caller that says more of it.
+use Rattle.std.proofs.Common.{◌≡◌, sym, subst, Result, Err}
+use Rattle.s7_cli.specs.declared.failures.Failure.{Failure}
+use Rattle.s7_cli.specs.declared.failures.Failure.TheVariants.{WordsRefused, ReadFault, TooLong, Refused, ImageRefused, SaysNo, TooDeep, WriteFault, NoMemory}
+use Rattle.s7_cli.specs.Answer.{Answer, refused, refused_image, says_no, too_long}
+use Rattle.s7_cli.specs.Inner.{RefusedBy}
+
+pub allowed : (V W : Type 0) (said says : Answer → Type 0) (failure : Failure) → ((a : Answer) → said a → says a)
+    → RefusedBy {V = V} said (Err failure) → RefusedBy {V = W} says (Err failure)
+allowed V W said says (Refused file refusal) each told = each (refused file refusal) told
+allowed V W said says (ImageRefused fault) each told = each (refused_image fault) told
+allowed V W said says (TooLong file) each told = each (too_long file) told
+allowed V W said says SaysNo each told = each says_no told
+allowed V W said says NoMemory each told = tt
+allowed V W said says TooDeep each told = absurd told
+allowed V W said says WordsRefused each told = absurd told
+allowed V W said says ReadFault each told = absurd told
+allowed V W said says WriteFault each told = absurd told
+
+pub refused-more : (V W : Type 0) (said says : Answer → Type 0) (failure : Failure) (r : Result W Failure) → r ≡ Err failure
+    → ((a : Answer) → said a → says a) → RefusedBy {V = V} said (Err failure) → RefusedBy says r
+refused-more V W said says failure r is each told =
+    subst (λ (q : Result W Failure). RefusedBy says q) (sym is) (allowed V W said says failure each told)

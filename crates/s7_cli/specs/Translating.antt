@@ -1,0 +1,92 @@
+-- A source in German, and the translation of a source: what is said of it.
+use Rattle.std.specs.Prelude.{◌≡◌, ◌≤◌, nat_le, ℕ, Bool, true, false, List, length, Result, Ok, Err}
+use Rattle.de_mnemonics.specs.Translation.{IsTranslation, IsUntranslated}
+use Rattle.stl_symbols.specs.declared.languages.Language.{Language}
+use Rattle.stl_symbols.specs.declared.languages.Language.TheVariants.{English, German}
+use Rattle.flat_code.specs.Programs.{Program}
+use Rattle.plc_base.specs.declared.profiles.Profile.TheVariants.{Large}
+use Rattle.plc_base.specs.declared.refusals.Refusal.{Refusal}
+use Rattle.sem_kept.specs.Agreement.{KeepsSourceIn}
+use Rattle.stl_symbols.specs.Symbol.{Symbol}
+use Rattle.stl_symbols.specs.Symbols.{symbols_in}
+use Rattle.s7_cli.specs.declared.failures.File.TheVariants.{Source, Translation, Symbols}
+use Rattle.s7_cli.specs.Answer.{Answer, refused, too_long}
+use Rattle.s7_cli.specs.Command.{limit_of}
+use Rattle.s7_cli.specs.Compiling.{HasProgramIn, IsCompiledIn}
+
+-- the language of a source and of the addresses of its symbols, by the flag `--german`
+abbrev pub language_of : Bool → Language
+language_of false = English
+language_of true = German
+
+-- the translation of a source, or its refusal
+abbrev pub Translates : Language → (source : List ℕ) → Result (List ℕ) Refusal → Type 0
+Translates language source (Ok text) = IsTranslation language source text
+Translates language source (Err refusal) =
+    IsUntranslated language source refusal.line refusal.rule
+
+-- this is said of a text that is as long as it may be; else it is too long
+abbrev pub IfFits : Bool → Type 0 → Answer → Type 0
+IfFits true said answer = said
+IfFits false said answer = answer ≡ too_long Translation
+
+-- this is said of a translation, or the source is refused
+abbrev pub OfTranslation :
+    (says : List ℕ → Answer → Type 0) → Result (List ℕ) Refusal → Answer → Type 0
+OfTranslation says (Err refusal) answer = answer ≡ refused Source refusal
+OfTranslation says (Ok text) answer =
+    IfFits (nat_le (length text) (limit_of Translation)) (says text answer) answer
+
+-- this is said of the translation of a source: its tokens and its words are judged first, and then
+-- how long the translation is
+abbrev pub SaysTranslated :
+    Language → (source : List ℕ) → (says : List ℕ → Answer → Type 0) → Answer → Type 0
+SaysTranslated language source says answer =
+    (translation : Result (List ℕ) Refusal) × Translates language source translation
+    × OfTranslation says translation answer
+
+-- the same with symbols, which are judged before
+abbrev pub OfSymbols : Result (List Symbol) Refusal → (source : List ℕ)
+    → (says : List ℕ → Answer → Type 0) → Answer → Type 0
+OfSymbols (Err refusal) source says answer = answer ≡ refused Symbols refusal
+OfSymbols (Ok list) source says answer = SaysTranslated English source says answer
+
+-- this is said of the English text of a source: of an English one itself, and of a German one its
+-- translation
+abbrev pub InEnglish : (german : Bool) → (source symbols : List ℕ)
+    → (says : List ℕ → Answer → Type 0) → Answer → Type 0
+InEnglish false source symbols says answer = says source answer
+InEnglish true source symbols says answer =
+    OfSymbols (symbols_in German symbols) source says answer
+
+-- the English text of a source
+abbrev pub IsEnglish : (german : Bool) → (source text : List ℕ) → Type 0
+IsEnglish false source text = text ≡ source
+IsEnglish true source text =
+    IsTranslation English source text × (length text ≤ limit_of Translation)
+
+-- a source has no translation, or one that is too long
+abbrev pub NotTranslated : Language → (source : List ℕ) → Answer → Type 0
+NotTranslated language source answer = SaysTranslated language source (λ text a. ⊥) answer
+
+-- a German source has no English text that is as long as it may be, or its symbols are refused
+abbrev pub NotInEnglish : (source symbols : List ℕ) → Answer → Type 0
+NotInEnglish source symbols answer = InEnglish true source symbols (λ text a. ⊥) answer
+
+-- the English text of a source has a program with its symbols
+abbrev pub HasProgramOf : (german : Bool) → (source symbols : List ℕ) → Type 0
+HasProgramOf german source symbols =
+    (text : List ℕ) × IsEnglish german source text
+    × HasProgramIn (language_of german) text symbols
+
+-- this is such a program
+abbrev pub KeepsText : (german : Bool) → (source symbols : List ℕ) → Program → Type 0
+KeepsText german source symbols p =
+    (text : List ℕ) × IsEnglish german source text
+    × KeepsSourceIn (language_of german) Large text symbols p
+
+-- bytes are the image that `compile` writes: that of the English text of the source
+abbrev pub IsSourceImage : (german : Bool) → (bytes source symbols : List ℕ) → Type 0
+IsSourceImage german bytes source symbols =
+    (text : List ℕ) × IsEnglish german source text
+    × IsCompiledIn (language_of german) bytes text symbols

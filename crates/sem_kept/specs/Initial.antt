@@ -1,0 +1,70 @@
+-- In an accepted source no initial value is cut: each is written whole within its data block, each setting is written, and
+-- no component has more initial values than elements.
+use Rattle.std.specs.Prelude.{◌≡◌, ◌⊎◌, ℕ, ◌+◌, ◌*◌, ◌%◌, ◌^◌, ◌≤◌, ◌<◌, true, false, List, [], ◌∷◌, ◌++◌, length, replicate, Some, is_some, slice_get}
+use Rattle.std.specs.List.{AllByRecursion, fold}
+use Rattle.plc_base.specs.Kinds.{is_data_block}
+use Rattle.plc_base.specs.declared.blocks.BlockId.{BlockId}
+use Rattle.stl_ast.specs.Literals.{AreBytes}
+use Rattle.stl_ast.specs.declared.blocks.Block.{Block}
+use Rattle.stl_ast.specs.declared.blocks.Setting.{Setting}
+use Rattle.stl_ast.specs.declared.blocks.Tree.{Tree}
+use Rattle.stl_ast.specs.declared.declarations.Bounds.{Bounds}
+use Rattle.stl_symbols.specs.Symbol.{Symbol}
+use Rattle.block_layout.specs.InitialBytes.{Write, element_starts, initial_bytes, preset_values, put, setting_write, setting_writes, settings_at, structure_writes}
+use Rattle.block_layout.specs.Layouts.{layouts_of}
+use Rattle.block_layout.specs.Paths.{cells_at, folded_path, structure_of, walked_data}
+use Rattle.block_layout.specs.declared.blocks.BlockLayout.{BlockLayout}
+use Rattle.block_layout.specs.declared.cells.Cell.{Cell}
+use Rattle.block_layout.specs.declared.cells.Element.{Element}
+use Rattle.block_layout.specs.declared.cells.Element.TheVariants.{Plain}
+use Rattle.block_layout.specs.declared.cells.Preset.{Preset}
+use Rattle.sem_kept.specs.Accepted.{IsAccepted}
+
+-- a write in so many bytes cuts nothing: it ends within them, is a single bit or whole bytes from the start of one on,
+-- and has no fewer bits than its value
+pub record IsWhole (len : ℕ) (w : Write) : Type 0 where
+  pub within : w.offset + w.width ≤ 8 * len
+  pub begins : (w.width ≡ 1) ⊎ ((w.offset % 8 ≡ 0) × (w.width % 8 ≡ 0))
+  pub fits : w.value < 2 ^ w.width
+
+-- an elementary component, or an array of one, has an element for each of its initial values, wherever it begins; no
+-- other component has initial values
+abbrev pub HasElements : List Bounds → List Preset → Element → Type 0
+HasElements bounds presets (Plain kind) =
+    (element start : ℕ)
+    → length (preset_values presets) ≤ length (element_starts bounds element (start ∷ []))
+HasElements bounds presets _ = presets ≡ []
+
+-- a component breaks no rule, and has room for its initial values
+pub record HasRoom (c : Cell) : Type 0 where
+  pub sound : c.sound ≡ true
+  pub elements : HasElements c.bounds c.presets c.of
+
+-- a setting is a write
+pub record IsSet (l : List BlockLayout) (block : ℕ) (s : Setting) : Type 0 where
+  pub write : Write
+  pub alone : setting_write l s.value (walked_data l block (folded_path s.path)) ≡ write ∷ []
+
+-- the initial values of the data block at this place, and behind them its settings
+abbrev pub writes_of : List BlockLayout → List Block → (block : ℕ) → List Write
+writes_of l blocks block =
+    structure_writes l (structure_of l block)
+    ++ setting_writes l block (settings_at (slice_get blocks block))
+
+-- the initial bytes of a data block are made by such writes alone, over as many zeros as it is long. Its
+-- structure is known, the components of this and of each other block have room, and each setting is written
+pub record IsWritten (l : List BlockLayout) (blocks : List Block) (block len : ℕ) : Type 0 where
+  pub made : initial_bytes l blocks block ≡ fold put (replicate len 0) (writes_of l blocks block)
+  pub whole : AllByRecursion (IsWhole len) (writes_of l blocks block)
+  pub known : is_some (structure_of l block) ≡ true
+  pub room : (k : ℕ) → AllByRecursion HasRoom (cells_at l k false)
+  pub set : AllByRecursion (IsSet l block) (settings_at (slice_get blocks block))
+
+-- so are those of each data block of an accepted source
+abbrev pub InitialValuesAreWhole : Type 0
+InitialValuesAreWhole =
+    (source file : List ℕ) (symbols : List Symbol) (t : Tree)
+    → IsAccepted source file symbols t → AreBytes source
+    → (k : ℕ) (l : BlockLayout) (id : BlockId) → slice_get (layouts_of t symbols) k ≡ Some l
+    → l.id ≡ Some id → is_data_block id.kind ≡ true
+    → IsWritten (layouts_of t symbols) t.blocks k l.length

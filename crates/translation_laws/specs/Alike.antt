@@ -1,0 +1,62 @@
+-- Tokens of two sources that differ as a source does from its translation there and back.
+use Rattle.std.specs.Prelude.{◌≡◌, ◌⊎◌, ℕ, true, is_some, List, [], ◌∷◌}
+use Rattle.std.specs.Str.{str_eq_ignore_ascii_case}
+use Rattle.stl_lexer.specs.Bytes.{hash}
+use Rattle.stl_lexer.specs.declared.kinds.Token.{Token}
+use Rattle.stl_lexer.specs.declared.kinds.TokenKind.TheVariants as kind
+use Rattle.stl_lexer.specs.Tokens.{AreTokens, text_of}
+use Rattle.stl_ast.specs.declared.blocks.Tree.{Tree}
+use Rattle.stl_parser.specs.Source.{IsTree}
+use Rattle.stl_symbols.specs.declared.languages.Language.TheVariants.{English, German}
+use Rattle.de_mnemonics.specs.declared.classes.TokenClass.{TokenClass}
+use Rattle.de_mnemonics.specs.declared.classes.TokenClass.TheVariants as class
+use Rattle.de_mnemonics.specs.declared.places.Place.{Place}
+use Rattle.de_mnemonics.specs.declared.places.Place.TheVariants as place
+use Rattle.de_mnemonics.specs.declared.roles.Role.{Role}
+use Rattle.de_mnemonics.specs.declared.roles.Role.TheVariants as role
+use Rattle.de_mnemonics.specs.Places.{behind, role_of}
+use Rattle.de_mnemonics.specs.Translation.{class_in, next_class}
+use Rattle.de_mnemonics.specs.Words.{operand_partner}
+
+-- two tokens, each of its source, of the same kind and text on the same line
+pub record IsSame (s e : List ℕ) (t u : Token) : Type 0 where
+  pub kind : t.kind ≡ u.kind
+  pub line : t.line ≡ u.line
+  pub text : text_of s t ≡ text_of e u
+
+-- two words that are the same but for the case of their letters
+pub record IsCased (s e : List ℕ) (t u : Token) : Type 0 where
+  pub word : t.kind ≡ kind.Word
+  pub other : u.kind ≡ kind.Word
+  pub line : t.line ≡ u.line
+  pub text : str_eq_ignore_ascii_case (text_of s t) (text_of e u) ≡ true
+
+-- a word that is an operand word of one of the languages, and the same with `#` in front, a local name
+pub record IsNamed (s e : List ℕ) (t u : Token) : Type 0 where
+  pub word : t.kind ≡ kind.Word
+  pub other : u.kind ≡ kind.Local
+  pub line : t.line ≡ u.line
+  pub text : text_of e u ≡ hash ∷ text_of s t
+  pub operand :
+      (is_some (operand_partner English (text_of s t)) ≡ true) ⊎ (is_some (operand_partner German (text_of s t)) ≡ true)
+
+-- how a token in this role comes back
+abbrev pub ComesAs : (s e : List ℕ) → Role → Token → Token → Type 0
+ComesAs s e role.Instruction t u = IsSame s e t u ⊎ IsCased s e t u
+ComesAs s e role.Operand t u = IsSame s e t u ⊎ (IsCased s e t u × (is_some (operand_partner German (text_of s t)) ≡ true))
+ComesAs s e role.Path t u = IsSame s e t u ⊎ IsNamed s e t u
+ComesAs s e role.Stays t u = IsSame s e t u
+
+-- tokens come back one by one, from a place on; `before` is the class of the token in front of it
+abbrev pub AreAlike : (s e : List ℕ) → Place → TokenClass → List Token → List Token → Type 0
+AreAlike s e p before [] [] = Unit {0}
+AreAlike s e p before (t ∷ ts) (u ∷ us) =
+    ComesAs s e (role_of p before (class_in s t) (text_of s t) (next_class s ts)) t u
+    × AreAlike s e (behind p before (class_in s t) (text_of s t) (next_class s ts)) (class_in s t) ts us
+AreAlike s e p before _ _ = ⊥
+
+-- such tokens have the same tree
+abbrev pub TreesAlike : Type 0
+TreesAlike =
+    (s e : List ℕ) (ts us : List Token) (t : Tree)
+    → AreTokens s ts → AreAlike s e place.Outside class.Other ts us → IsTree s ts t → IsTree e us t

@@ -1,0 +1,4 @@
+pub mod Alike
+pub mod Rewritten
+pub mod RoundTrip
+pub mod Statements
