@@ -20,8 +20,9 @@ static TO_GERMAN: [(&str, &str); 10] = [
 ];
 
 /// German statements with names that are English operand words.
-static TO_ENGLISH: [(&str, &str); 6] = [
+static TO_ENGLISH: [(&str, &str); 7] = [
     ("L I;", "L #I;"),
+    ("LOOP I;", "LOOP I;"),
     ("U Q.x;", "A #Q.x;"),
     ("O c;", "O #c;"),
     ("SPA I;", "JU I;"),
@@ -38,6 +39,13 @@ static NAMES: [(&str, &str); 4] = [
     ("L EX; L I_1; L E2x;", "L EX; L I_1; L E2x;"),
     ("A speed; L U;", "U speed; L U;"),
     ("L \"I 0.0\"; L \"E 0.0\";", "L \"I 0.0\"; L \"E 0.0\";"),
+];
+
+/// German words in small letters.
+static SMALL_GERMAN: [(&str, &str); 3] = [
+    ("u e 0.0;", "A I 0.0;"),
+    ("l ew2; x m 0.0;", "l IW2; x m 0.0;"),
+    ("o bie; spb x1;", "o BR; JC x1;"),
 ];
 
 /// Words in small letters: what is exchanged is written in capital letters, and what stays as it was.
@@ -64,5 +72,6 @@ fn other_names_stay(rt: HostRuntime) -> Result<(), Fail> {
 
 #[test]
 fn small_letters_are_read(rt: HostRuntime) -> Result<(), Fail> {
-    bodies_translate(&rt, rt.alloc(), Language::German, &SMALL)
+    bodies_translate(&rt, rt.alloc(), Language::German, &SMALL)?;
+    bodies_translate(&rt, rt.alloc(), Language::English, &SMALL_GERMAN)
 }

@@ -3,7 +3,7 @@ use std::test::Fail;
 use stl_symbols::Language;
 
 /// Places of words, with the same place in the other language.
-static PLACES: [(&str, &str); 19] = [
+static PLACES: [(&str, &str); 23] = [
     ("A(; A I 0.0; AN( ; );", "U(; U E 0.0; UN( ; );"),
     ("L IW [MD 4];", "L EW [MD 4];"),
     ("A Q [AR1, P#0.0];", "U A [AR1, P#0.0];"),
@@ -41,10 +41,24 @@ static PLACES: [(&str, &str); 19] = [
         "NETWORK\nTITLE = A I 0.0;\nU E 0.0;",
     ),
     ("{ A := 'I' } A I 0.0;", "{ A := 'I' } U E 0.0;"),
+    (
+        "A I 0.0; { A := 'I' } A I 0.0;",
+        "U E 0.0; { A := 'I' } U E 0.0;",
+    ),
+    (
+        "NETWORK { A := 'I' } A I 0.0;",
+        "NETWORK { A := 'I' } U E 0.0;",
+    ),
+    (
+        "A I 0.0;\nTITLE = A I 0.0\nA I 0.0;",
+        "U E 0.0;\nTITLE = A I 0.0\nU E 0.0;",
+    ),
+    // a second label is an instruction word that no language has, and what follows it is no instruction
+    ("x: y: A I 0.0;", "x: y: A E 0.0;"),
 ];
 
 /// Whole sources, English and German: the bodies of blocks of statements alone change.
-static SOURCES: [(&str, &str); 8] = [
+static SOURCES: [(&str, &str); 10] = [
     ("", ""),
     ("A I 0.0;", "A I 0.0;"),
     (
@@ -66,6 +80,15 @@ static SOURCES: [(&str, &str); 8] = [
     (
         "FUNCTION FC 1 : VOID BEGIN A I 0.0; END_FUNCTION DATA_BLOCK DB 1 STRUCT A : INT; END_STRUCT; BEGIN A := 5; END_DATA_BLOCK",
         "FUNCTION FC 1 : VOID BEGIN U E 0.0; END_FUNCTION DATA_BLOCK DB 1 STRUCT A : INT; END_STRUCT; BEGIN A := 5; END_DATA_BLOCK",
+    ),
+    // an END word within a statement ends nothing; one at the start of a statement does, whichever block it is of
+    (
+        "FUNCTION FC 1 : VOID BEGIN A END_FUNCTION; A I 0.0; END_FUNCTION A I 0.0;",
+        "FUNCTION FC 1 : VOID BEGIN U END_FUNCTION; U E 0.0; END_FUNCTION A I 0.0;",
+    ),
+    (
+        "FUNCTION FC 1 : VOID BEGIN A I 0.0; END_ORGANIZATION_BLOCK A I 0.0;",
+        "FUNCTION FC 1 : VOID BEGIN U E 0.0; END_ORGANIZATION_BLOCK A I 0.0;",
     ),
     (
         "DATA_BLOCK DB 1 STRUCT A : INT; END_STRUCT; BEGIN a.FUNCTION := 1; a.BEGIN := 2; A := 3; END_DATA_BLOCK",

@@ -53,7 +53,11 @@ static TO_ENGLISH: [(&str, &str); 11] = [
 ];
 
 /// Sources that have no translation to German, and by what.
-static TO_GERMAN: [(&str, &str); 8] = [
+static TO_GERMAN: [(&str, &str); 9] = [
+    (
+        "FUNCTION FC 1 : VOID BEGIN\nLAR1 P#E 1.0;\nEND_FUNCTION",
+        "line 2 rule 17",
+    ),
     (
         "FUNCTION FC 1 : VOID BEGIN\nSPA x;\nEND_FUNCTION",
         "line 2 rule 17",
