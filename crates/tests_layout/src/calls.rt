@@ -33,11 +33,16 @@ pub(crate) fn laid(alloc: Global, source: &[u8]) -> Result<Layouts, SourceFault>
     laid_tree(alloc, &tree)
 }
 
+/// The layouts of what is right in a tree without symbols.
+fn laid_sound_tree(alloc: Global, tree: &Tree) -> Result<Layouts, SourceFault> {
+    let symbols = read_symbols(alloc, b"")?;
+    Ok(lay_out_sound(alloc, tree, &symbols)?)
+}
+
 /// The layouts of what is right in a source without symbols.
 pub(crate) fn laid_sound(alloc: Global, source: &[u8]) -> Result<Layouts, SourceFault> {
     let tree = parsed(alloc, source)?;
-    let symbols = read_symbols(alloc, b"")?;
-    Ok(lay_out_sound(alloc, &tree, &symbols)?)
+    laid_sound_tree(alloc, &tree)
 }
 
 /// The line and the rule of a refusal; (0, 0) for layouts and (0, 1) for want of memory.
@@ -49,25 +54,49 @@ pub(crate) fn verdict(alloc: Global, source: &[u8]) -> (u32, u16) {
     }
 }
 
+fn add_pieces(
+    source: &mut Vec<u8>,
+    before: &[u8],
+    text: &[u8],
+    behind: &[u8],
+) -> Result<(), AllocError> {
+    source.extend_from_slice(before)?;
+    source.extend_from_slice(text)?;
+    source.extend_from_slice(behind)
+}
+
 /// A text between two pieces.
-pub(crate) fn in_block(
+fn in_block(
     alloc: Global,
     before: &[u8],
     text: &[u8],
     behind: &[u8],
 ) -> Result<Vec<u8>, AllocError> {
     let mut source = Vec::new(alloc);
-    source.extend_from_slice(before)?;
-    source.extend_from_slice(text)?;
-    source.extend_from_slice(behind)?;
+    add_pieces(&mut source, before, text, behind)?;
     Ok(source)
+}
+
+/// The verdict on a text between two pieces.
+pub(crate) fn verdict_in(
+    alloc: Global,
+    before: &[u8],
+    text: &[u8],
+    behind: &[u8],
+) -> Result<(u32, u16), AllocError> {
+    let source = in_block(alloc, before, text, behind)?;
+    Ok(verdict(alloc, source.as_slice()))
+}
+
+fn first_bytes_of(alloc: Global, tree: &Tree) -> Result<Vec<u8>, SourceFault> {
+    let layouts = laid_tree(alloc, tree)?;
+    Ok(layouts.initial_bytes(alloc, tree, 0)?)
 }
 
 /// The initial bytes of the data block that is the first block of a source.
 pub(crate) fn first_bytes(alloc: Global, source: &[u8]) -> Result<Vec<u8>, SourceFault> {
     let tree = parsed(alloc, source)?;
-    let layouts = laid_tree(alloc, &tree)?;
-    Ok(layouts.initial_bytes(alloc, &tree, 0)?)
+    first_bytes_of(alloc, &tree)
 }
 
 /// The symbols of a file, or its refusal; a longer file than the limit is told as want of memory.
@@ -88,12 +117,17 @@ fn step_of(alloc: Global, name: &[u8], at: i32) -> Result<PathStep, AllocError> 
     }
 }
 
-/// The path of these steps.
-pub(crate) fn path_of(alloc: Global, path: &[Step]) -> Result<Path, AllocError> {
-    let mut steps = Vec::new(alloc);
+fn add_steps(alloc: Global, steps: &mut Vec<PathStep>, path: &[Step]) -> Result<(), AllocError> {
     for (name, at) in path {
         steps.push(step_of(alloc, name, *at)?)?;
     }
+    Ok(())
+}
+
+/// The path of these steps.
+pub(crate) fn path_of(alloc: Global, path: &[Step]) -> Result<Path, AllocError> {
+    let mut steps = Vec::new(alloc);
+    add_steps(alloc, &mut steps, path)?;
     Path::new(alloc, steps.as_slice())
 }
 

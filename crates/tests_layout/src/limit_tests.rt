@@ -1,4 +1,4 @@
-use crate::calls::{in_block, verdict};
+use crate::calls::{verdict, verdict_in};
 use crate::compare::same;
 use std::alloc::{AllocError, Global};
 use std::process::Abort;
@@ -60,8 +60,7 @@ fn are_judged(
     expected: (u32, u16),
 ) -> Result<(), Fail> {
     for number in numbers {
-        let source = in_block(alloc, before, number, behind)?;
-        let found = verdict(alloc, source.as_slice());
+        let found = verdict_in(alloc, before, number, behind)?;
         same(rt, (before, number), found, expected);
     }
     Ok(())
@@ -78,98 +77,106 @@ fn numbers_of_blocks(rt: HostRuntime) -> Result<(), Fail> {
 }
 
 /// A type, and a constant that fits it or doesn't.
-type Fit = (&'static [u8], &'static [u8], bool);
+type Fit = (&'static str, &'static str, bool);
 
 static FITS: [Fit; 79] = [
-    (b"BOOL", b"TRUE", true),
-    (b"BOOL", b"FALSE", true),
-    (b"BOOL", b"1", false),
-    (b"BOOL", b"2#1", false),
-    (b"BYTE", b"0", true),
-    (b"BYTE", b"255", true),
-    (b"BYTE", b"256", false),
-    (b"BYTE", b"-1", false),
-    (b"BYTE", b"B#16#FF", true),
-    (b"BYTE", b"W#16#FF", true),
-    (b"BYTE", b"W#16#100", false),
-    (b"BYTE", b"2#1111_1111", true),
-    (b"BYTE", b"2#1_0000_0000", false),
-    (b"BYTE", b"DW#16#1", false),
-    (b"BYTE", b"'a'", false),
-    (b"BYTE", b"C#1", false),
-    (b"BYTE", b"TRUE", false),
-    (b"CHAR", b"'a'", true),
-    (b"CHAR", b"'ab'", false),
-    (b"CHAR", b"65", false),
-    (b"CHAR", b"B#16#41", false),
-    (b"WORD", b"0", true),
-    (b"WORD", b"65535", true),
-    (b"WORD", b"-1", false),
-    (b"WORD", b"B#16#1", false),
-    (b"WORD", b"W#16#FFFF", true),
-    (b"WORD", b"DW#16#1", false),
-    (b"WORD", b"2#1111_1111_1111_1111", true),
-    (b"WORD", b"2#1_0000_0000_0000_0000", false),
-    (b"WORD", b"S5T#1S", true),
-    (b"WORD", b"T#1S", false),
-    (b"WORD", b"C#999", true),
-    (b"WORD", b"L#1", false),
-    (b"WORD", b"'a'", false),
-    (b"WORD", b"'ab'", true),
-    (b"WORD", b"'abc'", false),
-    (b"WORD", b"B#(1, 2)", false),
-    (b"INT", b"32767", true),
-    (b"INT", b"32768", false),
-    (b"INT", b"-32768", true),
-    (b"INT", b"L#1", false),
-    (b"INT", b"W#16#1", false),
-    (b"INT", b"B#16#1", false),
-    (b"INT", b"2#1", false),
-    (b"INT", b"C#1", false),
-    (b"INT", b"'ab'", false),
-    (b"S5TIME", b"S5T#1S", true),
-    (b"S5TIME", b"T#1S", false),
-    (b"S5TIME", b"W#16#1", false),
-    (b"S5TIME", b"1", false),
-    (b"DWORD", b"1", false),
-    (b"DWORD", b"DW#16#FFFF_FFFF", true),
-    (b"DWORD", b"W#16#1", false),
-    (b"DWORD", b"2#1111_1111_1111_1111_1111_1111_1111_1111", true),
-    (b"DWORD", b"L#1", false),
-    (b"DWORD", b"T#1S", false),
-    (b"DWORD", b"'ab'", false),
-    (b"DWORD", b"'abc'", false),
-    (b"DWORD", b"'abcd'", true),
-    (b"DWORD", b"B#(1, 2, 3, 4)", false),
-    (b"DINT", b"1", false),
-    (b"DINT", b"L#2147483647", true),
-    (b"DINT", b"L#-2147483648", true),
-    (b"DINT", b"DW#16#FFFF_FFFF", true),
-    (b"DINT", b"W#16#1", false),
-    (b"DINT", b"2#1", false),
-    (b"DINT", b"T#1S", false),
-    (b"DINT", b"'abcd'", false),
-    (b"TIME", b"T#-1S", true),
-    (b"TIME", b"S5T#1S", false),
-    (b"TIME", b"L#1", false),
-    (b"TIME", b"DW#16#1", false),
-    (b"TIME", b"1", false),
-    (b"ARRAY [1 .. 2] OF BYTE", b"255", true),
-    (b"ARRAY [1 .. 2] OF BYTE", b"256", false),
-    (b"ARRAY [1 .. 2] OF BYTE", b"1, 2 (2)", false),
-    (b"ARRAY [1 .. 2] OF BYTE", b"1, 1 (2)", true),
-    (b"ARRAY [1 .. 2] OF DINT", b"L#1, L#2", true),
-    (b"ARRAY [1 .. 2] OF DINT", b"L#1, 2", false),
+    ("BOOL", "TRUE", true),
+    ("BOOL", "FALSE", true),
+    ("BOOL", "1", false),
+    ("BOOL", "2#1", false),
+    ("BYTE", "0", true),
+    ("BYTE", "255", true),
+    ("BYTE", "256", false),
+    ("BYTE", "-1", false),
+    ("BYTE", "B#16#FF", true),
+    ("BYTE", "W#16#FF", true),
+    ("BYTE", "W#16#100", false),
+    ("BYTE", "2#1111_1111", true),
+    ("BYTE", "2#1_0000_0000", false),
+    ("BYTE", "DW#16#1", false),
+    ("BYTE", "'a'", false),
+    ("BYTE", "C#1", false),
+    ("BYTE", "TRUE", false),
+    ("CHAR", "'a'", true),
+    ("CHAR", "'ab'", false),
+    ("CHAR", "65", false),
+    ("CHAR", "B#16#41", false),
+    ("WORD", "0", true),
+    ("WORD", "65535", true),
+    ("WORD", "-1", false),
+    ("WORD", "B#16#1", false),
+    ("WORD", "W#16#FFFF", true),
+    ("WORD", "DW#16#1", false),
+    ("WORD", "2#1111_1111_1111_1111", true),
+    ("WORD", "2#1_0000_0000_0000_0000", false),
+    ("WORD", "S5T#1S", true),
+    ("WORD", "T#1S", false),
+    ("WORD", "C#999", true),
+    ("WORD", "L#1", false),
+    ("WORD", "'a'", false),
+    ("WORD", "'ab'", true),
+    ("WORD", "'abc'", false),
+    ("WORD", "B#(1, 2)", false),
+    ("INT", "32767", true),
+    ("INT", "32768", false),
+    ("INT", "-32768", true),
+    ("INT", "L#1", false),
+    ("INT", "W#16#1", false),
+    ("INT", "B#16#1", false),
+    ("INT", "2#1", false),
+    ("INT", "C#1", false),
+    ("INT", "'ab'", false),
+    ("S5TIME", "S5T#1S", true),
+    ("S5TIME", "T#1S", false),
+    ("S5TIME", "W#16#1", false),
+    ("S5TIME", "1", false),
+    ("DWORD", "1", false),
+    ("DWORD", "DW#16#FFFF_FFFF", true),
+    ("DWORD", "W#16#1", false),
+    ("DWORD", "2#1111_1111_1111_1111_1111_1111_1111_1111", true),
+    ("DWORD", "L#1", false),
+    ("DWORD", "T#1S", false),
+    ("DWORD", "'ab'", false),
+    ("DWORD", "'abc'", false),
+    ("DWORD", "'abcd'", true),
+    ("DWORD", "B#(1, 2, 3, 4)", false),
+    ("DINT", "1", false),
+    ("DINT", "L#2147483647", true),
+    ("DINT", "L#-2147483648", true),
+    ("DINT", "DW#16#FFFF_FFFF", true),
+    ("DINT", "W#16#1", false),
+    ("DINT", "2#1", false),
+    ("DINT", "T#1S", false),
+    ("DINT", "'abcd'", false),
+    ("TIME", "T#-1S", true),
+    ("TIME", "S5T#1S", false),
+    ("TIME", "L#1", false),
+    ("TIME", "DW#16#1", false),
+    ("TIME", "1", false),
+    ("ARRAY [1 .. 2] OF BYTE", "255", true),
+    ("ARRAY [1 .. 2] OF BYTE", "256", false),
+    ("ARRAY [1 .. 2] OF BYTE", "1, 2 (2)", false),
+    ("ARRAY [1 .. 2] OF BYTE", "1, 1 (2)", true),
+    ("ARRAY [1 .. 2] OF DINT", "L#1, L#2", true),
+    ("ARRAY [1 .. 2] OF DINT", "L#1, 2", false),
 ];
+
+/// The verdict on a component of a type with this initial value, which stands in line 2.
+fn verdict_on_initial(alloc: Global, kind: &str, constant: &str) -> Result<(u32, u16), AllocError> {
+    let mut source = String::new(alloc);
+    write!(
+        source,
+        "TYPE UDT 1 STRUCT\na : {kind} := {constant};\nEND_STRUCT END_TYPE"
+    )?;
+    Ok(verdict(alloc, source.as_bytes()))
+}
 
 #[test]
 fn constants_that_fit(rt: HostRuntime) -> Result<(), Fail> {
     let alloc = rt.alloc();
     for (kind, constant, fits) in &FITS {
-        let first = in_block(alloc, b"TYPE UDT 1 STRUCT\na : ", kind, b" := ")?;
-        let source = in_block(alloc, first.as_slice(), constant, b";\nEND_STRUCT END_TYPE")?;
         let expected = if *fits { (0, 0) } else { (2, 41) };
-        let found = verdict(alloc, source.as_slice());
+        let found = verdict_on_initial(alloc, kind, constant)?;
         same(&rt, (kind, constant), found, expected);
     }
     Ok(())
@@ -349,32 +356,40 @@ static LINES: [Repeats; 5] = [
 ];
 
 /// Adds a piece with its number.
-fn add(alloc: Global, source: &mut Vec<u8>, piece: Piece, n: u32) -> Result<(), AllocError> {
+fn add(source: &mut String, piece: Piece, n: u32) -> Result<(), AllocError> {
     match piece {
-        Piece::Alike { text } => source.extend_from_slice(text.as_bytes()),
-        Piece::Numbered { before, behind } => {
-            let text = format!(in alloc; "{before}{n}{behind}")?;
-            source.extend_from_slice(text.as_bytes())
-        }
+        Piece::Alike { text } => source.push_str(text),
+        Piece::Numbered { before, behind } => write!(source, "{before}{n}{behind}"),
     }
 }
 
-/// The source of a row.
-fn source_of(alloc: Global, row: &Repeats) -> Result<Vec<u8>, AllocError> {
+/// Adds the source of a row.
+fn add_row(source: &mut String, row: &Repeats) -> Result<(), AllocError> {
     let (head, piece, count, tail, ..) = row;
-    let mut source = Vec::new(alloc);
-    source.extend_from_slice(head.as_bytes())?;
+    source.push_str(head)?;
     for n in 1..=*count {
-        add(alloc, &mut source, *piece, n)?;
+        add(source, *piece, n)?;
     }
-    source.extend_from_slice(tail.as_bytes())?;
-    Ok(source)
+    source.push_str(tail)
+}
+
+fn add_rows(source: &mut String, rows: &[&Repeats]) -> Result<(), AllocError> {
+    for row in rows {
+        add_row(source, row)?;
+    }
+    Ok(())
+}
+
+/// The verdict on the sources of rows, one behind the other.
+fn verdict_on(alloc: Global, rows: &[&Repeats]) -> Result<(u32, u16), AllocError> {
+    let mut source = String::new(alloc);
+    add_rows(&mut source, rows)?;
+    Ok(verdict(alloc, source.as_bytes()))
 }
 
 fn all_agree(rt: &impl Abort, alloc: Global, rows: &[Repeats]) -> Result<(), Fail> {
     for row in rows {
-        let source = source_of(alloc, row)?;
-        let found = verdict(alloc, source.as_slice());
+        let found = verdict_on(alloc, &[row])?;
         same(rt, (row.0, row.2), found, (row.4, row.5));
     }
     Ok(())
@@ -410,11 +425,9 @@ fn lines_that_break_one_rule(rt: HostRuntime) -> Result<(), Fail> {
 fn the_least_rule_of_a_line(rt: HostRuntime) -> Result<(), Fail> {
     let alloc = rt.alloc();
     for at in 1..LINES.len() {
-        let lesser = source_of(alloc, &LINES[at - 1])?;
-        let greater = source_of(alloc, &LINES[at])?;
-        let source = in_block(alloc, greater.as_slice(), lesser.as_slice(), b"")?;
-        let rule = LINES[at - 1].5;
-        same(&rt, rule, verdict(alloc, source.as_slice()), (1, rule));
+        let (lesser, greater) = (&LINES[at - 1], &LINES[at]);
+        let found = verdict_on(alloc, &[greater, lesser])?;
+        same(&rt, lesser.5, found, (1, lesser.5));
     }
     Ok(())
 }

@@ -100,7 +100,7 @@ END_DATA_BLOCK";
 /// A path with the byte, the bit and the width that it leads to.
 type Row = (&'static [Step], u16, u8, Width);
 
-static COMPONENTS: [Row; 25] = [
+const COMPONENTS: &[Row] = &[
     (&[(b"a", 0)], 0, 0, Width::Byte),
     (&[(b"b", 0), (b"", 1), (b"x", 0)], 2, 0, Width::Byte),
     (&[(b"b", 0), (b"", 1), (b"y", 0)], 4, 0, Width::Word),
@@ -129,7 +129,7 @@ static COMPONENTS: [Row; 25] = [
 ];
 
 /// Paths that lead to no elementary component.
-static NOWHERE: [&[Step]; 10] = [
+const NOWHERE: &[&[Step]] = &[
     &[],
     &[(b"", 1)],
     &[(b"x", 0)],
@@ -143,7 +143,7 @@ static NOWHERE: [&[Step]; 10] = [
 ];
 
 /// The instance of the function block of `NESTED`.
-static VARIABLES: [Row; 7] = [
+const VARIABLES: &[Row] = &[
     (&[(b"a", 0)], 0, 0, Width::Bit),
     (&[(b"b", 0)], 1, 0, Width::Byte),
     (&[(b"c", 0)], 2, 0, Width::Byte),
@@ -153,14 +153,14 @@ static VARIABLES: [Row; 7] = [
     (&[(b"g", 0)], 7, 0, Width::Bit),
 ];
 
-static TEMPORARIES: [Row; 3] = [
+const TEMPORARIES: &[Row] = &[
     (&[(b"h", 0)], 0, 0, Width::Bit),
     (&[(b"j", 0)], 10, 0, Width::Byte),
     (&[(b"k", 0)], 11, 0, Width::Bit),
 ];
 
 /// Components of the first data block of `SOURCE`.
-static PLAIN: [Row; 6] = [
+const PLAIN: &[Row] = &[
     (&[(b"a", 0)], 0, 0, Width::Bit),
     (&[(b"B", 0)], 0, 1, Width::Bit),
     (&[(b"c", 0)], 1, 0, Width::Byte),
@@ -170,128 +170,184 @@ static PLAIN: [Row; 6] = [
 ];
 
 /// Variables of the function block of `SOURCE`.
-static INSTANCE: [Row; 2] = [
+const INSTANCE: &[Row] = &[
     (&[(b"a", 0)], 0, 0, Width::Bit),
     (&[(b"b", 0)], 2, 0, Width::Bit),
 ];
 
-static TEMPORARY: [Row; 1] = [(&[(b"d", 0)], 2, 0, Width::Word)];
+const TEMPORARY: &[Row] = &[(&[(b"d", 0)], 2, 0, Width::Word)];
 
 /// The component behind the one that breaks a rule.
-static BEHIND: [Row; 1] = [(&[(b"c", 0)], 2, 0, Width::Word)];
+const BEHIND: &[Row] = &[(&[(b"c", 0)], 2, 0, Width::Word)];
 
-/// A section of a block.
-#[derive(Clone, Copy)]
-struct Part {
-    id: BlockId,
+/// Paths in a section of a block: those that lead into this area, of the data block itself where it
+/// is one's, and those that lead nowhere.
+struct Paths {
+    kind: BlockKind,
+    number: u16,
     section: Section,
+    area: Area,
+    found: &'static [Row],
+    nowhere: &'static [&'static [Step]],
 }
 
-/// The components of a data block.
-const fn data(number: u16) -> Part {
-    Part {
-        id: BlockId {
-            kind: BlockKind::Db,
-            number,
-        },
+// A structure is no elementary component.
+static DATA_BLOCK: [Paths; 1] = [Paths {
+    kind: BlockKind::Db,
+    number: 1,
+    section: Section::Global,
+    area: Area::Db,
+    found: PLAIN,
+    nowhere: &[&[(b"g", 0)]],
+}];
+
+static FUNCTION_BLOCK: [Paths; 2] = [
+    Paths {
+        kind: BlockKind::Fb,
+        number: 1,
+        section: Section::Instance,
+        area: Area::Di,
+        found: INSTANCE,
+        nowhere: &[],
+    },
+    Paths {
+        kind: BlockKind::Fb,
+        number: 1,
+        section: Section::Temp,
+        area: Area::L,
+        found: TEMPORARY,
+        nowhere: &[],
+    },
+];
+
+static NESTED_DATA_BLOCK: [Paths; 1] = [Paths {
+    kind: BlockKind::Db,
+    number: 1,
+    section: Section::Global,
+    area: Area::Db,
+    found: COMPONENTS,
+    nowhere: NOWHERE,
+}];
+
+// A data block of a function block has the variables of its instance. A temporary variable isn't in
+// the instance, and a DATE_AND_TIME is no elementary one.
+static NESTED_SECTIONS: [Paths; 3] = [
+    Paths {
+        kind: BlockKind::Fb,
+        number: 1,
+        section: Section::Instance,
+        area: Area::Di,
+        found: VARIABLES,
+        nowhere: &[&[(b"h", 0)]],
+    },
+    Paths {
+        kind: BlockKind::Db,
+        number: 2,
         section: Section::Global,
-    }
-}
+        area: Area::Db,
+        found: VARIABLES,
+        nowhere: &[],
+    },
+    Paths {
+        kind: BlockKind::Fb,
+        number: 1,
+        section: Section::Temp,
+        area: Area::L,
+        found: TEMPORARIES,
+        nowhere: &[&[(b"i", 0)]],
+    },
+];
 
-/// A section of function block 1.
-const fn variables(section: Section) -> Part {
-    Part {
-        id: BlockId {
-            kind: BlockKind::Fb,
-            number: 1,
-        },
-        section,
-    }
-}
+static BROKEN: [Paths; 1] = [Paths {
+    kind: BlockKind::Db,
+    number: 1,
+    section: Section::Global,
+    area: Area::Db,
+    found: BEHIND,
+    nowhere: &[&[(b"b", 0)]],
+}];
 
 /// Where a path in a section leads to, or that it leads nowhere.
 fn leads(
     rt: &impl Abort,
     alloc: Global,
     layouts: &Layouts,
-    part: Part,
+    paths: &Paths,
     path: &[Step],
     want: Option<(Place, Width)>,
 ) -> Result<(), Fail> {
     let steps = path_of(alloc, path)?;
-    let found = layouts.offset(part.id, part.section, &steps);
+    let id = BlockId {
+        kind: paths.kind,
+        number: paths.number,
+    };
+    let found = layouts.offset(id, paths.section, &steps);
     same(rt, path, found, want);
     Ok(())
 }
 
-/// Each row of a section is in this area, of the data block of this number where it is one's.
-fn are_there(
+/// Each path of a section leads where it says.
+fn lead(rt: &impl Abort, alloc: Global, layouts: &Layouts, paths: &Paths) -> Result<(), Fail> {
+    let area = paths.area;
+    let number = if area == Area::Db { paths.number } else { 0 };
+    for (path, byte, bit, width) in paths.found {
+        let want = at(area, number, *byte, *bit, *width);
+        leads(rt, alloc, layouts, paths, path, want)?;
+    }
+    for path in paths.nowhere {
+        leads(rt, alloc, layouts, paths, path, None)?;
+    }
+    Ok(())
+}
+
+fn all_lead(
     rt: &impl Abort,
     alloc: Global,
     layouts: &Layouts,
-    part: Part,
-    area: Area,
-    rows: &[Row],
+    sections: &[Paths],
 ) -> Result<(), Fail> {
-    let number = if area == Area::Db { part.id.number } else { 0 };
-    for (path, byte, bit, width) in rows {
-        let want = at(area, number, *byte, *bit, *width);
-        leads(rt, alloc, layouts, part, path, want)?;
+    for paths in sections {
+        lead(rt, alloc, layouts, paths)?;
     }
     Ok(())
+}
+
+/// All paths in the sections of a source lead where they say.
+fn all_lead_in(
+    rt: &impl Abort,
+    alloc: Global,
+    source: &[u8],
+    sections: &[Paths],
+) -> Result<(), Fail> {
+    let layouts = laid(alloc, source)?;
+    all_lead(rt, alloc, &layouts, sections)
 }
 
 #[test]
 fn components_of_a_data_block(rt: HostRuntime) -> Result<(), Fail> {
-    let alloc = rt.alloc();
-    let layouts = laid(alloc, SOURCE)?;
-    are_there(&rt, alloc, &layouts, data(1), Area::Db, &PLAIN)?;
-    // a structure
-    leads(&rt, alloc, &layouts, data(1), &[(b"g", 0)], None)
+    all_lead_in(&rt, rt.alloc(), SOURCE, &DATA_BLOCK)
 }
 
 #[test]
 fn variables_of_a_function_block(rt: HostRuntime) -> Result<(), Fail> {
-    let alloc = rt.alloc();
-    let layouts = laid(alloc, SOURCE)?;
-    let instance = variables(Section::Instance);
-    are_there(&rt, alloc, &layouts, instance, Area::Di, &INSTANCE)?;
-    let temporary = variables(Section::Temp);
-    are_there(&rt, alloc, &layouts, temporary, Area::L, &TEMPORARY)
+    all_lead_in(&rt, rt.alloc(), SOURCE, &FUNCTION_BLOCK)
 }
 
 #[test]
 fn nested_components(rt: HostRuntime) -> Result<(), Fail> {
-    let alloc = rt.alloc();
-    let layouts = laid(alloc, NESTED)?;
-    are_there(&rt, alloc, &layouts, data(1), Area::Db, &COMPONENTS)?;
-    for path in &NOWHERE {
-        leads(&rt, alloc, &layouts, data(1), path, None)?;
-    }
-    Ok(())
+    all_lead_in(&rt, rt.alloc(), NESTED, &NESTED_DATA_BLOCK)
 }
 
-// A data block of a function block has the variables of its instance.
 #[test]
 fn sections_of_a_function_block(rt: HostRuntime) -> Result<(), Fail> {
-    let alloc = rt.alloc();
-    let layouts = laid(alloc, NESTED)?;
-    let instance = variables(Section::Instance);
-    let temporary = variables(Section::Temp);
-    are_there(&rt, alloc, &layouts, instance, Area::Di, &VARIABLES)?;
-    are_there(&rt, alloc, &layouts, data(2), Area::Db, &VARIABLES)?;
-    are_there(&rt, alloc, &layouts, temporary, Area::L, &TEMPORARIES)?;
-    // a DATE_AND_TIME, and a temporary variable in the instance
-    leads(&rt, alloc, &layouts, temporary, &[(b"i", 0)], None)?;
-    leads(&rt, alloc, &layouts, instance, &[(b"h", 0)], None)
+    all_lead_in(&rt, rt.alloc(), NESTED, &NESTED_SECTIONS)
 }
 
+// Of a refused source too.
 #[test]
 fn what_breaks_a_rule_takes_no_place(rt: HostRuntime) -> Result<(), Fail> {
-    let alloc = rt.alloc();
     let source =
         b"DATA_BLOCK DB 1 STRUCT a : INT; b : INT := 40000; c : INT; END_STRUCT BEGIN END_DATA_BLOCK";
-    let layouts = laid_sound(alloc, source)?;
-    leads(&rt, alloc, &layouts, data(1), &[(b"b", 0)], None)?;
-    are_there(&rt, alloc, &layouts, data(1), Area::Db, &BEHIND)
+    let layouts = laid_sound(rt.alloc(), source)?;
+    all_lead(&rt, rt.alloc(), &layouts, &BROKEN)
 }

@@ -1,4 +1,4 @@
-use crate::calls::{Row, in_block, verdict};
+use crate::calls::{Row, verdict_in};
 use crate::compare::same;
 use std::alloc::Global;
 use std::process::Abort;
@@ -388,8 +388,8 @@ fn all_agree_in(
     behind: &[u8],
 ) -> Result<(), Fail> {
     for row in rows {
-        let source = in_block(alloc, before, row.0, behind)?;
-        same(rt, row, verdict(alloc, source.as_slice()), (row.1, row.2));
+        let found = verdict_in(alloc, before, row.0, behind)?;
+        same(rt, row, found, (row.1, row.2));
     }
     Ok(())
 }
