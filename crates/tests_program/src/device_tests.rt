@@ -1,228 +1,353 @@
 //! Devices that fail: each read, each write, and the sink after some bytes, for every command.
-use crate::calls::{CHECK, GO, ONE_RUN, RUNG, answers, call, only};
+use crate::calls::{NamedBytes, ONE_RUN, ONE_RUN_TEXT, RUNG, call, files_of, only};
 use crate::compare::same;
-use crate::image_tests::{COMPILE, CYCLE_TEXT, IMAGE, RUN};
-use plc_io::{MemFiles, MemSink};
+use crate::images::{CHAIN, EMPTY, IMAGE, LARGE};
+use plc_io::{MemFiles, MemSink, OpenGate};
 use std::alloc::Global;
+use std::process::Abort;
+use std::sync::Wait;
 use std::test::Fail;
+use std::thread::Threads;
 
-const GEN: [&str; 2] = ["gen", "1"];
-
-/// What the sources and histories of the other tests give.
-const RUNG_TEXT: &[u8] = b"@7 PQ 4 = 01\nEND 7 RUN\n";
-
-/// The summary of 1, from a machine that knows nothing of this program.
-const GEN_TEXT: &[u8] = b"GEN 1 ENTRIES 200069 MODE RUN SUM 20431\n";
-
-/// The files of all commands: `cycle` is the history of the image.
-fn all_files(alloc: Global) -> Result<MemFiles, Fail> {
-    let mut files = MemFiles::new(alloc);
-    files.put("source", RUNG)?;
-    files.put("history", ONE_RUN)?;
-    files.put("image", &IMAGE)?;
-    files.put("cycle", b"step 4\n")?;
-    files.put("certificate", b"OB 1 DEPTH 1 BYTES 20\n")?;
-    Ok(files)
-}
-
-const RUN_CYCLE: [&str; 3] = ["run", "image", "cycle"];
-
-/// Over itself, so that the file that is written is the one that each test looks at.
-const UPGRADE: [&str; 3] = ["upgrade", "image", "image"];
-
-const BOUND: [&str; 3] = ["bound", "image", "image"];
-
-const RECHECK: [&str; 3] = ["recheck", "image", "certificate"];
-
-// Words, and how many reads the call makes: a file in one piece, and the end behind it.
-static READS: [(&[&str], u64); 7] = [
-    (&GO, 4),
-    (&CHECK, 2),
-    (&COMPILE, 2),
-    (&RUN_CYCLE, 4),
-    (&UPGRADE, 2),
-    (&BOUND, 2),
-    (&RECHECK, 4),
+/// The files of all commands. Each command that writes a file writes `image`.
+static FILES: [NamedBytes; 16] = [
+    ("source", RUNG),
+    ("history", ONE_RUN),
+    // OB 40 isn't loaded
+    ("stopping", b"in 0 01\nstep 6\narrive 40\n"),
+    ("symbols", b"a,I 0.0,BOOL,\n"),
+    ("nothing", b""),
+    ("comment", b"// nothing\n"),
+    ("statement", b"SET;"),
+    ("image", IMAGE),
+    ("cycle", b"step 4\n"),
+    ("certificate", b"OB 1 DEPTH 1 BYTES 20\n"),
+    ("chain", CHAIN),
+    ("empty", EMPTY),
+    ("stimuli", b"\n"),
+    ("vars", b"read MB3\n"),
+    ("first", b"\n"),
+    ("second", b"\n"),
 ];
 
-#[test]
-fn failed_reads(rt: HostRuntime) -> Result<(), Fail> {
-    for (words, count) in &READS {
-        for read in 1..=*count {
-            let mut files = all_files(rt.alloc())?;
-            files.fail_reads(only(read));
-            let mut out = MemSink::new(rt.alloc(), 64);
-            let code = call(&rt, rt.alloc(), words, &mut files, &mut out)?;
-            let told = (code, out.taken.as_slice());
-            let what = (*words, read);
-            same(&rt, what, told, (5, b"read fault\n".as_slice()));
-            let image = files.files.get("image");
-            same(&rt, what, image, Some(IMAGE.as_slice()));
+type Words = &'static [&'static str];
+
+const GO: Words = &["go", "source", "history"];
+
+const GO_BY_NAMES: Words = &["go", "source", "history", "--symbols", "symbols"];
+
+const CHECK: Words = &["check", "source"];
+
+const COMPILE: Words = &["compile", "source", "image"];
+
+const ENGLISH: Words = &["english", "statement", "image"];
+
+const GERMAN: Words = &["german", "comment", "image"];
+
+const RUN: Words = &["run", "image", "cycle"];
+
+const UPGRADE: Words = &["upgrade", "image", "image"];
+
+const BOUND: Words = &["bound", "image", "image"];
+
+const CHAINED: Words = &["bound", "chain", "image"];
+
+const RECHECK: Words = &["recheck", "image", "certificate"];
+
+const GEN: Words = &["gen", "1"];
+
+const LIVE: Words = &[
+    "live", "empty", "stimuli", "first", "second", "--steps", "1",
+];
+
+const WATCH: Words = &["watch", "empty", "stimuli", "vars", "first", "--steps", "1"];
+
+/// The read, the write and the push that fail, none where it is 0, and how many bytes a push takes.
+#[derive(Clone, Copy, Debug, PartialEq, Eq)]
+struct Faults {
+    read: u64,
+    write: u64,
+    push: u64,
+    piece: usize,
+}
+
+const NONE: Faults = Faults {
+    read: 0,
+    write: 0,
+    push: 0,
+    piece: 64,
+};
+
+/// What is compared behind a call.
+#[derive(Drop)]
+enum Told {
+    /// What the sink took.
+    Text(&'static [u8]),
+    /// How many bytes the sink took.
+    Length(usize),
+    /// How many reads and writes were made.
+    Calls { reads: u64, writes: u64 },
+    /// What the file `image` holds.
+    Image(&'static [u8]),
+}
+
+/// Compares what is told with the files and the sink.
+fn are_told(
+    rt: &impl Abort,
+    words: &[&str],
+    faults: Faults,
+    told: &[Told],
+    files: &MemFiles,
+    out: &MemSink,
+) {
+    for one in told {
+        match one {
+            Told::Text(text) => same(rt, (words, faults), out.taken.as_slice(), *text),
+            Told::Length(length) => same(rt, (words, faults), out.taken.as_slice().len(), *length),
+            Told::Calls { reads, writes } => {
+                let made = (files.reads.made, files.writes.made);
+                same(rt, (words, faults), made, (*reads, *writes));
+            }
+            Told::Image(image) => same(rt, (words, faults), files.files.get("image"), Some(*image)),
         }
     }
+}
+
+/// Calls with these words over devices that fail so, and compares the status and what is told.
+fn ends<R: Abort + Threads + Wait + Sync>(
+    rt: &R,
+    alloc: Global,
+    words: &[&str],
+    faults: Faults,
+    status: u8,
+    told: &[Told],
+) -> Result<(), Fail> {
+    let mut files = files_of(alloc, &FILES)?;
+    files.fail_reads(only(faults.read));
+    files.fail_writes(only(faults.write));
+    let mut out = MemSink::new(alloc, faults.piece.max(1));
+    out.fail_pushes(only(faults.push));
+    let code = call(rt, alloc, words, &mut files, &mut out, &OpenGate)?;
+    same(rt, (words, faults), code, status);
+    are_told(rt, words, faults, told, &files, &out);
     Ok(())
 }
 
-// The read behind the last one is none, so all is well.
-#[test]
-fn no_further_reads(rt: HostRuntime) -> Result<(), Fail> {
-    for (words, count) in &READS {
-        let mut files = all_files(rt.alloc())?;
-        files.fail_reads(only(count + 1));
-        let mut out = MemSink::new(rt.alloc(), 64);
-        let code = call(&rt, rt.alloc(), words, &mut files, &mut out)?;
-        same(&rt, *words, (code, files.reads.made), (0, *count));
-    }
-    Ok(())
-}
-
-// How often each command writes a file: `compile` and `upgrade` their image, `bound` its certificate, and the
-// others none.
-static WRITES: [(&[&str], u64); 7] = [
-    (&GO, 0),
-    (&CHECK, 0),
-    (&COMPILE, 1),
-    (&RUN_CYCLE, 0),
-    (&UPGRADE, 1),
-    (&BOUND, 1),
-    (&RECHECK, 0),
+// Words, and how many reads and writes the call makes: a file is read in one piece, and the end behind it.
+static MADE: [(Words, u64, u64); 12] = [
+    (GO, 4, 0),
+    (GO_BY_NAMES, 6, 0),
+    (CHECK, 2, 0),
+    (COMPILE, 2, 1),
+    (ENGLISH, 2, 1),
+    (GERMAN, 2, 1),
+    (RUN, 4, 0),
+    (UPGRADE, 2, 1),
+    (BOUND, 2, 1),
+    (RECHECK, 4, 0),
+    (LIVE, 8, 0),
+    (WATCH, 8, 0),
 ];
 
-#[test]
-fn writes_of_commands(rt: HostRuntime) -> Result<(), Fail> {
-    for (words, count) in &WRITES {
-        let mut files = all_files(rt.alloc())?;
-        let mut out = MemSink::new(rt.alloc(), 64);
-        let code = call(&rt, rt.alloc(), words, &mut files, &mut out)?;
-        same(&rt, *words, (code, files.writes.made), (0, *count));
+/// What is told of a file that can't be read.
+const NOT_READ: &[Told] = &[Told::Text(b"read fault\n"), Told::Image(IMAGE)];
+
+/// Nothing is said, and the file stays.
+const SILENT: &[Told] = &[Told::Text(b""), Told::Image(IMAGE)];
+
+/// Each read and each write of a call fails in turn, the last read and then the first push too; the one
+/// behind the last read is none, so all is well.
+fn each_fails<R: Abort + Threads + Wait + Sync>(
+    rt: &R,
+    alloc: Global,
+    words: Words,
+    reads: u64,
+    writes: u64,
+) -> Result<(), Fail> {
+    for read in 1..=reads {
+        ends(rt, alloc, words, Faults { read, ..NONE }, 5, NOT_READ)?;
+    }
+    for write in 1..=writes {
+        ends(rt, alloc, words, Faults { write, ..NONE }, 6, SILENT)?;
+    }
+    let both = Faults {
+        read: reads,
+        push: 1,
+        ..NONE
+    };
+    ends(rt, alloc, words, both, 6, SILENT)?;
+    let further = Faults {
+        read: reads.wrapping_add(1),
+        write: writes.wrapping_add(1),
+        ..NONE
+    };
+    let made = [Told::Calls { reads, writes }];
+    ends(rt, alloc, words, further, 0, &made)
+}
+
+fn all_fail<R: Abort + Threads + Wait + Sync>(
+    rt: &R,
+    alloc: Global,
+    made: &[(Words, u64, u64)],
+) -> Result<(), Fail> {
+    for (words, reads, writes) in made {
+        each_fails(rt, alloc, *words, *reads, *writes)?;
     }
     Ok(())
 }
 
-// The one write of `compile`, of `upgrade` and of `bound` fails: the file is what it was, and nothing is said.
 #[test]
-fn failed_write(rt: HostRuntime) -> Result<(), Fail> {
-    let writing: [&[&str]; 3] = [&COMPILE, &UPGRADE, &BOUND];
-    for words in writing {
-        let mut files = all_files(rt.alloc())?;
-        files.fail_writes(only(1));
-        let mut out = MemSink::new(rt.alloc(), 64);
-        let code = call(&rt, rt.alloc(), words, &mut files, &mut out)?;
-        let told = (code, out.taken.as_slice());
-        same(&rt, words, told, (6, b"".as_slice()));
-        let image = files.files.get("image");
-        same(&rt, words, image, Some(IMAGE.as_slice()));
-    }
-    Ok(())
+fn each_read_and_write_fails(rt: HostRuntime) -> Result<(), Fail> {
+    all_fail(&rt, rt.alloc(), &MADE)
 }
 
-// The words of a call, how many bytes the sink takes before it fails, the status, and the text. The text of
-// `compile`, `upgrade`, `bound` and `recheck` has three bytes.
-static CUT_OFF: [(&[&str], usize, u8, &[u8]); 19] = [
-    (&GO, 0, 6, b""),
-    (&GO, 1, 6, b"@"),
-    (&GO, 9, 6, b"@7 PQ 4 ="),
-    (&COMPILE, 0, 6, b""),
-    (&COMPILE, 1, 6, b"O"),
-    (&COMPILE, 9, 0, b"OK\n"),
-    (&UPGRADE, 0, 6, b""),
-    (&UPGRADE, 1, 6, b"O"),
-    (&UPGRADE, 9, 0, b"OK\n"),
-    (&BOUND, 0, 6, b""),
-    (&BOUND, 1, 6, b"O"),
-    (&RECHECK, 0, 6, b""),
-    (&RECHECK, 9, 0, b"OK\n"),
-    (&RUN_CYCLE, 0, 6, b""),
-    (&RUN_CYCLE, 1, 6, b"E"),
-    (&RUN_CYCLE, 9, 6, b"END 4 RUN"),
-    (&GEN, 0, 6, b""),
-    (&GEN, 1, 6, b"G"),
-    (&GEN, 9, 6, b"GEN 1 ENT"),
+/// Words, how many bytes each push takes, the number of the push that fails, the status, and what is told.
+type Row = (Words, usize, u64, u8, &'static [Told]);
+
+// The sink fails behind some bytes. Where a file is written, it is written before the first push.
+static CUT_OFF: [Row; 31] = [
+    (GO, 1, 1, 6, &[Told::Text(b"")]),
+    (GO, 1, 2, 6, &[Told::Text(b"@")]),
+    (GO, 9, 2, 6, &[Told::Text(b"@7 PQ 4 =")]),
+    (CHECK, 2, 2, 6, &[Told::Text(b"OK")]),
+    (&["check", "statement"], 6, 2, 6, &[Told::Text(b"source")]),
+    (COMPILE, 1, 1, 6, &[Told::Text(b"")]),
+    (COMPILE, 1, 2, 6, &[Told::Text(b"O")]),
+    (COMPILE, 9, 2, 0, &[Told::Text(b"OK\n")]),
+    (
+        &["compile", "nothing", "image"],
+        1,
+        1,
+        6,
+        &[Told::Text(b""), Told::Image(LARGE)],
+    ),
+    (
+        GERMAN,
+        1,
+        2,
+        6,
+        &[Told::Text(b"O"), Told::Image(b"// nothing\n")],
+    ),
+    (UPGRADE, 1, 1, 6, &[Told::Text(b"")]),
+    (UPGRADE, 1, 2, 6, &[Told::Text(b"O")]),
+    (UPGRADE, 9, 2, 0, &[Told::Text(b"OK\n")]),
+    (BOUND, 1, 1, 6, &[Told::Text(b"")]),
+    (BOUND, 1, 2, 6, &[Told::Text(b"O")]),
+    // In the line of a chain; no certificate is written.
+    (
+        CHAINED,
+        11,
+        2,
+        6,
+        &[Told::Text(b"chain: OB 1"), Told::Image(IMAGE)],
+    ),
+    (RECHECK, 1, 1, 6, &[Told::Text(b"")]),
+    (RECHECK, 9, 2, 0, &[Told::Text(b"OK\n")]),
+    (RUN, 1, 1, 6, &[Told::Text(b"")]),
+    (RUN, 1, 2, 6, &[Told::Text(b"E")]),
+    (RUN, 9, 2, 6, &[Told::Text(b"END 4 RUN")]),
+    (GEN, 1, 1, 6, &[Told::Text(b"")]),
+    (GEN, 1, 2, 6, &[Told::Text(b"G")]),
+    (GEN, 9, 2, 6, &[Told::Text(b"GEN 1 ENT")]),
+    (LIVE, 1, 1, 6, &[Told::Text(b"")]),
+    (LIVE, 1, 2, 6, &[Told::Text(b"s")]),
+    (LIVE, 1, 10, 6, &[Told::Text(b"step 1\n--")]),
+    // How the text begins goes by who comes first.
+    (WATCH, 1, 1, 6, &[Told::Length(0)]),
+    (WATCH, 1, 2, 6, &[Told::Length(1)]),
+    (WATCH, 1, 10, 6, &[Told::Length(9)]),
+    (WATCH, 1, 1501, 6, &[Told::Length(1500)]),
 ];
+
+// A sink that takes one byte a push takes the whole text.
+static WHOLE: [Row; 17] = [
+    (GO, 1, 0, 0, &[Told::Text(ONE_RUN_TEXT)]),
+    (
+        &["go", "source", "stopping"],
+        1,
+        0,
+        0,
+        &[Told::Text(b"@7 PQ 4 = 01\n@8 PQ 4 = 00\n@8 MODE STOP 8 AT OB 1 LINE 3\nEND 8 STOP 8\n")],
+    ),
+    (
+        &["go", "source", "source"],
+        1,
+        0,
+        4,
+        &[Told::Text(b"history refused: line 1 rule 1\n")],
+    ),
+    (CHECK, 1, 0, 0, &[Told::Text(b"OK\n")]),
+    (
+        &["check", "statement"],
+        1,
+        0,
+        2,
+        &[Told::Text(b"source refused: line 1 rule 11\n")],
+    ),
+    (&["check", "none"], 1, 0, 5, &[Told::Text(b"read fault\n")]),
+    // What the program tells of itself is asked elsewhere.
+    (&["--help"], 1, 0, 1, &[Told::Text(b"words refused\n")]),
+    (COMPILE, 1, 0, 0, &[Told::Text(b"OK\n")]),
+    (GERMAN, 1, 0, 0, &[Told::Text(b"OK\n")]),
+    (UPGRADE, 1, 0, 0, &[Told::Text(b"OK\n")]),
+    (BOUND, 1, 0, 0, &[Told::Text(b"OK\n")]),
+    (
+        CHAINED,
+        1,
+        0,
+        10,
+        &[Told::Text(
+            b"chain: OB 1, FC 1, FC 1, FC 1, FC 1, FC 1, FC 1, FC 1, FC 1, FC 1, FC 1, FC 1, FC 1, FC 1, FC 1, FC 1, FC 1\n",
+        )],
+    ),
+    (RECHECK, 1, 0, 0, &[Told::Text(b"OK\n")]),
+    (
+        &["recheck", "image", "nothing"],
+        1,
+        0,
+        10,
+        &[Told::Text(b"certificate says no\n")],
+    ),
+    (
+        RUN,
+        1,
+        0,
+        0,
+        &[Told::Text(b"END 4 RUN\nDB 10 0 00000000\n")],
+    ),
+    // From a machine that knows nothing of this program.
+    (
+        GEN,
+        1,
+        0,
+        0,
+        &[Told::Text(b"GEN 1 ENTRIES 200069 MODE RUN SUM 20431\n")],
+    ),
+    (LIVE, 1, 0, 0, &[Told::Text(b"step 1\n---\nEND 1 RUN\n")]),
+];
+
+fn are_pushed<R: Abort + Threads + Wait + Sync>(
+    rt: &R,
+    alloc: Global,
+    rows: &[Row],
+) -> Result<(), Fail> {
+    for (words, piece, push, status, told) in rows {
+        let faults = Faults {
+            push: *push,
+            piece: *piece,
+            ..NONE
+        };
+        ends(rt, alloc, *words, faults, *status, *told)?;
+    }
+    Ok(())
+}
 
 #[test]
 fn failed_pushes(rt: HostRuntime) -> Result<(), Fail> {
-    for (words, len, status, text) in &CUT_OFF {
-        let files = all_files(rt.alloc())?;
-        let mut out = MemSink::new(rt.alloc(), (*len).max(1));
-        out.fail_pushes(only(if *len == 0 { 1 } else { 2 }));
-        let what = (*words, *len);
-        answers(&rt, rt.alloc(), what, words, files, out, (*status, text))?;
-    }
-    Ok(())
+    are_pushed(&rt, rt.alloc(), &CUT_OFF)
 }
-
-// Where the sink fails behind the image, the image stands whole.
-#[test]
-fn an_image_before_a_failed_push(rt: HostRuntime) -> Result<(), Fail> {
-    let mut files = MemFiles::new(rt.alloc());
-    files.put("source", b"")?;
-    let mut out = MemSink::new(rt.alloc(), 1);
-    out.fail_pushes(only(1));
-    let code = call(&rt, rt.alloc(), &COMPILE, &mut files, &mut out)?;
-    // a header of no blocks and no names
-    let empty = b"S7FB\0\x02\0\x02\0\0\0\x14\0\0\0\0\0\0\0\0".as_slice();
-    let told = (code, files.files.get("image"));
-    same(&rt, "the image", told, (6, Some(empty)));
-    Ok(())
-}
-
-// A read fails, and then the sink, which should take the line of that.
-#[test]
-fn failed_read_and_push(rt: HostRuntime) -> Result<(), Fail> {
-    for (words, count) in &READS {
-        let mut files = all_files(rt.alloc())?;
-        files.fail_reads(only(*count));
-        let mut out = MemSink::new(rt.alloc(), 64);
-        out.fail_pushes(only(1));
-        answers(
-            &rt,
-            rt.alloc(),
-            *words,
-            words,
-            files,
-            out,
-            (6, b"".as_slice()),
-        )?;
-    }
-    Ok(())
-}
-
-// A sink that takes one byte a push takes the whole text.
-static WHOLE: [(&[&str], &[u8]); 8] = [
-    (&GO, RUNG_TEXT),
-    (&CHECK, b"OK\n"),
-    (&COMPILE, b"OK\n"),
-    (&UPGRADE, b"OK\n"),
-    (&BOUND, b"OK\n"),
-    (&RECHECK, b"OK\n"),
-    (&RUN_CYCLE, CYCLE_TEXT),
-    (&GEN, GEN_TEXT),
-];
 
 #[test]
 fn single_bytes(rt: HostRuntime) -> Result<(), Fail> {
-    for (words, text) in &WHOLE {
-        let files = all_files(rt.alloc())?;
-        let out = MemSink::new(rt.alloc(), 1);
-        answers(&rt, rt.alloc(), *words, words, files, out, (0, text))?;
-    }
-    Ok(())
-}
-
-// The longest image, and one byte more; then the history needn't be there.
-#[test]
-fn long_images(rt: HostRuntime) -> Result<(), Fail> {
-    let long: [(usize, u8, &[u8]); 2] = [
-        (8_388_608, 3, b"image refused: offset 0 code 1\n"),
-        (8_388_609, 8, b"too long: image\n"),
-    ];
-    for (length, status, text) in long {
-        let mut files = MemFiles::new(rt.alloc());
-        crate::calls::put_long(&mut files, rt.alloc(), "image", b'S', length)?;
-        files.put("history", b"")?;
-        let out = MemSink::new(rt.alloc(), 64);
-        answers(&rt, rt.alloc(), length, &RUN, files, out, (status, text))?;
-    }
-    Ok(())
+    are_pushed(&rt, rt.alloc(), &WHOLE)
 }

@@ -1,3 +1,4 @@
+//! Histories that are right or wrong, and the lines of failures.
 use crate::compare::same;
 use event_text::{TextFault, read_history};
 use flat_code::Names;
@@ -7,7 +8,7 @@ use s7_cli::{Failure, File, Status, failure_line};
 use std::alloc::Global;
 use std::process::Abort;
 use std::test::Fail;
-use var_access::{Entry, Request, What};
+use var_access::{Entries, Entry, Request, What};
 
 /// The most bytes of a history.
 const HISTORY_LIMIT: usize = 4_194_304;
@@ -33,15 +34,24 @@ fn no_names(alloc: Global) -> Names {
     Names::new(Vec::new(alloc))
 }
 
+fn are_right(
+    rt: &impl Abort,
+    alloc: Global,
+    names: &Names,
+    rows: &[(&str, u64)],
+) -> Result<(), Fail> {
+    for (text, count) in rows {
+        assert!(rt; text.len() <= HISTORY_LIMIT);
+        let entries = read_history(alloc, text.as_bytes(), names)?;
+        same(rt, *text, entries.len(), *count);
+    }
+    Ok(())
+}
+
 #[test]
 fn right_histories(rt: HostRuntime) -> Result<(), Fail> {
     let names = no_names(rt.alloc());
-    for (text, count) in &RIGHT {
-        assert!(&rt; text.len() <= HISTORY_LIMIT);
-        let entries = read_history(rt.alloc(), text.as_bytes(), &names)?;
-        same(&rt, *text, entries.len(), *count);
-    }
-    Ok(())
+    are_right(&rt, rt.alloc(), &names, &RIGHT)
 }
 
 /// A text, and its first bad line with the least rule that this breaks.
@@ -95,117 +105,140 @@ static WRONG: [(&str, u32, u16); 47] = [
     ("op 1 monitor on OB 65536\n", 1, 2),
 ];
 
-#[test]
-fn wrong_histories(rt: HostRuntime) {
-    let names = no_names(rt.alloc());
-    for (text, line, rule) in &WRONG {
-        assert!(&rt; text.len() <= HISTORY_LIMIT);
-        let fault = read_history(rt.alloc(), text.as_bytes(), &names).err();
+fn are_wrong(rt: &impl Abort, alloc: Global, names: &Names, rows: &[(&str, u32, u16)]) {
+    for (text, line, rule) in rows {
+        assert!(rt; text.len() <= HISTORY_LIMIT);
+        let fault = read_history(alloc, text.as_bytes(), names).err();
         let bad = TextFault::BadLine {
             line: *line,
             rule: *rule,
         };
-        same(&rt, *text, fault, Some(bad));
+        same(rt, *text, fault, Some(bad));
     }
+}
+
+#[test]
+fn wrong_histories(rt: HostRuntime) {
+    let names = no_names(rt.alloc());
+    are_wrong(&rt, rt.alloc(), &names, &WRONG);
+}
+
+const HISTORY: &[u8] = b"in 3 A0\nstep\narrive 40\narrive 10 0102a0Ff\ntick 250\nop 4 diag\n";
+
+/// Compares the entry at a place.
+fn is_entry(rt: &impl Abort, entries: &Entries, place: u64, who: u8, what: What) {
+    same(rt, place, entries.entry(place), Some(Entry { who, what }));
+}
+
+fn are_in_order(rt: &impl Abort, entries: &Entries) {
+    same(rt, "their number", entries.len(), 6);
+    let input = What::Input {
+        byte: 3,
+        value: 160,
+    };
+    is_entry(rt, entries, 0, 2, input);
+    is_entry(rt, entries, 1, 1, What::Step);
+    is_entry(rt, entries, 2, 2, What::Arrive { ob: 40, value: 0 });
+    let value = 16_949_503;
+    is_entry(rt, entries, 3, 2, What::Arrive { ob: 10, value });
+    is_entry(rt, entries, 4, 2, What::Tick { ms: 250 });
+    let request = Request::Diag;
+    is_entry(rt, entries, 5, 6, What::Ask { request });
 }
 
 #[test]
 fn entries_in_order(rt: HostRuntime) -> Result<(), Fail> {
     let names = no_names(rt.alloc());
-    let entries = read_history(
-        rt.alloc(),
-        b"in 3 A0\nstep\narrive 40\narrive 10 0102a0Ff\ntick 250\nop 4 diag\n",
-        &names,
-    )?;
-    let spelled = [
-        Entry {
-            who: 2,
-            what: What::Input {
-                byte: 3,
-                value: 160,
-            },
-        },
-        Entry {
-            who: 1,
-            what: What::Step,
-        },
-        Entry {
-            who: 2,
-            what: What::Arrive { ob: 40, value: 0 },
-        },
-        Entry {
-            who: 2,
-            what: What::Arrive {
-                ob: 10,
-                value: 16_949_503,
-            },
-        },
-        Entry {
-            who: 2,
-            what: What::Tick { ms: 250 },
-        },
-        Entry {
-            who: 6,
-            what: What::Ask {
-                request: Request::Diag,
-            },
-        },
-    ];
-    same(&rt, "their number", entries.len(), spelled.len() as u64);
-    for (place, entry) in spelled.iter().enumerate() {
-        same(&rt, place, entries.entry(place as u64), Some(*entry));
-    }
+    let entries = read_history(rt.alloc(), HISTORY, &names)?;
+    are_in_order(&rt, &entries);
     Ok(())
 }
 
-/// Compares a line with the text worked out by hand.
-fn spells(rt: &impl Abort, line: Line, text: &str) {
-    same(rt, text, line.as_slice(), text.as_bytes());
-}
+const REFUSAL: Refusal = Refusal { line: 4, rule: 20 };
 
-fn refused(file: File) -> Failure {
-    let refusal = Refusal { line: 4, rule: 20 };
-    Failure::Refused { file, refusal }
-}
-
-fn too_long(file: File) -> Failure {
-    Failure::TooLong { file }
-}
+/// A failure, its status and its line.
+type Row = (Failure, u8, &'static str);
 
 // A failed write and want of memory have no line, and that of a chain was written.
+static FAILURES: [Row; 14] = [
+    (Failure::WordsRefused, 1, "words refused\n"),
+    (
+        Failure::Refused {
+            file: File::Source,
+            refusal: REFUSAL,
+        },
+        2,
+        "source refused: line 4 rule 20\n",
+    ),
+    (
+        Failure::Refused {
+            file: File::Symbols,
+            refusal: REFUSAL,
+        },
+        2,
+        "symbols refused: line 4 rule 20\n",
+    ),
+    (
+        Failure::Refused {
+            file: File::History,
+            refusal: REFUSAL,
+        },
+        4,
+        "history refused: line 4 rule 20\n",
+    ),
+    (Failure::ReadFault, 5, "read fault\n"),
+    (Failure::WriteFault, 6, ""),
+    (Failure::NoMemory, 7, ""),
+    (
+        Failure::TooLong {
+            file: File::Symbols,
+        },
+        8,
+        "too long: symbols\n",
+    ),
+    (
+        Failure::TooLong { file: File::Source },
+        8,
+        "too long: source\n",
+    ),
+    (
+        Failure::TooLong {
+            file: File::History,
+        },
+        8,
+        "too long: history\n",
+    ),
+    (
+        Failure::Refused {
+            file: File::Certificate,
+            refusal: REFUSAL,
+        },
+        4,
+        "certificate refused: line 4 rule 20\n",
+    ),
+    (
+        Failure::TooLong {
+            file: File::Certificate,
+        },
+        8,
+        "too long: certificate\n",
+    ),
+    (Failure::SaysNo, 10, "certificate says no\n"),
+    (Failure::TooDeep, 10, ""),
+];
+
+fn are_spelled(rt: &impl Abort, rows: &[Row]) {
+    for (failure, code, text) in rows {
+        let line = failure_line(*failure);
+        same(rt, *failure, line.is_none(), text.is_empty());
+        let line = line.unwrap_or(Line::new());
+        same(rt, *failure, line.as_slice(), text.as_bytes());
+        same(rt, *failure, Status::of(Err(*failure)).code, *code);
+    }
+}
+
 #[test]
 fn lines_of_failures(rt: HostRuntime) {
-    let (source, symbols, history) = (File::Source, File::Symbols, File::History);
-    let certificate = File::Certificate;
-    let lines: [(Failure, u8, &str); 14] = [
-        (Failure::WordsRefused, 1, "words refused\n"),
-        (refused(source), 2, "source refused: line 4 rule 20\n"),
-        (refused(symbols), 2, "symbols refused: line 4 rule 20\n"),
-        (refused(history), 4, "history refused: line 4 rule 20\n"),
-        (Failure::ReadFault, 5, "read fault\n"),
-        (Failure::WriteFault, 6, ""),
-        (Failure::NoMemory, 7, ""),
-        (too_long(symbols), 8, "too long: symbols\n"),
-        (too_long(source), 8, "too long: source\n"),
-        (too_long(history), 8, "too long: history\n"),
-        (
-            refused(certificate),
-            4,
-            "certificate refused: line 4 rule 20\n",
-        ),
-        (too_long(certificate), 8, "too long: certificate\n"),
-        (Failure::SaysNo, 10, "certificate says no\n"),
-        (Failure::TooDeep, 10, ""),
-    ];
-    for (failure, code, text) in lines {
-        spells(&rt, failure_line(failure).unwrap_or(Line::new()), text);
-        same(
-            &rt,
-            failure,
-            failure_line(failure).is_none(),
-            text.is_empty(),
-        );
-        same(&rt, failure, Status::of(Err(failure)).code, code);
-    }
+    are_spelled(&rt, &FAILURES);
     same(&rt, "done", Status::of(Ok(())).code, 0);
 }

@@ -1,11 +1,13 @@
 //! The gate is for the workers of a live run: no other command passes it.
-use crate::calls::{CHECK, GO, ONE_RUN, RUNG, list_of, two_files};
+use crate::calls::{NamedBytes, ONE_RUN, RUNG, call, files_of};
 use crate::compare::same;
-use crate::image_tests::{COMPILE, RUN};
-use plc_io::{Gate, MemSink};
-use s7_cli::s7_main;
+use plc_io::{Gate, MemFiles, MemSink};
+use std::alloc::Global;
+use std::process::Abort;
+use std::sync::Wait;
 use std::sync::atomic::{AtomicBool, Ordering};
 use std::test::Fail;
+use std::thread::Threads;
 
 /// A gate that remembers that somebody passed it.
 #[derive(Drop)]
@@ -19,30 +21,57 @@ impl Gate for WatchedGate {
     }
 }
 
+static FILES: [NamedBytes; 2] = [("source", RUNG), ("history", ONE_RUN)];
+
+// Those of images have the one that `compile` writes, and `recheck` the certificate of `bound`.
+static COMMANDS: [&[&str]; 10] = [
+    &["go", "source", "history"],
+    &["check", "source"],
+    &["german", "source", "german"],
+    &["english", "german", "english"],
+    &["compile", "source", "image"],
+    &["run", "image", "history"],
+    &["upgrade", "image", "image"],
+    &["bound", "image", "certificate"],
+    &["recheck", "image", "certificate"],
+    &["gen", "1"],
+];
+
+/// Calls with these words, and compares whether the gate was passed.
+fn passes<R: Abort + Threads + Wait + Sync>(
+    rt: &R,
+    alloc: Global,
+    words: &[&str],
+    files: &mut MemFiles,
+    gate: &WatchedGate,
+) -> Result<(), Fail> {
+    let mut out = MemSink::new(alloc, 1000);
+    let code = call(rt, alloc, words, files, &mut out, gate)?;
+    let passed = gate.passed.load(Ordering::SeqCst);
+    same(rt, words, (code, passed), (0, false));
+    Ok(())
+}
+
+fn none_passes<R: Abort + Threads + Wait + Sync>(
+    rt: &R,
+    alloc: Global,
+    commands: &[&[&str]],
+    files: &mut MemFiles,
+    gate: &WatchedGate,
+) -> Result<(), Fail> {
+    for words in commands {
+        passes(rt, alloc, *words, files, gate)?;
+    }
+    Ok(())
+}
+
 #[test]
 fn no_command_passes_the_gate(rt: HostRuntime) -> Result<(), Fail> {
+    let mut files = files_of(rt.alloc(), &FILES)?;
     let gate = WatchedGate {
         passed: AtomicBool::new(false),
     };
-    // those of images have the one that `compile` writes, and `recheck` the certificate of `bound`
-    let commands: [&[&str]; 8] = [
-        &GO,
-        &CHECK,
-        &COMPILE,
-        &RUN,
-        &["upgrade", "image", "image"],
-        &["bound", "image", "certificate"],
-        &["recheck", "image", "certificate"],
-        &["gen", "1"],
-    ];
-    let mut files = two_files(rt.alloc(), RUNG, ONE_RUN)?;
-    for words in commands {
-        let list = list_of(rt.alloc(), words)?;
-        let mut out = MemSink::new(rt.alloc(), 1000);
-        let status = s7_main(&rt, rt.alloc(), &list, &mut files, &mut out, &gate);
-        let passed = gate.passed.load(Ordering::SeqCst);
-        same(&rt, words, (status.code, passed), (0, false));
-    }
+    none_passes(&rt, rt.alloc(), &COMMANDS, &mut files, &gate)?;
     // the gate does remember
     gate.pass(1, 1);
     let passed = gate.passed.load(Ordering::SeqCst);

@@ -3,28 +3,38 @@ use crate::calls::{list_of, only};
 use crate::compare::same;
 use plc_io::MemSink;
 use s7_cli::{Question, question_in, write_answer};
+use std::alloc::Global;
+use std::process::Abort;
 use std::test::Fail;
 
+/// Words, and the question that they are.
+type Row = (&'static [&'static str], Option<Question>);
+
 // A question is the only word.
-#[test]
-fn questions(rt: HostRuntime) -> Result<(), Fail> {
-    let table: [(&[&str], Option<Question>); 10] = [
-        (&["--help"], Some(Question::Help)),
-        (&["--version"], Some(Question::Version)),
-        (&[], None),
-        (&["help"], None),
-        (&["-h"], Some(Question::Help)),
-        (&["-V"], Some(Question::Version)),
-        (&["-v"], None),
-        (&["-h", "-h"], None),
-        (&["--help", "go"], None),
-        (&["go", "--version"], None),
-    ];
-    for (words, question) in table {
-        let list = list_of(rt.alloc(), words)?;
-        same(&rt, words, question_in(&list), question);
+static QUESTIONS: [Row; 10] = [
+    (&["--help"], Some(Question::Help)),
+    (&["--version"], Some(Question::Version)),
+    (&[], None),
+    (&["help"], None),
+    (&["-h"], Some(Question::Help)),
+    (&["-V"], Some(Question::Version)),
+    (&["-v"], None),
+    (&["-h", "-h"], None),
+    (&["--help", "go"], None),
+    (&["go", "--version"], None),
+];
+
+fn are_questions(rt: &impl Abort, alloc: Global, rows: &[Row]) -> Result<(), Fail> {
+    for (words, question) in rows {
+        let list = list_of(alloc, *words)?;
+        same(rt, *words, question_in(&list), *question);
     }
     Ok(())
+}
+
+#[test]
+fn questions(rt: HostRuntime) -> Result<(), Fail> {
+    are_questions(&rt, rt.alloc(), &QUESTIONS)
 }
 
 // The sink takes three bytes of each piece.

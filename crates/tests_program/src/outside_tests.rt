@@ -1,9 +1,11 @@
-use crate::calls::only;
+//! Files and sinks in memory and real ones, and the two loops.
+use crate::calls::{NamedBytes, files_of, only};
 use crate::compare::same;
 use plc_io::{
     Bytes, Files, Gate, IoFault, MemFiles, MemSink, NamedFile, NamedFiles, OpenGate, RealFiles,
     RealSink, Sink, SureFiles, SureSink, push_all, read_to_limit,
 };
+use std::alloc::Global;
 use std::process::Abort;
 use std::test::Fail;
 
@@ -21,40 +23,76 @@ fn are_read<F: Files>(rt: &impl Abort, files: &mut F, into: &mut [u8], reads: &[
     }
 }
 
+/// A name, a text, and what comes of writing it there.
+type Write = (&'static str, &'static str, Result<(), IoFault>);
+
+/// Writes row by row.
+fn are_written<F: Files>(rt: &impl Abort, files: &mut F, writes: &[Write]) {
+    for (name, text, answer) in writes {
+        let written = files.write_whole(*name, text.as_bytes());
+        same(rt, (*name, *text), written, *answer);
+    }
+}
+
+// The second write leaves nothing of the first: five lines of one digit, ten bytes.
+static REAL_WRITES: [Write; 3] = [
+    (SCRATCH, "a longer text", Ok(())),
+    (SCRATCH, "1\n2\n3\n4\n5\n", Ok(())),
+    ("no/such/file", "7", Err(IoFault::Failed)),
+];
+
+static REAL_READS: [Read; 5] = [
+    (SCRATCH, 10, Ok(0)),
+    (SCRATCH, 11, Ok(0)),
+    (SCRATCH, 7, Ok(3)),
+    ("no/such/file", 0, Err(IoFault::Failed)),
+    (SCRATCH, 2, Ok(4)),
+];
+
 #[test]
 fn real_files(rt: HostRuntime) -> Result<(), Fail> {
     let mut files = RealFiles::new(rt);
     let mut into = [0u8; 4];
-    // The second write leaves nothing of the first: five lines of one digit, ten bytes.
-    for text in ["a longer text", "1\n2\n3\n4\n5\n"] {
-        let written = files.write_whole(SCRATCH, text.as_bytes());
-        same(&rt, text, written, Ok(()));
-    }
-    let reads = [
-        (SCRATCH, 10, Ok(0)),
-        (SCRATCH, 11, Ok(0)),
-        (SCRATCH, 7, Ok(3)),
-        ("no/such/file", 0, Err(IoFault::Failed)),
-        (SCRATCH, 2, Ok(4)),
-    ];
-    are_read(&rt, &mut files, &mut into, &reads);
+    are_written(&rt, &mut files, &REAL_WRITES);
+    are_read(&rt, &mut files, &mut into, &REAL_READS);
     same(&rt, "the bytes read last", into, *b"2\n3\n");
-    let fault = files.write_whole("no/such/file", b"7");
-    same(&rt, "no such folder", fault, Err(IoFault::Failed));
     std::fs::remove_file(&rt, SCRATCH)?;
+    Ok(())
+}
+
+/// How many bytes of a file are read to a limit.
+fn length_read<F: Files>(
+    alloc: Global,
+    files: &mut F,
+    name: &str,
+    limit: usize,
+) -> Result<usize, IoFault> {
+    match read_to_limit(alloc, files, name, limit) {
+        Ok(bytes) => Ok(bytes.len()),
+        Err(fault) => Err(fault),
+    }
+}
+
+/// A large file of the test's own.
+const LARGE: &str = "plc_io_tests_large";
+
+/// Four mebibytes, the greatest file that is read.
+const LARGEST: usize = 4_194_304;
+
+/// Writes so many bytes.
+fn write_large<F: Files>(alloc: Global, files: &mut F) -> Result<(), Fail> {
+    let text = vec![in alloc; b'y'; LARGEST]?;
+    files.write_whole(LARGE, &text)?;
     Ok(())
 }
 
 #[test]
 fn large_real_file(rt: HostRuntime) -> Result<(), Fail> {
-    // Four mebibytes, the greatest file that is read.
-    let text = vec![in rt.alloc(); b'y'; 4_194_304]?;
     let mut files = RealFiles::new(rt);
-    let written = files.write_whole("plc_io_tests_large", &text);
-    same(&rt, "the write", written, Ok(()));
-    let bytes = read_to_limit(rt.alloc(), &mut files, "plc_io_tests_large", 4_194_304);
-    std::fs::remove_file(&rt, "plc_io_tests_large")?;
-    same(&rt, "the length", bytes?.len(), 4_194_304);
+    write_large(rt.alloc(), &mut files)?;
+    let length = length_read(rt.alloc(), &mut files, LARGE, LARGEST);
+    std::fs::remove_file(&rt, LARGE)?;
+    same(&rt, "the length", length, Ok(LARGEST));
     Ok(())
 }
 
@@ -75,40 +113,39 @@ fn open_gate(rt: HostRuntime) -> Result<(), Fail> {
     Ok(())
 }
 
+static PUT: [NamedBytes; 3] = [("a", b"old"), ("b", b""), ("a", b"0123456")];
+
+// The seventh read is to fail.
+static READS: [Read; 8] = [
+    ("a", 0, Ok(3)),
+    ("a", 5, Ok(2)),
+    ("a", 7, Ok(0)),
+    ("a", u64::MAX, Ok(0)),
+    ("b", 0, Ok(0)),
+    ("c", 0, Err(IoFault::Failed)),
+    ("a", 0, Err(IoFault::Failed)),
+    ("a", 4, Ok(3)),
+];
+
 #[test]
 fn files_in_memory(rt: HostRuntime) -> Result<(), Fail> {
     let mut into = [0u8; 3];
-    let mut files = MemFiles::new(rt.alloc());
-    files.put("a", b"old")?;
-    files.put("b", b"")?;
-    files.put("a", b"0123456")?;
-    // The seventh read.
+    let mut files = files_of(rt.alloc(), &PUT)?;
     files.fail_reads(only(7));
-    let reads = [
-        ("a", 0, Ok(3)),
-        ("a", 5, Ok(2)),
-        ("a", 7, Ok(0)),
-        ("a", u64::MAX, Ok(0)),
-        ("b", 0, Ok(0)),
-        ("c", 0, Err(IoFault::Failed)),
-        ("a", 0, Err(IoFault::Failed)),
-        ("a", 4, Ok(3)),
-    ];
-    are_read(&rt, &mut files, &mut into, &reads);
+    are_read(&rt, &mut files, &mut into, &READS);
     same(&rt, "the bytes read last", into, *b"456");
     let counts = (files.reads.made, files.reads.failed);
     same(&rt, "the counts of reads", counts, (8, 2));
     Ok(())
 }
 
+static WRITES: [Write; 2] = [("c", "new", Ok(())), ("c", "newer", Err(IoFault::Failed))];
+
 #[test]
 fn writes_in_memory(rt: HostRuntime) -> Result<(), Fail> {
     let mut files = MemFiles::new(rt.alloc());
     files.fail_writes(only(2));
-    for (text, answer) in [("new", Ok(())), ("newer", Err(IoFault::Failed))] {
-        let written = files.write_whole("c", text.as_bytes());
-        same(&rt, text, written, answer);
-    }
+    are_written(&rt, &mut files, &WRITES);
     same(&rt, "the file", files.files.get("c"), Some(&b"new"[..]));
     let counts = (files.writes.made, files.writes.failed);
     same(&rt, "the counts of writes", counts, (2, 1));
@@ -187,44 +224,72 @@ fn a_sure_sink(rt: HostRuntime) -> Result<(), Fail> {
     Ok(())
 }
 
-#[test]
-fn reading_to_a_limit(rt: HostRuntime) -> Result<(), Fail> {
-    // length of the file, limit, bytes that come: those of the file, but at most one past the limit
-    let table = [
-        (0, 0, 0),
-        (0, 5, 0),
-        (5, 0, 1),
-        (5, 4, 5),
-        (5, 5, 5),
-        (6, 4, 5),
-        (65_536, 65_536, 65_536),
-        (65_537, 65_536, 65_537),
-        (200_000, 131_071, 131_072),
-        (200_000, usize::MAX, 200_000),
-    ];
-    for (length, limit, count) in table {
-        let mut files = MemFiles::new(rt.alloc());
-        files.put("source", &vec![in rt.alloc(); b'x'; length]?)?;
-        let bytes = read_to_limit(rt.alloc(), &mut files, "source", limit)?;
-        same(&rt, (length, limit), bytes.len(), count);
+/// A file of so many bytes.
+fn long_file(alloc: Global, length: usize) -> Result<MemFiles, Fail> {
+    let bytes = vec![in alloc; b'x'; length]?;
+    let mut files = MemFiles::new(alloc);
+    files.put("source", &bytes)?;
+    Ok(files)
+}
+
+// The length of the file, the limit, and how many bytes come: those of the file, but at most one past the
+// limit.
+static LENGTHS: [(usize, usize, usize); 10] = [
+    (0, 0, 0),
+    (0, 5, 0),
+    (5, 0, 1),
+    (5, 4, 5),
+    (5, 5, 5),
+    (6, 4, 5),
+    (65_536, 65_536, 65_536),
+    (65_537, 65_536, 65_537),
+    (200_000, 131_071, 131_072),
+    (200_000, usize::MAX, 200_000),
+];
+
+fn have_lengths(
+    rt: &impl Abort,
+    alloc: Global,
+    rows: &[(usize, usize, usize)],
+) -> Result<(), Fail> {
+    for (length, limit, count) in rows {
+        let mut files = long_file(alloc, *length)?;
+        let read = length_read(alloc, &mut files, "source", *limit);
+        same(rt, (*length, *limit), read, Ok(*count));
     }
     Ok(())
+}
+
+#[test]
+fn reading_to_a_limit(rt: HostRuntime) -> Result<(), Fail> {
+    have_lengths(&rt, rt.alloc(), &LENGTHS)
+}
+
+// The first two reads give the text and its end, and the fourth is the end of the text again, which is to
+// fail.
+static FAILURES: [(&str, Result<usize, IoFault>); 3] = [
+    ("source", Ok(8)),
+    ("source", Err(IoFault::Failed)),
+    ("symbols", Err(IoFault::Failed)),
+];
+
+fn are_answered(
+    rt: &impl Abort,
+    alloc: Global,
+    files: &mut MemFiles,
+    rows: &[(&str, Result<usize, IoFault>)],
+) {
+    for (name, answer) in rows {
+        let read = length_read(alloc, files, *name, 100);
+        same(rt, *name, read, *answer);
+    }
 }
 
 #[test]
 fn failures_while_reading_to_a_limit(rt: HostRuntime) -> Result<(), Fail> {
     let mut files = MemFiles::new(rt.alloc());
     files.put("source", b"A I 0.0;")?;
-    // The first two reads give the text and its end, and the fourth is the end of the text again.
     files.fail_reads(only(4));
-    let table = [
-        ("source", None),
-        ("source", Some(IoFault::Failed)),
-        ("symbols", Some(IoFault::Failed)),
-    ];
-    for (name, fault) in table {
-        let answer = read_to_limit(rt.alloc(), &mut files, name, 100);
-        same(&rt, (name, fault), answer.err(), fault);
-    }
+    are_answered(&rt, rt.alloc(), &mut files, &FAILURES);
     Ok(())
 }

@@ -3,7 +3,7 @@ ghost use Rattle.std.specs.Prelude.{◌≡◌, ◌∷◌, [], false};
 ghost use Rattle.watch_board.specs.BoardList.{opening};
 
 use crate::compare::same;
-use crate::live_tests::EMPTY;
+use crate::images::EMPTY;
 use controller::Controller;
 use image_file::load;
 use plc_base::{Area, Place, Width};
