@@ -100,15 +100,17 @@ fn are_told(
     files: &MemFiles,
     out: &MemSink,
 ) {
+    let what = (words, faults);
+    let text = out.taken.as_slice();
     for one in told {
         match one {
-            Told::Text(text) => same(rt, (words, faults), out.taken.as_slice(), *text),
-            Told::Length(length) => same(rt, (words, faults), out.taken.as_slice().len(), *length),
+            Told::Text(wanted) => same(rt, what, text, *wanted),
+            Told::Length(length) => same(rt, what, text.len(), *length),
             Told::Calls { reads, writes } => {
-                let made = (files.reads.made, files.writes.made);
-                same(rt, (words, faults), made, (*reads, *writes));
+                same(rt, what, files.reads.made, *reads);
+                same(rt, what, files.writes.made, *writes);
             }
-            Told::Image(image) => same(rt, (words, faults), files.files.get("image"), Some(*image)),
+            Told::Image(image) => same(rt, what, files.files.get("image").unwrap_or(b""), *image),
         }
     }
 }

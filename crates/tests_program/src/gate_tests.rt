@@ -44,12 +44,11 @@ fn passes<R: Abort + Threads + Wait + Sync>(
     words: &[&str],
     files: &mut MemFiles,
     gate: &WatchedGate,
-) -> Result<(), Fail> {
+) {
     let mut out = MemSink::new(alloc, 1000);
-    let code = call(rt, alloc, words, files, &mut out, gate)?;
+    let code = call(rt, alloc, words, files, &mut out, gate);
     let passed = gate.passed.load(Ordering::SeqCst);
-    same(rt, words, (code, passed), (0, false));
-    Ok(())
+    same(rt, words, (code, passed), (Ok(0), false));
 }
 
 fn none_passes<R: Abort + Threads + Wait + Sync>(
@@ -58,11 +57,10 @@ fn none_passes<R: Abort + Threads + Wait + Sync>(
     commands: &[&[&str]],
     files: &mut MemFiles,
     gate: &WatchedGate,
-) -> Result<(), Fail> {
+) {
     for words in commands {
-        passes(rt, alloc, *words, files, gate)?;
+        passes(rt, alloc, *words, files, gate);
     }
-    Ok(())
 }
 
 #[test]
@@ -71,7 +69,7 @@ fn no_command_passes_the_gate(rt: HostRuntime) -> Result<(), Fail> {
     let gate = WatchedGate {
         passed: AtomicBool::new(false),
     };
-    none_passes(&rt, rt.alloc(), &COMMANDS, &mut files, &gate)?;
+    none_passes(&rt, rt.alloc(), &COMMANDS, &mut files, &gate);
     // the gate does remember
     gate.pass(1, 1);
     let passed = gate.passed.load(Ordering::SeqCst);

@@ -90,9 +90,11 @@ impl Gate for MeetingGate {
 }
 
 /// The printed history, and the text of the run behind the line `---`.
-fn parts_of(text: &[u8]) -> (&str, &str) {
-    let text = from_utf8(text).unwrap_or("");
-    text.split_once("---\n").unwrap_or((text, ""))
+fn parts_of(text: &str) -> (&str, &str) {
+    match text.split_once("---\n") {
+        Some(parts) => parts,
+        None => (text, ""),
+    }
 }
 
 /// The lines of a history that begin so.
@@ -163,7 +165,7 @@ fn is_told<R: Abort + Threads + Wait + Sync>(
     text: &[u8],
     waits: Option<(&str, &str)>,
 ) -> Result<(), Fail> {
-    let (history, run) = parts_of(text);
+    let (history, run) = parts_of(from_utf8(text).unwrap_or(""));
     is_whole(rt, history, run);
     is_in_order(rt, history, waits);
     runs_again(rt, alloc, files, history, run)
