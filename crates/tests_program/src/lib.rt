@@ -1,6 +1,6 @@
-//! Tests of the public calls of the edge: files and sinks, the reading of histories, the lines of a
-//! text, and whole calls of the program over devices that fail and gates that workers meet at. The
-//! library itself is empty.
+//! Tests of the public calls of the edge: the reading of histories, the lines of a text, and whole
+//! calls of the program over devices that fail and gates that workers meet at. The library itself is
+//! empty.
 #![tactic(auto)]
 
 #[cfg(test)]
@@ -11,8 +11,6 @@ mod command_tests;
 mod compare;
 #[cfg(test)]
 mod compiling_tests;
-#[cfg(test)]
-mod count_tests;
 #[cfg(test)]
 mod device_tests;
 #[cfg(test)]
@@ -25,7 +23,5 @@ mod help_tests;
 mod images;
 #[cfg(test)]
 mod live_tests;
-#[cfg(test)]
-mod outside_tests;
 #[cfg(test)]
 mod publish_tests;

@@ -1,6 +1,6 @@
 //! Files and sinks in memory and real ones, and the two loops.
-use crate::calls::{NamedBytes, files_of, only};
 use crate::compare::same;
+use crate::count_tests::only;
 use plc_io::{
     Bytes, Files, Gate, IoFault, MemFiles, MemSink, NamedFile, NamedFiles, OpenGate, RealFiles,
     RealSink, Sink, SureFiles, SureSink, push_all, read_to_limit,
@@ -113,7 +113,13 @@ fn open_gate(rt: HostRuntime) -> Result<(), Fail> {
     Ok(())
 }
 
-static PUT: [NamedBytes; 3] = [("a", b"old"), ("b", b""), ("a", b"0123456")];
+/// The files of the next test.
+fn put_files(files: &mut MemFiles) -> Result<(), Fail> {
+    files.put("a", b"old")?;
+    files.put("b", b"")?;
+    files.put("a", b"0123456")?;
+    Ok(())
+}
 
 // The seventh read is to fail.
 static READS: [Read; 8] = [
@@ -130,7 +136,8 @@ static READS: [Read; 8] = [
 #[test]
 fn files_in_memory(rt: HostRuntime) -> Result<(), Fail> {
     let mut into = [0u8; 3];
-    let mut files = files_of(rt.alloc(), &PUT)?;
+    let mut files = MemFiles::new(rt.alloc());
+    put_files(&mut files)?;
     files.fail_reads(only(7));
     are_read(&rt, &mut files, &mut into, &READS);
     same(&rt, "the bytes read last", into, *b"456");

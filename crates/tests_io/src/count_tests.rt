@@ -1,7 +1,14 @@
 //! Counted calls, some of which are to fail.
-use crate::calls::only;
 use crate::compare::same;
+use arrayvec::ArrayVec;
 use plc_io::{Calls, IoFault};
+
+/// The calls that are to fail: the one of this number alone.
+pub(crate) fn only(number: u64) -> ArrayVec<u64, 16> {
+    let mut calls = ArrayVec::new();
+    calls.push(number);
+    calls
+}
 
 #[test]
 fn calls_are_counted(rt: HostRuntime) {
