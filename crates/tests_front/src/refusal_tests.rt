@@ -1,15 +1,17 @@
 use crate::compare::same;
-use crate::rows::{Frame, joined, verdict};
+use crate::rows::{Frame, verdict, verdict_in};
 use std::alloc::{AllocError, Global};
 use std::process::Abort;
 use std::test::Fail;
 use stl_ast::law_of_components;
 use stl_parser::law_of_clauses;
 
-/// Each source with the line and the rule of its refusal, worked out by hand from the grammar and
+/// A source with the line and the rule of its refusal, worked out by hand from the grammar and
 /// docs/REFUSALS.md.
-static REFUSALS: [(&str, u32, u16); 52] = [
-    // Rule 10: not in the grammar.
+type Refused = (&'static str, u32, u16);
+
+/// Rule 10: not in the grammar.
+static OUTSIDE_GRAMMAR: [Refused; 24] = [
     (
         "FUNCTION FC 1 : VOID\nBEGIN\nL DB10.DBW 2.x;\nEND_FUNCTION",
         3,
@@ -126,6 +128,10 @@ static REFUSALS: [(&str, u32, u16); 52] = [
         3,
         10,
     ),
+];
+
+/// The other rules of clauses, and one of tokens.
+static OTHERS: [Refused; 28] = [
     // Rule 11: where its kind may not follow.
     (
         "ORGANIZATION_BLOCK OB 1\nBEGIN\na : INT;\nEND_ORGANIZATION_BLOCK",
@@ -240,12 +246,21 @@ static REFUSALS: [(&str, u32, u16); 52] = [
     ),
 ];
 
+fn are_refused(rt: &impl Abort, alloc: Global, rows: &[Refused]) {
+    for (source, line, rule) in rows {
+        let got = verdict(alloc, source.as_bytes());
+        same(rt, *source, got, (*line, *rule));
+    }
+}
+
+#[test]
+fn outside_the_grammar(rt: HostRuntime) {
+    are_refused(&rt, rt.alloc(), &OUTSIDE_GRAMMAR);
+}
+
 #[test]
 fn names_the_first_violation(rt: HostRuntime) {
-    for (source, line, rule) in REFUSALS.iter() {
-        let got = verdict(rt.alloc(), source.as_bytes());
-        same(&rt, *source, got, (*line, *rule));
-    }
+    are_refused(&rt, rt.alloc(), &OTHERS);
     law_of_clauses();
     law_of_components();
 }
@@ -267,14 +282,8 @@ static NEAR_RELAY: [(&str, u16); 10] = [
 
 #[test]
 fn statements_near_the_relay(rt: HostRuntime) -> Result<(), Fail> {
-    for (statement, rule) in NEAR_RELAY.iter() {
-        let source = joined(
-            rt.alloc(),
-            Frame::Body.before(),
-            statement,
-            Frame::Body.behind(),
-        )?;
-        let got = verdict(rt.alloc(), source.as_bytes());
+    for (statement, rule) in &NEAR_RELAY {
+        let got = verdict_in(rt.alloc(), Frame::Body, statement)?;
         same(&rt, *statement, got, (2, *rule));
     }
     Ok(())
@@ -292,36 +301,36 @@ type Nesting = (
     u16,
 );
 
-// Structures and arrays as deep as 1 MiB allows: no step goes down them by a call.
-static OPEN: Nesting = (
-    b"DATA_BLOCK DB 1 STRUCT ",
-    b"a:STRUCT ",
-    b"",
-    100_000,
-    b"",
-    1,
-    13,
-);
-
-static CLOSED: Nesting = (
-    b"DATA_BLOCK DB 1 STRUCT ",
-    b"a:STRUCT ",
-    b"END_STRUCT;",
-    52_000,
-    b"END_STRUCT BEGIN END_DATA_BLOCK",
-    0,
-    0,
-);
-
-static ARRAYS: Nesting = (
-    b"DATA_BLOCK DB 1 STRUCT a:",
-    b"ARRAY[0..0]OF ",
-    b"",
-    74_000,
-    b"INT;END_STRUCT BEGIN END_DATA_BLOCK",
-    0,
-    0,
-);
+// Structures, open and closed, and arrays as deep as 1 MiB allows: no step goes down them by a call.
+static NESTINGS: [Nesting; 3] = [
+    (
+        b"DATA_BLOCK DB 1 STRUCT ",
+        b"a:STRUCT ",
+        b"",
+        100_000,
+        b"",
+        1,
+        13,
+    ),
+    (
+        b"DATA_BLOCK DB 1 STRUCT ",
+        b"a:STRUCT ",
+        b"END_STRUCT;",
+        52_000,
+        b"END_STRUCT BEGIN END_DATA_BLOCK",
+        0,
+        0,
+    ),
+    (
+        b"DATA_BLOCK DB 1 STRUCT a:",
+        b"ARRAY[0..0]OF ",
+        b"",
+        74_000,
+        b"INT;END_STRUCT BEGIN END_DATA_BLOCK",
+        0,
+        0,
+    ),
+];
 
 /// Adds a piece so many times.
 fn add(source: &mut Vec<u8>, piece: &[u8], count: u32) -> Result<(), AllocError> {
@@ -331,35 +340,27 @@ fn add(source: &mut Vec<u8>, piece: &[u8], count: u32) -> Result<(), AllocError>
     Ok(())
 }
 
-/// The source of a row.
-fn nested(alloc: Global, row: &Nesting) -> Result<Vec<u8>, AllocError> {
+/// Adds the source of a row.
+fn add_nested(source: &mut Vec<u8>, row: &Nesting) -> Result<(), AllocError> {
     let (head, open, close, count, tail, ..) = row;
+    add(source, head, 1)?;
+    add(source, open, *count)?;
+    add(source, close, *count)?;
+    add(source, tail, 1)
+}
+
+/// The verdict on the source of a row.
+fn nested_verdict(alloc: Global, row: &Nesting) -> Result<(u32, u16), AllocError> {
     let mut source = Vec::new(alloc);
-    add(&mut source, head, 1)?;
-    add(&mut source, open, *count)?;
-    add(&mut source, close, *count)?;
-    add(&mut source, tail, 1)?;
-    Ok(source)
+    add_nested(&mut source, row)?;
+    Ok(verdict(alloc, source.as_slice()))
 }
 
-fn agrees(rt: &impl Abort, alloc: Global, row: &Nesting) -> Result<(), Fail> {
-    let source = nested(alloc, row)?;
-    let got = verdict(alloc, source.as_slice());
-    same(rt, (row.1, row.2), got, (row.5, row.6));
+#[test]
+fn deep_nestings(rt: HostRuntime) -> Result<(), Fail> {
+    for row in &NESTINGS {
+        let got = nested_verdict(rt.alloc(), row)?;
+        same(&rt, (row.1, row.2), got, (row.5, row.6));
+    }
     Ok(())
-}
-
-#[test]
-fn open_structures(rt: HostRuntime) -> Result<(), Fail> {
-    agrees(&rt, rt.alloc(), &OPEN)
-}
-
-#[test]
-fn closed_structures(rt: HostRuntime) -> Result<(), Fail> {
-    agrees(&rt, rt.alloc(), &CLOSED)
-}
-
-#[test]
-fn nested_arrays(rt: HostRuntime) -> Result<(), Fail> {
-    agrees(&rt, rt.alloc(), &ARRAYS)
 }

@@ -3,7 +3,7 @@ ghost use Rattle.stl_ast.specs.WellFormed.{IsWellFormed};
 
 use crate::compare::same;
 use crate::describe::described;
-use plc_base::{Refusal, SourceFault};
+use plc_base::SourceFault;
 use std::alloc::{AllocError, Global};
 use std::process::Abort;
 use std::test::Fail;
@@ -26,13 +26,9 @@ pub(crate) fn parsed(alloc: Global, source: &[u8]) -> Result<Tree, SourceFault>
 pub(crate) fn verdict(alloc: Global, source: &[u8]) -> (u32, u16) {
     match parsed(alloc, source) {
         Ok(_) => (0, 0),
-        Err(SourceFault::Refused { refusal }) => of_refusal(refusal),
+        Err(SourceFault::Refused { refusal }) => (refusal.line, refusal.rule),
         Err(SourceFault::NoMemory) => (0, 1),
     }
-}
-
-pub(crate) fn of_refusal(refusal: Refusal) -> (u32, u16) {
-    (refusal.line, refusal.rule)
 }
 
 /// Where a clause of the table stands: it is a whole source, or line 2 of a block.
@@ -47,7 +43,7 @@ pub(crate) enum Frame {
 
 impl Frame {
     /// What stands before the clause.
-    pub(crate) fn before(self) -> &'static str {
+    fn before(self) -> &'static str {
         match self {
             Frame::Source => "",
             Frame::Body => "FUNCTION FC 1 : VOID BEGIN\n",
@@ -58,7 +54,7 @@ impl Frame {
     }
 
     /// What stands behind it.
-    pub(crate) fn behind(self) -> &'static str {
+    fn behind(self) -> &'static str {
         match self {
             Frame::Source => "",
             Frame::Body => "\nEND_FUNCTION",
@@ -69,7 +65,7 @@ impl Frame {
     }
 
     /// What the tree shows before the clause's own part.
-    pub(crate) fn tree(self) -> &'static str {
+    fn tree(self) -> &'static str {
         match self {
             Frame::Source => "",
             Frame::Body => "1 to 3 Fc Fc 1\n",
@@ -83,33 +79,59 @@ impl Frame {
 /// A clause and the tree that it gives.
 pub(crate) type Row = (Frame, &'static str, &'static str);
 
-pub(crate) fn joined(
+fn write_in_frame(out: &mut String, frame: Frame, clause: &str) -> Result<(), AllocError> {
+    out.push_str(frame.before())?;
+    out.push_str(clause)?;
+    out.push_str(frame.behind())
+}
+
+/// The source of a clause in its frame.
+fn in_frame(alloc: Global, frame: Frame, clause: &str) -> Result<String, AllocError> {
+    let mut source = String::new(alloc);
+    write_in_frame(&mut source, frame, clause)?;
+    Ok(source)
+}
+
+/// The verdict on a clause in its frame.
+pub(crate) fn verdict_in(
     alloc: Global,
-    first: &str,
-    second: &str,
-    third: &str,
-) -> Result<String, AllocError> {
-    let mut text = String::new(alloc);
-    text.push_str(first)?;
-    text.push_str(second)?;
-    text.push_str(third)?;
-    Ok(text)
+    frame: Frame,
+    clause: &str,
+) -> Result<(u32, u16), AllocError> {
+    let source = in_frame(alloc, frame, clause)?;
+    Ok(verdict(alloc, source.as_bytes()))
+}
+
+/// The tree of a source as text.
+fn shown(alloc: Global, source: &[u8]) -> Result<String, SourceFault> {
+    let tree = parsed(alloc, source)?;
+    Ok(described(alloc, &tree)?)
 }
 
 /// The tree of a clause in its frame as text, or the fault that stands in its place.
-pub(crate) fn shown_in(alloc: Global, frame: Frame, clause: &str) -> Result<String, SourceFault> {
-    let source = joined(alloc, frame.before(), clause, frame.behind())?;
-    let tree = parsed(alloc, source.as_bytes())?;
-    let text = described(alloc, &tree)?;
-    Ok(text)
+fn shown_in(alloc: Global, frame: Frame, clause: &str) -> Result<String, SourceFault> {
+    let source = in_frame(alloc, frame, clause)?;
+    shown(alloc, source.as_bytes())
+}
+
+/// A clause gives its tree.
+fn agrees(rt: &impl Abort, alloc: Global, row: &Row) -> Result<(), Fail> {
+    let (frame, clause, tree) = *row;
+    let got = shown_in(alloc, frame, clause)?;
+    let shown = got.as_str();
+    same(
+        rt,
+        (clause, shown),
+        shown.strip_prefix(frame.tree()),
+        Some(tree),
+    );
+    Ok(())
 }
 
 /// Each clause gives its tree.
 pub(crate) fn all_agree(rt: &impl Abort, alloc: Global, rows: &[Row]) -> Result<(), Fail> {
-    for (frame, clause, tree) in rows {
-        let want = joined(alloc, frame.tree(), tree, "")?;
-        let got = shown_in(alloc, *frame, clause)?;
-        same(rt, *clause, got.as_str(), want.as_str());
+    for row in rows {
+        agrees(rt, alloc, row)?;
     }
     Ok(())
 }

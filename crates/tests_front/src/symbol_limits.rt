@@ -1,66 +1,89 @@
 use crate::compare::same;
-use crate::symbol_calls::{read, verdict};
+use crate::symbol_calls::{Named, are_found, read, verdict};
 use std::alloc::{AllocError, Global};
 use std::test::Fail;
-use stl_symbols::{SYMBOLS_LIMIT, Target};
+use stl_symbols::{Language, SYMBOLS_LIMIT, Symbols};
 
 /// The most symbols of a file.
 const MOST: u32 = 65_535;
 
-/// A file of so many symbols, each with a name and a number of its own.
-fn file_of(alloc: Global, symbols: u32) -> Result<Vec<u8>, AllocError> {
-    let mut file = Vec::new(alloc);
-    for n in 0..symbols {
+/// Writes so many symbols, each with a name and a number of its own.
+fn write_symbols(out: &mut String, count: u32) -> Result<(), AllocError> {
+    for n in 0..count {
         let number = n % 10;
-        let line = format!(in alloc; "{n:x},T{number},TIMER,\n")?;
-        file.extend_from_slice(line.as_bytes())?;
+        writeln!(out, "{n:x},T{number},TIMER,")?;
     }
+    Ok(())
+}
+
+/// A file of the most symbols, and these lines behind them.
+fn full_file(alloc: Global, behind: &str) -> Result<String, AllocError> {
+    let mut file = String::new(alloc);
+    write_symbols(&mut file, MOST)?;
+    file.push_str(behind)?;
     Ok(file)
 }
 
+/// The symbols of such a file.
+fn full_symbols(alloc: Global, behind: &str) -> Result<Symbols, Fail> {
+    let file = full_file(alloc, behind)?;
+    Ok(read(alloc, Language::English, file.as_bytes())?)
+}
+
+/// The verdict on such a file.
+fn full_verdict(alloc: Global, behind: &str) -> Result<(u32, u16), AllocError> {
+    let file = full_file(alloc, behind)?;
+    Ok(verdict(alloc, Language::English, file.as_bytes()))
+}
+
+/// Names of a file with the most symbols.
+static NUMBERED: [(&[u8], Option<Named>); 4] = [
+    (b"0", Some(Named::Timer(0))),
+    (b"FFFE", Some(Named::Timer(4))),
+    (b"8000", Some(Named::Timer(8))),
+    (b"ffff", None),
+];
+
 #[test]
 fn a_file_has_65535_symbols(rt: HostRuntime) -> Result<(), Fail> {
-    let mut file = file_of(rt.alloc(), MOST)?;
-    file.extend_from_slice(b"0,VAT 1,,\nx,SDB 2,,\n")?;
-    let symbols = read(rt.alloc(), file.as_slice())?;
+    let symbols = full_symbols(rt.alloc(), "0,VAT 1,,\nx,SDB 2,,\n")?;
     same(&rt, "symbols", symbols.list().len(), 65_535);
-    let rows: [(&[u8], Option<Target>); 4] = [
-        (b"0", Some(Target::Timer { number: 0 })),
-        (b"FFFE", Some(Target::Timer { number: 4 })),
-        (b"8000", Some(Target::Timer { number: 8 })),
-        (b"ffff", None),
-    ];
-    for (name, target) in rows {
-        same(&rt, name, symbols.lookup(name), target);
-    }
+    are_found(&rt, &symbols, &NUMBERED);
     Ok(())
 }
+
+/// A new name, and a name that stands twice.
+static ONE_MORE: [&str; 2] = ["ffff,T1,TIMER,", "0,T1,TIMER,"];
 
 #[test]
 fn the_next_symbol_breaks_rule_15(rt: HostRuntime) -> Result<(), Fail> {
-    let new_name: &[u8] = b"ffff,T1,TIMER,";
-    let name_twice: &[u8] = b"0,T1,TIMER,";
-    for line in [new_name, name_twice] {
-        let mut file = file_of(rt.alloc(), MOST)?;
-        file.extend_from_slice(line)?;
-        let found = verdict(rt.alloc(), file.as_slice());
-        same(&rt, line, found, (65_536, 15));
+    for line in &ONE_MORE {
+        let found = full_verdict(rt.alloc(), line)?;
+        same(&rt, *line, found, (65_536, 15));
     }
     Ok(())
 }
 
-// The longest files: of empty lines, and of one line.
+/// The longest files, with the line and the rule of the refusal: of empty lines, and of one line.
+static LONGEST: [(u8, u32, u16); 5] = [
+    (b'\n', 0, 0),
+    (b'a', 1, 14),
+    (b',', 1, 14),
+    (b'"', 1, 14),
+    (b'\r', 1, 14),
+];
+
+/// The verdict on the longest file of one byte, again and again.
+fn longest_verdict(alloc: Global, byte: u8) -> Result<(u32, u16), AllocError> {
+    let file = Vec::from_elem(alloc, byte, SYMBOLS_LIMIT)?;
+    Ok(verdict(alloc, Language::English, file.as_slice()))
+}
+
 #[test]
 fn a_file_has_1048576_bytes(rt: HostRuntime) -> Result<(), Fail> {
-    for (byte, refused) in [
-        (b'\n', (0, 0)),
-        (b'a', (1, 14)),
-        (b',', (1, 14)),
-        (b'"', (1, 14)),
-        (b'\r', (1, 14)),
-    ] {
-        let file = Vec::from_elem(rt.alloc(), byte, SYMBOLS_LIMIT)?;
-        same(&rt, byte, verdict(rt.alloc(), file.as_slice()), refused);
+    for (byte, line, rule) in &LONGEST {
+        let found = longest_verdict(rt.alloc(), *byte)?;
+        same(&rt, *byte, found, (*line, *rule));
     }
     Ok(())
 }

@@ -1,9 +1,10 @@
 use crate::compare::same;
-use crate::symbol_calls::{verdict, verdict_german};
-use csv::{ByteRecord, ReaderBuilder};
+use crate::symbol_calls::verdict;
+use csv::{ByteRecord, Reader, ReaderBuilder};
 use std::alloc::Global;
 use std::process::Abort;
 use std::test::Fail;
+use stl_symbols::Language;
 
 /// A symbols file with the line and the rule of its refusal, worked out by hand from
 /// docs/FORMATS.md; 0 and 0 where it is right.
@@ -43,8 +44,8 @@ static RECORDS: [Row; 26] = [
     (b"a,M0.0,BOOL,\n\na,M0.0,BOOL", 3, 14),
 ];
 
-// The names of one to 24 bytes, the addresses and the types of a file.
-static DECLARATIONS: [Row; 58] = [
+// Names of one to 24 bytes, addresses and types that are right.
+static DECLARATIONS: [Row; 13] = [
     (
         b"a,I 0.0,BOOL,\nb,Q 65535.7,BOOL,\nc,M 00007.00,BOOL,",
         0,
@@ -82,6 +83,10 @@ static DECLARATIONS: [Row; 58] = [
     (b"abcdefghijklmnopqrstuvwx,M0.0,BOOL,", 0, 0),
     (b"abcdefghijklmnopqrstuvwx    ,M0.0,BOOL,", 0, 0),
     (b"\x01\xFF,M0.0,BOOL,", 0, 0),
+];
+
+// Names and addresses that aren't.
+static WRONG_ADDRESSES: [Row; 34] = [
     (b",M0.0,BOOL,", 1, 15),
     (b"\" \t \",M0.0,BOOL,", 1, 15),
     (b"abcdefghijklmnopqrstuvwxy,M0.0,BOOL,", 1, 15),
@@ -116,6 +121,10 @@ static DECLARATIONS: [Row; 58] = [
     (b"a,DB65536,,", 1, 15),
     (b"a,VAT,,", 1, 15),
     (b"a,SDB 65536,,", 1, 15),
+];
+
+// Types that don't fit the address.
+static WRONG_TYPES: [Row; 11] = [
     (b"a,M0.0,,", 1, 15),
     (b"a,M0.0,bool,", 1, 15),
     (b"a,M0.0,BYTE,", 1, 15),
@@ -181,10 +190,17 @@ static GERMAN: [Row; 12] = [
     (b"a,E 0.0,BOOL,\nA,A 0.0,BOOL,", 2, 16),
 ];
 
-fn are_refused<R: Abort>(rt: &R, alloc: Global, rows: &[Row]) {
+fn are_refused<R: Abort>(rt: &R, alloc: Global, language: Language, rows: &[Row]) {
     for (file, line, rule) in rows {
-        same(rt, file, verdict(alloc, file), (*line, *rule));
+        same(rt, *file, verdict(alloc, language, file), (*line, *rule));
     }
+}
+
+/// Whether a reader finds one record of four fields.
+fn reads_four(reader: &mut Reader<&[u8]>, record: &mut ByteRecord) -> Result<bool, csv::Error> {
+    let found = reader.read_byte_record(record)?;
+    let fields = record.len();
+    Ok(found && fields == 4 && !reader.read_byte_record(record)?)
 }
 
 /// Whether csv's own reader finds one record of four fields.
@@ -194,31 +210,29 @@ fn is_record_of_four(alloc: Global, line: &[u8]) -> Result<bool, csv::Error> {
         .flexible(true)
         .from_reader(alloc, line);
     let mut record = ByteRecord::new(alloc);
-    let found = reader.read_byte_record(&mut record)?;
-    let fields = record.len();
-    Ok(found && fields == 4 && !reader.read_byte_record(&mut record)?)
+    reads_four(&mut reader, &mut record)
 }
 
 #[test]
 fn german_addresses(rt: HostRuntime) {
-    for (file, line, rule) in &GERMAN {
-        same(&rt, file, verdict_german(rt.alloc(), file), (*line, *rule));
-    }
+    are_refused(&rt, rt.alloc(), Language::German, &GERMAN);
 }
 
 #[test]
 fn lines_that_are_no_record_of_four_fields(rt: HostRuntime) {
-    are_refused(&rt, rt.alloc(), &RECORDS);
+    are_refused(&rt, rt.alloc(), Language::English, &RECORDS);
 }
 
 #[test]
 fn declarations_that_are_not_right(rt: HostRuntime) {
-    are_refused(&rt, rt.alloc(), &DECLARATIONS);
+    are_refused(&rt, rt.alloc(), Language::English, &DECLARATIONS);
+    are_refused(&rt, rt.alloc(), Language::English, &WRONG_ADDRESSES);
+    are_refused(&rt, rt.alloc(), Language::English, &WRONG_TYPES);
 }
 
 #[test]
 fn names_that_stand_twice(rt: HostRuntime) {
-    are_refused(&rt, rt.alloc(), &NAMES);
+    are_refused(&rt, rt.alloc(), Language::English, &NAMES);
 }
 
 // Of the lines that aren't empty and have no line feed, csv's reader says the same.

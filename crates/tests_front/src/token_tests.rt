@@ -234,58 +234,68 @@ static REFUSALS: [(&[u8], u32, u16); 45] = [
     (b"A 99999 'abcde' \"", 1, 4),
 ];
 
+fn fault_of(alloc: Global, source: &[u8]) -> Option<SourceFault> {
+    tokens_of(alloc, source).err()
+}
+
 #[test]
-fn names_the_first_violation(rt: HostRuntime) -> Result<(), Fail> {
+fn names_the_first_violation(rt: HostRuntime) {
     for (source, line, rule) in &REFUSALS {
         let refusal = Refusal {
             line: *line,
             rule: *rule,
         };
-        let fault = tokens_of(rt.alloc(), source).err();
-        same(&rt, *source, fault, Some(SourceFault::Refused { refusal }));
+        let wanted = Some(SourceFault::Refused { refusal });
+        same(&rt, *source, fault_of(rt.alloc(), source), wanted);
     }
-    Ok(())
 }
 
 // By hand after the table of tokens in docs/LANGUAGE.md.
+static MARKS: [(stl_lexer::Mark, &[u8]); 4] = [
+    (stl_lexer::Mark::Assign, b":="),
+    (stl_lexer::Mark::Semicolon, b";"),
+    (stl_lexer::Mark::Pointer, b"P#"),
+    (stl_lexer::Mark::Bytes, b"B#("),
+];
+
 #[test]
 fn writes_marks(rt: HostRuntime) {
-    for (mark, want) in [
-        (stl_lexer::Mark::Assign, b":=".as_slice()),
-        (stl_lexer::Mark::Semicolon, b";"),
-        (stl_lexer::Mark::Pointer, b"P#"),
-        (stl_lexer::Mark::Bytes, b"B#("),
-    ] {
-        same(&rt, mark, mark_text(mark), want);
+    for (mark, want) in &MARKS {
+        same(&rt, *mark, mark_text(*mark), *want);
     }
 }
 
-// By hand: 2 h 46 min 30 s are 7,200 + 2,760 + 30 = 9,990 s; a day and two hours are 93,600 s.
+// The first letter of a literal, in lower case.
+static FIRST_LETTERS: [(&[u8], u8); 3] = [(b"S5T#1S", b's'), (b"c#12", b'c'), (b"L#-5", b'l')];
+
+// What stands behind the prefix of a literal.
+static BEHIND_PREFIXES: [(&[u8], &[u8]); 3] = [
+    (b"T#-1S", b"-1S"),
+    (b"DW#16#1_F", b"1_F"),
+    (b"S5TIME#2H", b"2H"),
+];
+
+// The most milliseconds, the parts of a time and how many milliseconds they are. By hand: 2 h 46 min
+// 30 s are 7,200 + 2,760 + 30 = 9,990 s; a day and two hours are 93,600 s.
+static TIMES: [(u32, &[u8], Option<u32>); 6] = [
+    (9_990_000, b"2H46M30S", Some(9_990_000)),
+    (9_989_999, b"2H46M30S", None),
+    (2_147_483_647, b"1d_2H", Some(93_600_000)),
+    (100_000, b"90S5MS", Some(90_005)),
+    (100_000, b"5", None),
+    (100_000, b"1S2M", None),
+];
+
 #[test]
 fn reads_parts_of_literals(rt: HostRuntime) {
-    for (token, letter) in [
-        (b"S5T#1S".as_slice(), b's'),
-        (b"c#12", b'c'),
-        (b"L#-5", b'l'),
-    ] {
-        same(&rt, token, first_letter(token), letter);
+    for (token, letter) in &FIRST_LETTERS {
+        same(&rt, *token, first_letter(token), *letter);
     }
-    for (token, want) in [
-        (b"T#-1S".as_slice(), b"-1S".as_slice()),
-        (b"DW#16#1_F", b"1_F"),
-        (b"S5TIME#2H", b"2H"),
-    ] {
-        same(&rt, token, behind_prefix(token), want);
+    for (token, want) in &BEHIND_PREFIXES {
+        same(&rt, *token, behind_prefix(token), *want);
     }
-    for (greatest, parts, want) in [
-        (9_990_000, b"2H46M30S".as_slice(), Some(9_990_000)),
-        (9_989_999, b"2H46M30S", None),
-        (2_147_483_647, b"1d_2H", Some(93_600_000)),
-        (100_000, b"90S5MS", Some(90_005)),
-        (100_000, b"5", None),
-        (100_000, b"1S2M", None),
-    ] {
-        let found = milliseconds_within(greatest, parts);
-        same(&rt, (greatest, parts), found, want);
+    for (greatest, parts, want) in &TIMES {
+        let found = milliseconds_within(*greatest, parts);
+        same(&rt, (*greatest, *parts), found, *want);
     }
 }
