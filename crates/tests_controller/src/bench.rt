@@ -159,6 +159,19 @@ fn write_answered(
     }
 }
 
+/// Writes what the last entry showed and was answered.
+fn write_shown(
+    rt: &impl Abort,
+    out: &mut String,
+    controller: &Controller,
+    what: &What,
+    reply: &Reply,
+) -> Written {
+    let n = controller.history_len();
+    write_observed(out, n, controller.observed())?;
+    write_answered(rt, out, n, what, reply)
+}
+
 /// Applies an entry, and writes what it showed and was answered.
 pub(crate) fn apply_entry(
     rt: &impl Abort,
@@ -170,10 +183,7 @@ pub(crate) fn apply_entry(
     assert!(rt; controller.history_len() < MOST_ENTRIES);
     controller.reserve(1)?;
     let reply = controller.apply(entry);
-    let n = controller.history_len();
-    write_observed(out, n, controller.observed())?;
-    write_answered(rt, out, n, &entry.what, &reply)?;
-    Ok(())
+    Ok(write_shown(rt, out, controller, &entry.what, &reply)?)
 }
 
 /// Applies an entry so often, and writes what it showed and was answered.
@@ -204,13 +214,17 @@ pub(crate) fn apply_line(
 /// The most entries of a run.
 pub(crate) const MOST_ENTRIES: u64 = 100_000;
 
-/// A program that is spelled as text, with the small profile, as its image has version 1.
-pub(crate) fn loaded(alloc: Global, program: &str) -> Result<Loaded, Fail> {
-    let image = assembled(alloc, program)?;
-    match load(alloc, image.bytes.as_slice()) {
+fn load_image(alloc: Global, image: &[u8]) -> Result<Loaded, Fail> {
+    match load(alloc, image) {
         Ok(loaded) => Ok(loaded),
         Err(_) => Err(Fail::new("the program isn't read")),
     }
+}
+
+/// A program that is spelled as text, with the small profile, as its image has version 1.
+pub(crate) fn loaded(alloc: Global, program: &str) -> Result<Loaded, Fail> {
+    let image = assembled(alloc, program)?;
+    load_image(alloc, image.bytes.as_slice())
 }
 
 /// A controller of a program at a profile.
@@ -238,8 +252,20 @@ fn write_run(
     Ok(())
 }
 
+/// The text of a controller's run.
+fn text_of(
+    alloc: Global,
+    rt: &impl Abort,
+    controller: &mut Controller,
+    history: &str,
+) -> Result<String, Fail> {
+    let mut out = String::new(alloc);
+    write_run(rt, controller, &mut out, history)?;
+    Ok(out)
+}
+
 /// The text of a run at a profile.
-pub(crate) fn run_text(
+fn run_text(
     alloc: Global,
     rt: &impl Abort,
     profile: Profile,
@@ -247,9 +273,7 @@ pub(crate) fn run_text(
     history: &str,
 ) -> Result<String, Fail> {
     let mut controller = controller_at(alloc, profile, program)?;
-    let mut out = String::new(alloc);
-    write_run(rt, &mut controller, &mut out, history)?;
-    Ok(out)
+    text_of(alloc, rt, &mut controller, history)
 }
 
 /// A text is that of the run of a program and a history at a profile.
@@ -257,9 +281,9 @@ pub(crate) fn holds(
     rt: &impl Abort,
     alloc: Global,
     profile: Profile,
-    row: &Row,
+    row: (&str, &str, &str),
 ) -> Result<(), Fail> {
-    let (program, history, text) = *row;
+    let (program, history, text) = row;
     let shown = run_text(alloc, rt, profile, program, history)?;
     same(rt, (profile, program, history), shown.as_str(), text);
     Ok(())
@@ -268,8 +292,8 @@ pub(crate) fn holds(
 /// Each row's text is that of its run, at both profiles.
 pub(crate) fn all_hold(rt: &impl Abort, alloc: Global, rows: &[Row]) -> Result<(), Fail> {
     for row in rows {
-        holds(rt, alloc, Profile::Small, row)?;
-        holds(rt, alloc, Profile::Large, row)?;
+        holds(rt, alloc, Profile::Small, *row)?;
+        holds(rt, alloc, Profile::Large, *row)?;
     }
     Ok(())
 }

@@ -75,8 +75,8 @@ static FRAMES: [Pair; 3] = [
 
 fn all_differ(rt: &impl Abort, alloc: Global, pairs: &[Pair]) -> Result<(), Fail> {
     for (program, history, small, large) in pairs {
-        holds(rt, alloc, Profile::Small, &(*program, *history, *small))?;
-        holds(rt, alloc, Profile::Large, &(*program, *history, *large))?;
+        holds(rt, alloc, Profile::Small, (*program, *history, *small))?;
+        holds(rt, alloc, Profile::Large, (*program, *history, *large))?;
     }
     Ok(())
 }

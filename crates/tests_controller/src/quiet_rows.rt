@@ -1,5 +1,5 @@
 //! Steps that show nothing are passed in a row, and all comes out as one by one.
-use crate::bench::{MOST_ENTRIES, apply_entry, apply_line, controller_of, write_end};
+use crate::bench::{MOST_ENTRIES, apply_line, controller_of, write_end};
 use crate::compare::same;
 use controller::Controller;
 use plc_base::Mode;
@@ -51,13 +51,6 @@ static ROWS: [Row; 5] = [
     ),
 ];
 
-/// OB 40 interrupts OB 1, and then OB 10 waits for its end.
-const WAITS: &str = "x: JU x | OB 10 20 0 { NOP #0 | OB 40 20 0 { y: JU y";
-
-fn entry_of(what: What) -> Entry {
-    Entry { who: 1, what }
-}
-
 /// Takes so many steps in a row, of which so many are made.
 fn pass_steps(
     rt: &impl Abort,
@@ -87,16 +80,11 @@ fn apply_each(
     then: u8,
 ) -> Result<(), Fail> {
     for _ in 0..first {
-        apply_entry(rt, controller, out, entry_of(What::Step))?;
+        apply_line(rt, controller, out, "step 1")?;
     }
-    apply_entry(
-        rt,
-        controller,
-        out,
-        entry_of(What::Input { byte: 0, value: 1 }),
-    )?;
+    apply_line(rt, controller, out, "in 0 01")?;
     for _ in 0..then {
-        apply_entry(rt, controller, out, entry_of(What::Step))?;
+        apply_line(rt, controller, out, "step 1")?;
     }
     Ok(write_end(rt, out, controller)?)
 }
@@ -155,49 +143,40 @@ fn steps_are_passed(rt: HostRuntime) -> Result<(), Fail> {
     Ok(())
 }
 
-/// Runs that program until OB 10 waits.
+/// OB 40 interrupts OB 1, and then OB 10 waits for its end: a request that waits ends the row.
+const WAITS: &str = "x: JU x | OB 10 20 0 { NOP #0 | OB 40 20 0 { y: JU y";
+
 fn wait_for_a_place(
     rt: &impl Abort,
     controller: &mut Controller,
     out: &mut String,
 ) -> Result<(), Fail> {
-    let arrival = |ob: u16| entry_of(What::Arrive { ob, value: 0 });
-    apply_entry(rt, controller, out, entry_of(What::Step))?;
-    apply_entry(rt, controller, out, arrival(40))?;
+    apply_line(rt, controller, out, "step 1")?;
+    apply_line(rt, controller, out, "arrive 40")?;
     pass_steps(rt, controller, "nothing waits", 5, 5)?;
-    apply_entry(rt, controller, out, arrival(10))?;
-    pass_steps(rt, controller, "OB 10 waits", 5, 0)?;
-    Ok(())
-}
-
-#[test]
-fn a_request_that_waits_ends_the_row(rt: HostRuntime) -> Result<(), Fail> {
-    let mut controller = controller_of(rt.alloc(), WAITS)?;
-    let mut out = String::new(rt.alloc());
-    wait_for_a_place(&rt, &mut controller, &mut out)
+    apply_line(rt, controller, out, "arrive 10")?;
+    pass_steps(rt, controller, "OB 10 waits", 5, 0)
 }
 
 /// A block that loops, and whatever block is monitored: where one is, no step is made in a row.
+const MONITORED: &str = "x: JU x | FC 1 0 0 { NOP #0";
+
 fn monitor_for_a_while(
     rt: &impl Abort,
     controller: &mut Controller,
     out: &mut String,
 ) -> Result<(), Fail> {
-    apply_entry(rt, controller, out, entry_of(What::Step))?;
+    apply_line(rt, controller, out, "step 1")?;
     apply_line(rt, controller, out, "monitor FC 1")?;
     pass_steps(rt, controller, "FC 1 is monitored", 5, 0)?;
     apply_line(rt, controller, out, "monitor off")?;
     pass_steps(rt, controller, "nothing is monitored", 5, 5)
 }
 
-#[test]
-fn a_monitored_block_ends_the_row(rt: HostRuntime) -> Result<(), Fail> {
-    let mut controller = controller_of(rt.alloc(), "x: JU x | FC 1 0 0 { NOP #0")?;
-    let mut out = String::new(rt.alloc());
-    monitor_for_a_while(&rt, &mut controller, &mut out)
-}
+/// A peripheral output changes in entry 3, and then steps are made in a row: what was shown before it is
+/// gone.
+const SHOWN: &str = "L #7; T PB256; x: JU x";
 
-/// A peripheral output changes in entry 3, and then steps are made in a row.
 fn show_and_pass(
     rt: &impl Abort,
     controller: &mut Controller,
@@ -212,9 +191,36 @@ fn show_and_pass(
     Ok(())
 }
 
+/// What ends a row of steps, or stands in front of it.
+#[derive(Clone, Copy)]
+enum Around {
+    Waiting,
+    Monitoring,
+    Showing,
+}
+
+fn go_around(
+    rt: &impl Abort,
+    controller: &mut Controller,
+    out: &mut String,
+    around: Around,
+) -> Result<(), Fail> {
+    match around {
+        Around::Waiting => wait_for_a_place(rt, controller, out),
+        Around::Monitoring => monitor_for_a_while(rt, controller, out),
+        Around::Showing => show_and_pass(rt, controller, out),
+    }
+}
+
+fn goes_around(rt: &impl Abort, alloc: Global, program: &str, around: Around) -> Result<(), Fail> {
+    let mut controller = controller_of(alloc, program)?;
+    let mut out = String::new(alloc);
+    go_around(rt, &mut controller, &mut out, around)
+}
+
 #[test]
-fn what_was_shown_before_a_row_is_gone(rt: HostRuntime) -> Result<(), Fail> {
-    let mut controller = controller_of(rt.alloc(), "L #7; T PB256; x: JU x")?;
-    let mut out = String::new(rt.alloc());
-    show_and_pass(&rt, &mut controller, &mut out)
+fn around_rows(rt: HostRuntime) -> Result<(), Fail> {
+    goes_around(&rt, rt.alloc(), WAITS, Around::Waiting)?;
+    goes_around(&rt, rt.alloc(), MONITORED, Around::Monitoring)?;
+    goes_around(&rt, rt.alloc(), SHOWN, Around::Showing)
 }

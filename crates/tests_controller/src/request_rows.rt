@@ -3,6 +3,7 @@ use crate::bench::{MOST_ENTRIES, Row, all_hold, apply_entry, controller_of};
 use crate::compare::same;
 use controller::Controller;
 use monitor::DiagRecord;
+use std::alloc::Global;
 use std::process::Abort;
 use std::test::Fail;
 use var_access::{Entry, Reply, Request, What};
@@ -179,7 +180,7 @@ fn asked(request: Request) -> Entry {
 }
 
 /// Stops and restarts so often that one record more than 100 is made: two by each turn.
-fn make_records(
+fn write_records(
     rt: &impl Abort,
     controller: &mut Controller,
     out: &mut String,
@@ -189,6 +190,11 @@ fn make_records(
         apply_entry(rt, controller, out, asked(Request::Restart))?;
     }
     apply_entry(rt, controller, out, asked(Request::Stop))
+}
+
+fn make_records(rt: &impl Abort, alloc: Global, controller: &mut Controller) -> Result<(), Fail> {
+    let mut out = String::new(alloc);
+    write_records(rt, controller, &mut out)
 }
 
 /// Entry n made its record: a stop by the operator, or the restart behind it.
@@ -222,12 +228,15 @@ fn last_hundred(rt: &impl Abort, reply: &Reply) {
     }
 }
 
+fn asks_for_records(rt: &impl Abort, controller: &Controller) {
+    assert!(rt; controller.history_len() < MOST_ENTRIES);
+    last_hundred(rt, &controller.answer(&Request::Diag));
+}
+
 #[test]
 fn the_last_hundred_records(rt: HostRuntime) -> Result<(), Fail> {
     let mut controller = controller_of(rt.alloc(), "NOP #0")?;
-    let mut out = String::new(rt.alloc());
-    make_records(&rt, &mut controller, &mut out)?;
-    assert!(rt; controller.history_len() < MOST_ENTRIES);
-    last_hundred(&rt, &controller.answer(&Request::Diag));
+    make_records(&rt, rt.alloc(), &mut controller)?;
+    asks_for_records(&rt, &controller);
     Ok(())
 }

@@ -8,11 +8,13 @@ use std::process::Abort;
 use std::test::Fail;
 use var_access::{Entry, Request, Run, What};
 
-/// A worker, what it does and how often, in the order of a history, and the runs of the history: the
-/// place of each one's first entry, counted from 0, the worker, what happens, and how often.
+/// A run: the place of its first entry, counted from 0, the worker, what happens, and how often.
+type RunRow = (u64, u8, &'static str, u64);
+
+/// A worker, what it does and how often, in the order of a history, and the runs of the history.
 struct Row {
     entries: &'static [(u8, &'static str, u64)],
-    runs: &'static [(u64, u8, &'static str, u64)],
+    runs: &'static [RunRow],
 }
 
 static ROWS: [Row; 6] = [
@@ -142,7 +144,7 @@ fn enter_all(
 }
 
 /// The run, and the entries at its ends.
-fn has_run(rt: &impl Abort, controller: &Controller, got: &Run, want: &(u64, u8, &str, u64)) {
+fn has_run(rt: &impl Abort, controller: &Controller, got: &Run, want: &RunRow) {
     let (first, who, word, count) = *want;
     let last = first.saturating_add(count).saturating_sub(1);
     same(rt, "its place", (got.first, got.count), (first, count));
@@ -162,7 +164,7 @@ fn has_run(rt: &impl Abort, controller: &Controller, got: &Run, want: &(u64, u8,
 }
 
 /// The history has these runs.
-fn has_runs(rt: &impl Abort, controller: &Controller, wanted: &[(u64, u8, &str, u64)]) {
+fn has_runs(rt: &impl Abort, controller: &Controller, wanted: &[RunRow]) {
     let runs = controller.runs();
     same(rt, "how many runs", runs.len(), wanted.len());
     for (got, want) in runs.iter().zip(wanted) {
@@ -213,15 +215,25 @@ fn steps_in_a_row(rt: HostRuntime) -> Result<(), Fail> {
     rows_hold(rt.alloc(), &rt, true)
 }
 
+/// The run of a million steps.
+static MILLION: [RunRow; 1] = [(0, 1, "step", 1_000_000)];
+
 /// The first step begins OB 1, and no other shows anything.
+fn make_a_million_steps(rt: &impl Abort, controller: &mut Controller) -> Result<(), Fail> {
+    let step = Entry {
+        who: 1,
+        what: What::Step,
+    };
+    enter_each(rt, controller, &step, 1)?;
+    let made = pass_steps(rt, controller, &step, 999_999)?;
+    same(rt, "made", made, 999_999);
+    same(rt, "entries", controller.history_len(), 1_000_000);
+    has_runs(rt, controller, &MILLION);
+    Ok(())
+}
+
 #[test]
 fn a_million_steps_are_one_run(rt: HostRuntime) -> Result<(), Fail> {
     let mut controller = controller_of(rt.alloc(), QUIET)?;
-    let step = entry_of(1, "step");
-    enter_each(&rt, &mut controller, &step, 1)?;
-    let made = pass_steps(&rt, &mut controller, &step, 999_999)?;
-    same(&rt, "made", made, 999_999);
-    same(&rt, "entries", controller.history_len(), 1_000_000);
-    has_runs(&rt, &controller, &[(0, 1, "step", 1_000_000)]);
-    Ok(())
+    make_a_million_steps(&rt, &mut controller)
 }

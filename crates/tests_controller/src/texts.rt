@@ -4,10 +4,10 @@ use crate::compare::same;
 use event_text::{TextFault, read_history, read_script, read_stimuli};
 use flat_code::{NameEntry, Names};
 use plc_base::{Area, BlockId, BlockKind, Place, Width};
-use std::alloc::Global;
+use std::alloc::{AllocError, Global};
 use std::process::Abort;
 use std::test::Fail;
-use var_access::{Entry, Request, What};
+use var_access::{Entries, Entry, Request, What};
 
 /// The bytes of a short text.
 pub(crate) fn bytes_of<'a>(rt: &impl Abort, text: &'a str) -> &'a [u8]
@@ -17,19 +17,30 @@ pub(crate) fn bytes_of<'a>(rt: &impl Abort, text: &'a str) -> &'a [u8]
     text.as_bytes()
 }
 
-/// The names of a program that has one variable, Q 4.1.
-pub(crate) fn names(rt: &impl Abort, alloc: Global) -> Result<Names, Fail> {
+/// The variable Q 4.1 under the name LAMP.
+fn lamp(alloc: Global) -> Result<NameEntry, AllocError> {
+    let name = Vec::from_slice(alloc, b"LAMP")?;
+    let place = Place {
+        number: 0,
+        byte: 4,
+        area: Area::Q,
+        bit: 1,
+    };
+    let width = Width::Bit;
+    Ok(NameEntry { name, place, width })
+}
+
+/// A list of that variable alone.
+fn only_lamp(alloc: Global) -> Result<Vec<NameEntry>, Fail> {
+    let entry = lamp(alloc)?;
     let mut list = Vec::new(alloc);
-    list.push(NameEntry {
-        name: Vec::from_slice(alloc, b"LAMP")?,
-        place: Place {
-            number: 0,
-            byte: 4,
-            area: Area::Q,
-            bit: 1,
-        },
-        width: Width::Bit,
-    })?;
+    list.push(entry)?;
+    Ok(list)
+}
+
+/// The names of a program that has that variable.
+pub(crate) fn names(rt: &impl Abort, alloc: Global) -> Result<Names, Fail> {
+    let list = only_lamp(alloc)?;
     assert!(rt; Names::are_in_order(list.as_slice()));
     Ok(Names::new(list))
 }
@@ -48,26 +59,40 @@ enum Spelled {
     Diag,
 }
 
-fn what(spelled: Spelled) -> What {
-    let request = match spelled {
-        Spelled::Step => return What::Step,
-        Spelled::Input(byte, value) => return What::Input { byte, value },
-        Spelled::Arrive(ob, value) => return What::Arrive { ob, value },
-        Spelled::Tick(ms) => return What::Tick { ms },
-        Spelled::Stop => Request::Stop,
-        Spelled::Restart => Request::Restart,
-        Spelled::MonitorOn(kind, number) => Request::MonitorOn {
-            block: BlockId { kind, number },
-        },
-        Spelled::MonitorOff => Request::MonitorOff,
-        Spelled::Diag => Request::Diag,
-    };
+fn asked(request: Request) -> What {
     What::Ask { request }
 }
 
+fn what(spelled: Spelled) -> What {
+    match spelled {
+        Spelled::Step => What::Step,
+        Spelled::Input(byte, value) => What::Input { byte, value },
+        Spelled::Arrive(ob, value) => What::Arrive { ob, value },
+        Spelled::Tick(ms) => What::Tick { ms },
+        Spelled::Stop => asked(Request::Stop),
+        Spelled::Restart => asked(Request::Restart),
+        Spelled::MonitorOn(kind, number) => {
+            let block = BlockId { kind, number };
+            asked(Request::MonitorOn { block })
+        }
+        Spelled::MonitorOff => asked(Request::MonitorOff),
+        Spelled::Diag => asked(Request::Diag),
+    }
+}
+
+fn entry(who: u8, spelled: Spelled) -> Entry {
+    Entry {
+        who,
+        what: what(spelled),
+    }
+}
+
+/// A line, the worker of its entry, and what it spells.
+type Line = (&'static str, u8, Spelled);
+
 // Lines with one entry: each kind at both ends of its ranges, with blanks, tabs and zeros in front,
 // digits in either case.
-static LINES: [(&str, u8, Spelled); 22] = [
+static LINES: [Line; 22] = [
     ("in 0 01", 2, Spelled::Input(0, 1)),
     ("in 127 fF", 2, Spelled::Input(127, 255)),
     ("in 256 00", 2, Spelled::Input(256, 0)),
@@ -96,10 +121,13 @@ static LINES: [(&str, u8, Spelled); 22] = [
     ("\tstep", 1, Spelled::Step),
 ];
 
+/// A text, the first line that breaks a rule, and that rule.
+type Bad = (&'static str, u32, u16);
+
 // The first line that breaks a rule, and the least rule that it breaks. 1: not in the grammar. 2: a
 // number out of its range, too few or too many hexadecimal digits. 3: an unknown name. 4: a line of
 // another file. 5: an operator other than 1 to 4. 6: more than 1,000,000 steps.
-static BAD_HISTORIES: [(&str, u32, u16); 68] = [
+static BAD_STEPS_AND_INPUTS: [Bad; 27] = [
     (" ", 1, 1),
     ("\t", 1, 1),
     (" // a blank in front", 1, 1),
@@ -127,6 +155,9 @@ static BAD_HISTORIES: [(&str, u32, u16); 68] = [
     ("in 255 00", 1, 2),
     ("in 768 00", 1, 2),
     ("in 65536 00", 1, 2),
+];
+
+static BAD_ARRIVALS_AND_TICKS: [Bad; 15] = [
     ("arrive", 1, 1),
     ("arrive x", 1, 1),
     ("arrive 40 00000000 0", 1, 1),
@@ -142,6 +173,10 @@ static BAD_HISTORIES: [(&str, u32, u16); 68] = [
     ("tick 1 1", 1, 1),
     ("tick 0", 1, 2),
     ("tick 60001", 1, 2),
+];
+
+// Requests, lines of other files, and histories of several lines.
+static BAD_HISTORIES: [Bad; 26] = [
     ("op", 1, 1),
     ("op 1", 1, 1),
     ("op 5", 1, 1),
@@ -171,7 +206,7 @@ static BAD_HISTORIES: [(&str, u32, u16); 68] = [
 ];
 
 // Stimuli know no names, also not those of the program.
-static BAD_STIMULI: [(&str, u32, u16); 13] = [
+static BAD_STIMULI: [Bad; 13] = [
     ("halt", 1, 1),
     ("tick 0", 1, 2),
     ("step", 1, 4),
@@ -187,7 +222,7 @@ static BAD_STIMULI: [(&str, u32, u16); 13] = [
     ("in 0 00\narrive 40\nread M 0.8", 3, 2),
 ];
 
-static BAD_SCRIPTS: [(&str, u32, u16); 13] = [
+static BAD_SCRIPTS: [Bad; 13] = [
     ("halt", 1, 1),
     ("step", 1, 4),
     ("step 0", 1, 2),
@@ -207,123 +242,211 @@ fn bad(line: u32, rule: u16) -> Option<TextFault> {
     Some(TextFault::BadLine { line, rule })
 }
 
-#[test]
-fn lines_of_histories(rt: HostRuntime) -> Result<(), Fail> {
-    let names = names(&rt, rt.alloc())?;
-    for (line, who, spelled) in &LINES {
-        for end in ["", "\n", "\r\n"] {
-            let text = format!(in rt.alloc(); "{line}{end}")?;
-            let entry = Entry {
-                who: *who,
-                what: what(*spelled),
-            };
-            let read = read_history(rt.alloc(), bytes_of(&rt, text.as_str()), &names).ok();
-            let Some(entries) = read else {
-                same(&rt, *line, "refused", "read");
-                continue;
-            };
-            same(&rt, *line, entries.len(), 1);
-            same(&rt, *line, entries.entry(0), Some(entry));
+/// A text has no fault.
+pub(crate) fn has_none(rt: &impl Abort, text: &str, fault: TextFault) {
+    same(rt, text, Some(fault), None);
+}
+
+/// The entries are one.
+fn is_only_entry(rt: &impl Abort, text: &str, entries: &Entries, wanted: Entry) {
+    same(rt, text, entries.len(), 1);
+    same(rt, text, entries.entry(0), Some(wanted));
+}
+
+/// A text is a history of one entry.
+fn is_history_of(rt: &impl Abort, alloc: Global, names: &Names, text: &str, wanted: Entry) {
+    match read_history(alloc, bytes_of(rt, text), names) {
+        Ok(entries) => is_only_entry(rt, text, &entries, wanted),
+        Err(fault) => has_none(rt, text, fault),
+    }
+}
+
+static LINE_ENDS: [&str; 3] = ["", "\n", "\r\n"];
+
+/// A line with such an end is one entry.
+fn line_is_read(
+    rt: &impl Abort,
+    alloc: Global,
+    names: &Names,
+    line: &Line,
+    end: &str,
+) -> Result<(), AllocError> {
+    let (line, who, spelled) = *line;
+    let text = format!(in alloc; "{line}{end}")?;
+    is_history_of(rt, alloc, names, text.as_str(), entry(who, spelled));
+    Ok(())
+}
+
+fn lines_are_read(rt: &impl Abort, alloc: Global, names: &Names) -> Result<(), AllocError> {
+    for line in &LINES {
+        for end in &LINE_ENDS {
+            line_is_read(rt, alloc, names, line, end)?;
         }
     }
     Ok(())
 }
 
-// Empty texts, empty lines, lines that begin with `//`.
-#[test]
-fn texts_without_entries(rt: HostRuntime) -> Result<(), Fail> {
-    let names = names(&rt, rt.alloc())?;
-    for text in ["", "\n", "\r\n\r\n", "//", "// step\n", "\n//halt\r\n\n"] {
-        let bytes = bytes_of(&rt, text);
-        let history = read_history(rt.alloc(), bytes, &names).ok();
-        same(&rt, text, history.map(|entries| entries.len()), Some(0));
-        let stimuli = read_stimuli(rt.alloc(), bytes).ok();
-        same(&rt, text, stimuli.map(|entries| entries.len()), Some(0));
-        let script = read_script(rt.alloc(), bytes, 3, &names).ok();
-        same(&rt, text, script.map(|entries| entries.len()), Some(0));
-    }
-    Ok(())
-}
+/// A text, and how many runs and entries it has as a history.
+type Sizes = (&'static str, usize, u64);
 
 // A million steps are one run, whatever stands between them.
-#[test]
-fn most_steps(rt: HostRuntime) -> Result<(), Fail> {
-    let names = names(&rt, rt.alloc())?;
-    for (text, runs, len) in [
-        ("step 1000000", 1, 1_000_000),
-        ("step 999999\n\nstep\n// the end", 1, 1_000_000),
-        ("step 500000\ntick 1\nstep 500000\n", 3, 1_000_001),
-    ] {
-        let read = read_history(rt.alloc(), bytes_of(&rt, text), &names).ok();
-        let Some(entries) = read else {
-            same(&rt, text, "refused", "read");
-            continue;
-        };
-        same(&rt, text, entries.len(), len);
-        same(&rt, text, entries.runs().len(), runs);
+static MOST_STEPS: [Sizes; 3] = [
+    ("step 1000000", 1, 1_000_000),
+    ("step 999999\n\nstep\n// the end", 1, 1_000_000),
+    ("step 500000\ntick 1\nstep 500000\n", 3, 1_000_001),
+];
+
+// Empty texts, empty lines, lines that begin with `//`.
+static WITHOUT_ENTRIES: [&str; 6] = ["", "\n", "\r\n\r\n", "//", "// step\n", "\n//halt\r\n\n"];
+
+/// How many runs and entries a text has as a history.
+fn history_size(alloc: Global, bytes: &[u8], names: &Names) -> Option<(usize, u64)>
+    requires { length bytes.now ≤ 1000 }
+{
+    match read_history(alloc, bytes, names) {
+        Ok(entries) => Some((entries.runs().len(), entries.len())),
+        Err(_) => None,
     }
-    Ok(())
+}
+
+/// How many entries a text has as stimuli.
+fn stimuli_len(alloc: Global, bytes: &[u8]) -> Option<usize>
+    requires { length bytes.now ≤ 1000 }
+{
+    match read_stimuli(alloc, bytes) {
+        Ok(entries) => Some(entries.len()),
+        Err(_) => None,
+    }
+}
+
+/// How many entries a text has as a script.
+fn script_len(alloc: Global, bytes: &[u8], names: &Names) -> Option<usize>
+    requires { length bytes.now ≤ 1000 }
+{
+    match read_script(alloc, bytes, 3, names) {
+        Ok(entries) => Some(entries.len()),
+        Err(_) => None,
+    }
+}
+
+/// Texts of each kind without entries, and histories with the most steps.
+fn sizes_are_right(rt: &impl Abort, alloc: Global, names: &Names) {
+    for text in &WITHOUT_ENTRIES {
+        let bytes = bytes_of(rt, text);
+        same(rt, *text, history_size(alloc, bytes, names), Some((0, 0)));
+        same(rt, *text, stimuli_len(alloc, bytes), Some(0));
+        same(rt, *text, script_len(alloc, bytes, names), Some(0));
+    }
+    for (text, runs, len) in &MOST_STEPS {
+        let found = history_size(alloc, bytes_of(rt, text), names);
+        same(rt, *text, found, Some((*runs, *len)));
+    }
+}
+
+/// The entries are of this worker, and what happens is this.
+fn are_entries(rt: &impl Abort, text: &str, entries: &[Entry], who: u8, wanted: &[Spelled]) {
+    same(rt, text, entries.len(), wanted.len());
+    for (found, spelled) in entries.iter().zip(wanted) {
+        same(rt, text, *found, entry(who, *spelled));
+    }
+}
+
+/// What a text is read as.
+#[derive(Clone, Copy)]
+enum Kind {
+    History,
+    Stimuli,
+    Script,
+}
+
+fn fault_of(
+    rt: &impl Abort,
+    alloc: Global,
+    names: &Names,
+    kind: Kind,
+    text: &str,
+) -> Option<TextFault> {
+    let bytes = bytes_of(rt, text);
+    match kind {
+        Kind::History => read_history(alloc, bytes, names).err(),
+        Kind::Stimuli => read_stimuli(alloc, bytes).err(),
+        Kind::Script => read_script(alloc, bytes, 3, names).err(),
+    }
+}
+
+fn are_refused(rt: &impl Abort, alloc: Global, names: &Names, kind: Kind, rows: &[Bad]) {
+    for (text, line, rule) in rows {
+        let found = fault_of(rt, alloc, names, kind, text);
+        same(rt, *text, found, bad(*line, *rule));
+    }
+}
+
+// A proof carries the rows that its function names, so each of these names few.
+fn steps_and_inputs_are_refused(rt: &impl Abort, alloc: Global, names: &Names) {
+    are_refused(rt, alloc, names, Kind::History, &BAD_STEPS_AND_INPUTS);
+}
+
+fn arrivals_and_ticks_are_refused(rt: &impl Abort, alloc: Global, names: &Names) {
+    are_refused(rt, alloc, names, Kind::History, &BAD_ARRIVALS_AND_TICKS);
+}
+
+fn histories_are_refused(rt: &impl Abort, alloc: Global, names: &Names) {
+    are_refused(rt, alloc, names, Kind::History, &BAD_HISTORIES);
+}
+
+fn others_are_refused(rt: &impl Abort, alloc: Global, names: &Names) {
+    are_refused(rt, alloc, names, Kind::Stimuli, &BAD_STIMULI);
+    are_refused(rt, alloc, names, Kind::Script, &BAD_SCRIPTS);
+}
+
+const STIMULI: &str = "in 0 01\r\n\narrive 40 00000002\n// x\ntick 5";
+
+static STIMULI_SPELL: [Spelled; 3] = [
+    Spelled::Input(0, 1),
+    Spelled::Arrive(40, 2),
+    Spelled::Tick(5),
+];
+
+fn stimuli_are_read(rt: &impl Abort, alloc: Global) {
+    match read_stimuli(alloc, bytes_of(rt, STIMULI)) {
+        Ok(entries) => are_entries(rt, STIMULI, entries.as_slice(), 2, &STIMULI_SPELL),
+        Err(fault) => has_none(rt, STIMULI, fault),
+    }
+}
+
+const SCRIPT: &str = "stop\n\n//\r\nrestart\r\nmonitor off\ndiag";
+
+static SCRIPT_SPELLS: [Spelled; 4] = [
+    Spelled::Stop,
+    Spelled::Restart,
+    Spelled::MonitorOff,
+    Spelled::Diag,
+];
+
+fn script_is_read(rt: &impl Abort, alloc: Global, names: &Names) {
+    match read_script(alloc, bytes_of(rt, SCRIPT), 5, names) {
+        Ok(entries) => are_entries(rt, SCRIPT, entries.as_slice(), 5, &SCRIPT_SPELLS),
+        Err(fault) => has_none(rt, SCRIPT, fault),
+    }
+}
+
+fn texts_are_refused(rt: &impl Abort, alloc: Global, names: &Names) {
+    steps_and_inputs_are_refused(rt, alloc, names);
+    arrivals_and_ticks_are_refused(rt, alloc, names);
+    histories_are_refused(rt, alloc, names);
+    others_are_refused(rt, alloc, names);
+}
+
+fn texts_are_read(rt: &impl Abort, alloc: Global, names: &Names) -> Result<(), AllocError> {
+    sizes_are_right(rt, alloc, names);
+    stimuli_are_read(rt, alloc);
+    script_is_read(rt, alloc, names);
+    lines_are_read(rt, alloc, names)
 }
 
 #[test]
-fn refused_histories(rt: HostRuntime) -> Result<(), Fail> {
+fn texts_of_each_kind(rt: HostRuntime) -> Result<(), Fail> {
     let names = names(&rt, rt.alloc())?;
-    for (text, line, rule) in &BAD_HISTORIES {
-        let read = read_history(rt.alloc(), bytes_of(&rt, text), &names).err();
-        same(&rt, *text, read, bad(*line, *rule));
-    }
-    Ok(())
-}
-
-#[test]
-fn stimuli(rt: HostRuntime) -> Result<(), Fail> {
-    let text = "in 0 01\r\n\narrive 40 00000002\n// x\ntick 5";
-    let mut wanted = Vec::new(rt.alloc());
-    for what in [
-        What::Input { byte: 0, value: 1 },
-        What::Arrive { ob: 40, value: 2 },
-        What::Tick { ms: 5 },
-    ] {
-        wanted.push(Entry { who: 2, what })?;
-    }
-    same(
-        &rt,
-        text,
-        read_stimuli(rt.alloc(), bytes_of(&rt, text)).ok(),
-        Some(wanted),
-    );
-    for (text, line, rule) in &BAD_STIMULI {
-        let read = read_stimuli(rt.alloc(), bytes_of(&rt, text)).err();
-        same(&rt, *text, read, bad(*line, *rule));
-    }
-    Ok(())
-}
-
-#[test]
-fn scripts(rt: HostRuntime) -> Result<(), Fail> {
-    let names = names(&rt, rt.alloc())?;
-    let text = "stop\n\n//\r\nrestart\r\nmonitor off\ndiag";
-    let mut wanted = Vec::new(rt.alloc());
-    for request in [
-        Request::Stop,
-        Request::Restart,
-        Request::MonitorOff,
-        Request::Diag,
-    ] {
-        wanted.push(Entry {
-            who: 5,
-            what: What::Ask { request },
-        })?;
-    }
-    same(
-        &rt,
-        text,
-        read_script(rt.alloc(), bytes_of(&rt, text), 5, &names).ok(),
-        Some(wanted),
-    );
-    for (text, line, rule) in &BAD_SCRIPTS {
-        let read = read_script(rt.alloc(), bytes_of(&rt, text), 3, &names).err();
-        same(&rt, *text, read, bad(*line, *rule));
-    }
-    Ok(())
+    texts_are_refused(&rt, rt.alloc(), &names);
+    Ok(texts_are_read(&rt, rt.alloc(), &names)?)
 }

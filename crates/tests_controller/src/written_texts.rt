@@ -1,8 +1,9 @@
 use crate::bench::{MOST_ENTRIES, controller_of};
 use crate::compare::same;
-use crate::texts::{bytes_of, names};
+use crate::texts::{bytes_of, has_none, names};
 use controller::Controller;
 use event_text::{read_history, write_history};
+use flat_code::Names;
 use std::alloc::Global;
 use std::process::Abort;
 use std::test::Fail;
@@ -54,31 +55,68 @@ fn apply(rt: &impl Abort, controller: &mut Controller, entry: Entry) -> Result<(
     Ok(())
 }
 
-// The text of entries, as the history of a controller without a program.
-fn written(rt: &impl Abort, alloc: Global, entries: &Entries) -> Result<Vec<u8>, Fail> {
-    let mut controller = controller_of(alloc, "")?;
+fn apply_all(rt: &impl Abort, controller: &mut Controller, entries: &Entries) -> Result<(), Fail> {
     for place in 0..entries.len() {
         let Some(entry) = entries.entry(place) else {
             break;
         };
-        apply(rt, &mut controller, entry)?;
+        apply(rt, controller, entry)?;
     }
-    Ok(write_history(alloc, &controller)?)
+    Ok(())
+}
+
+/// A controller's history is written so.
+fn is_written(
+    rt: &impl Abort,
+    alloc: Global,
+    controller: &Controller,
+    wanted: &str,
+) -> Result<(), Fail> {
+    let out = write_history(alloc, controller)?;
+    same(rt, wanted, out.as_slice(), wanted.as_bytes());
+    Ok(())
+}
+
+/// Entries are written so, as the history of a controller without a program.
+fn are_written(
+    rt: &impl Abort,
+    alloc: Global,
+    entries: &Entries,
+    wanted: &str,
+) -> Result<(), Fail> {
+    let mut controller = controller_of(alloc, "")?;
+    apply_all(rt, &mut controller, entries)?;
+    is_written(rt, alloc, &controller, wanted)
+}
+
+/// A text is read and written.
+fn text_is_written(
+    rt: &impl Abort,
+    alloc: Global,
+    names: &Names,
+    row: &(&str, &str),
+) -> Result<(), Fail> {
+    let (text, wanted) = *row;
+    match read_history(alloc, bytes_of(rt, text), names) {
+        Ok(entries) => are_written(rt, alloc, &entries, wanted),
+        Err(fault) => {
+            has_none(rt, text, fault);
+            Ok(())
+        }
+    }
+}
+
+fn texts_are_written(rt: &impl Abort, alloc: Global, names: &Names) -> Result<(), Fail> {
+    for row in &WRITTEN {
+        text_is_written(rt, alloc, names, row)?;
+    }
+    Ok(())
 }
 
 #[test]
 fn written_histories(rt: HostRuntime) -> Result<(), Fail> {
     let names = names(&rt, rt.alloc())?;
-    for (text, wanted) in &WRITTEN {
-        let read = read_history(rt.alloc(), bytes_of(&rt, text), &names).ok();
-        let Some(entries) = read else {
-            same(&rt, *text, "refused", "read");
-            continue;
-        };
-        let out = written(&rt, rt.alloc(), &entries)?;
-        same(&rt, *text, out.as_slice(), wanted.as_bytes());
-    }
-    Ok(())
+    texts_are_written(&rt, rt.alloc(), &names)
 }
 
 fn step(who: u8) -> Entry {
@@ -92,20 +130,35 @@ fn stop(who: u8) -> Entry {
     Entry { who, what }
 }
 
+/// Workers, and whether each makes a step or asks for STOP.
+static IRREGULAR: [(u8, bool); 8] = [
+    (1, true),
+    (1, true),
+    (9, true),
+    (2, false),
+    (6, false),
+    (7, false),
+    (255, false),
+    (7, true),
+];
+
+fn apply_irregular(rt: &impl Abort, controller: &mut Controller) -> Result<(), Fail> {
+    for (who, steps) in &IRREGULAR {
+        if *steps {
+            apply(rt, controller, step(*who))?;
+        } else {
+            apply(rt, controller, stop(*who))?;
+        }
+    }
+    Ok(())
+}
+
 // Entries that no text spells: steps of two workers in a row, and requests of workers that are no
 // operators, which are written as those of operator 1.
 #[test]
 fn irregular_histories(rt: HostRuntime) -> Result<(), Fail> {
     let mut controller = controller_of(rt.alloc(), "")?;
-    for who in [1, 1, 9] {
-        apply(&rt, &mut controller, step(who))?;
-    }
-    for who in [2, 6, 7, 255] {
-        apply(&rt, &mut controller, stop(who))?;
-    }
-    apply(&rt, &mut controller, step(7))?;
-    let out = write_history(rt.alloc(), &controller)?;
+    apply_irregular(&rt, &mut controller)?;
     let text = "step 3\nop 1 stop\nop 4 stop\nop 1 stop\nop 1 stop\nstep 1\n";
-    same(&rt, text, out.as_slice(), text.as_bytes());
-    Ok(())
+    is_written(&rt, rt.alloc(), &controller, text)
 }
