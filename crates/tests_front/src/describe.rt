@@ -36,35 +36,41 @@ fn block_name(out: &mut String, name: &BlockName) -> Written {
     }
 }
 
-/// The bytes, each behind a blank.
-fn bytes(out: &mut String, bytes: &Characters) -> Written {
+/// This word, and the bytes, each behind a blank.
+fn word_and_bytes(out: &mut String, word: &str, bytes: &Characters) -> Written {
+    out.push_str(word)?;
     for byte in bytes.as_slice() {
         write!(out, " {byte}")?;
     }
     Ok(())
 }
 
-/// `Word 255`; a time is in milliseconds.
+/// The word and the number of a literal that is one; a time is in milliseconds.
+fn word_and_number(literal: &Literal) -> Option<(&'static str, i64)> {
+    match literal {
+        Literal::Number { value } => Some(("Number", i64::from(*value))),
+        Literal::Binary { value } => Some(("Binary", i64::from(*value))),
+        Literal::Byte { value } => Some(("Byte", i64::from(*value))),
+        Literal::Word { value } => Some(("Word", i64::from(*value))),
+        Literal::Dword { value } => Some(("Dword", i64::from(*value))),
+        Literal::Long { value } => Some(("Long", i64::from(*value))),
+        Literal::Count { value } => Some(("Count", i64::from(*value))),
+        Literal::Time { ms } => Some(("Time", i64::from(*ms))),
+        Literal::S5time { ms } => Some(("S5time", i64::from(*ms))),
+        _ => None,
+    }
+}
+
+/// `Word 255`.
 fn literal(out: &mut String, literal: &Literal) -> Written {
+    if let Some((word, number)) = word_and_number(literal) {
+        return write!(out, "{word} {number}");
+    }
     match literal {
         Literal::Truth { value } => write!(out, "Truth {value}"),
-        Literal::Number { value } => write!(out, "Number {value}"),
-        Literal::Binary { value } => write!(out, "Binary {value}"),
-        Literal::Byte { value } => write!(out, "Byte {value}"),
-        Literal::Word { value } => write!(out, "Word {value}"),
-        Literal::Dword { value } => write!(out, "Dword {value}"),
-        Literal::Long { value } => write!(out, "Long {value}"),
-        Literal::Count { value } => write!(out, "Count {value}"),
-        Literal::Time { ms } => write!(out, "Time {ms}"),
-        Literal::S5time { ms } => write!(out, "S5time {ms}"),
-        Literal::Characters { bytes: own } => {
-            out.push_str("Characters")?;
-            bytes(out, own)
-        }
-        Literal::Bytes { bytes: own } => {
-            out.push_str("Bytes")?;
-            bytes(out, own)
-        }
+        Literal::Characters { bytes } => word_and_bytes(out, "Characters", bytes),
+        Literal::Bytes { bytes } => word_and_bytes(out, "Bytes", bytes),
+        _ => Ok(()),
     }
 }
 
