@@ -228,15 +228,20 @@ fn last_hundred(rt: &impl Abort, reply: &Reply) {
     }
 }
 
-fn asks_for_records(rt: &impl Abort, controller: &Controller) {
+/// Makes the records, and asks for them.
+fn records_are_kept(
+    rt: &impl Abort,
+    alloc: Global,
+    controller: &mut Controller,
+) -> Result<(), Fail> {
+    make_records(rt, alloc, controller)?;
     assert!(rt; controller.history_len() < MOST_ENTRIES);
     last_hundred(rt, &controller.answer(&Request::Diag));
+    Ok(())
 }
 
 #[test]
 fn the_last_hundred_records(rt: HostRuntime) -> Result<(), Fail> {
     let mut controller = controller_of(rt.alloc(), "NOP #0")?;
-    make_records(&rt, rt.alloc(), &mut controller)?;
-    asks_for_records(&rt, &controller);
-    Ok(())
+    records_are_kept(&rt, rt.alloc(), &mut controller)
 }

@@ -191,11 +191,21 @@ fn enter_row(
     Ok(())
 }
 
+/// The entries of a row make its runs.
+fn makes_runs(
+    rt: &impl Abort,
+    controller: &mut Controller,
+    row: &Row,
+    in_a_row: bool,
+) -> Result<(), Fail> {
+    enter_row(rt, controller, row, in_a_row)?;
+    has_runs(rt, controller, row.runs);
+    Ok(())
+}
+
 fn row_holds(alloc: Global, rt: &impl Abort, row: &Row, in_a_row: bool) -> Result<(), Fail> {
     let mut controller = controller_of(alloc, QUIET)?;
-    enter_row(rt, &mut controller, row, in_a_row)?;
-    has_runs(rt, &controller, row.runs);
-    Ok(())
+    makes_runs(rt, &mut controller, row, in_a_row)
 }
 
 fn rows_hold(alloc: Global, rt: &impl Abort, in_a_row: bool) -> Result<(), Fail> {

@@ -77,6 +77,18 @@ fn is_written(
     Ok(())
 }
 
+/// Applies entries, which are written so.
+fn apply_and_write(
+    rt: &impl Abort,
+    alloc: Global,
+    controller: &mut Controller,
+    entries: &Entries,
+    wanted: &str,
+) -> Result<(), Fail> {
+    apply_all(rt, controller, entries)?;
+    is_written(rt, alloc, controller, wanted)
+}
+
 /// Entries are written so, as the history of a controller without a program.
 fn are_written(
     rt: &impl Abort,
@@ -85,8 +97,7 @@ fn are_written(
     wanted: &str,
 ) -> Result<(), Fail> {
     let mut controller = controller_of(alloc, "")?;
-    apply_all(rt, &mut controller, entries)?;
-    is_written(rt, alloc, &controller, wanted)
+    apply_and_write(rt, alloc, &mut controller, entries, wanted)
 }
 
 /// A text is read and written.
@@ -155,10 +166,18 @@ fn apply_irregular(rt: &impl Abort, controller: &mut Controller) -> Result<(), F
 
 // Entries that no text spells: steps of two workers in a row, and requests of workers that are no
 // operators, which are written as those of operator 1.
+fn irregular_is_written(
+    rt: &impl Abort,
+    alloc: Global,
+    controller: &mut Controller,
+) -> Result<(), Fail> {
+    apply_irregular(rt, controller)?;
+    let text = "step 3\nop 1 stop\nop 4 stop\nop 1 stop\nop 1 stop\nstep 1\n";
+    is_written(rt, alloc, controller, text)
+}
+
 #[test]
 fn irregular_histories(rt: HostRuntime) -> Result<(), Fail> {
     let mut controller = controller_of(rt.alloc(), "")?;
-    apply_irregular(&rt, &mut controller)?;
-    let text = "step 3\nop 1 stop\nop 4 stop\nop 1 stop\nop 1 stop\nstep 1\n";
-    is_written(&rt, rt.alloc(), &controller, text)
+    irregular_is_written(&rt, rt.alloc(), &mut controller)
 }
