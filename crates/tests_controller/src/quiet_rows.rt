@@ -118,12 +118,23 @@ fn write_row(
     }
 }
 
+/// The text of all entries of a row, made by a controller.
+fn text_by(
+    alloc: Global,
+    rt: &impl Abort,
+    controller: &mut Controller,
+    row: &Row,
+    in_a_row: bool,
+) -> Result<String, Fail> {
+    let mut out = String::new(alloc);
+    write_row(rt, controller, &mut out, row, in_a_row)?;
+    Ok(out)
+}
+
 /// The text of all entries of a row.
 fn text(alloc: Global, rt: &impl Abort, row: &Row, in_a_row: bool) -> Result<String, Fail> {
     let mut controller = controller_of(alloc, row.0)?;
-    let mut out = String::new(alloc);
-    write_row(rt, &mut controller, &mut out, row, in_a_row)?;
-    Ok(out)
+    text_by(alloc, rt, &mut controller, row, in_a_row)
 }
 
 /// The text of a row is as it says.
