@@ -2,8 +2,12 @@
 
 ghost use Rattle.std.specs.Prelude.{◌<◌, IfSome};
 
+use crate::compare::same;
 use image_file::{LoadError, LoadFault, load};
 use std::alloc::{AllocError, Global};
+use std::fmt::Debug;
+use std::process::Abort;
+use std::test::Fail;
 
 /// A parameter: section (1 IN, 2 OUT, 3 IN_OUT), width (1 bit to 4 double word), byte.
 pub type Parameter = (u8, u8, u16);
@@ -168,6 +172,40 @@ pub fn put_data(out: &mut Vec<u8>, data: &Data) -> Result<(), AllocError> {
     Ok(())
 }
 
+/// The bytes of hexadecimal digits.
+pub fn bytes_of(alloc: Global, text: &str) -> Result<Vec<u8>, AllocError> {
+    let mut bytes = Vec::new(alloc);
+    put_hex(&mut bytes, text)?;
+    Ok(bytes)
+}
+
+/// Appends a code block.
+fn put_block(out: &mut Vec<u8>, alloc: Global, block: &Block) -> Result<(), AllocError> {
+    let code = bytes_of(alloc, block.code)?;
+    let statements = block.code.split(';').count();
+    put_code_block(out, block, code.as_slice(), short(statements))
+}
+
+/// Appends these records.
+fn put_records(
+    out: &mut Vec<u8>,
+    alloc: Global,
+    blocks: &[Block],
+    datas: &[Data],
+    names: &[&str],
+) -> Result<(), AllocError> {
+    for block in blocks {
+        put_block(out, alloc, block)?;
+    }
+    for data in datas {
+        put_data(out, data)?;
+    }
+    for name in names {
+        put_hex(out, name)?;
+    }
+    Ok(())
+}
+
 /// An image of these records; each name is a record in hexadecimal.
 pub fn image(
     alloc: Global,
@@ -176,27 +214,27 @@ pub fn image(
     names: &[&str],
 ) -> Result<Vec<u8>, AllocError> {
     let mut body = Vec::new(alloc);
-    for block in blocks {
-        let mut code = Vec::new(alloc);
-        put_hex(&mut code, block.code)?;
-        let statements = block.code.split(';').count();
-        put_code_block(&mut body, block, code.as_slice(), short(statements))?;
-    }
-    for data in datas {
-        put_data(&mut body, data)?;
-    }
-    for name in names {
-        put_hex(&mut body, name)?;
-    }
-    let mut image = Vec::new(alloc);
-    put_header(
-        &mut image,
-        long(body.len() + 20),
+    put_records(&mut body, alloc, blocks, datas, names)?;
+    with_header(
+        alloc,
+        body.as_slice(),
         short(blocks.len()),
         short(datas.len()),
         short(names.len()),
-    )?;
-    image.extend_from_slice(body.as_slice())?;
+    )
+}
+
+/// The image of so many records.
+fn with_header(
+    alloc: Global,
+    body: &[u8],
+    blocks: u16,
+    datas: u16,
+    names: u16,
+) -> Result<Vec<u8>, AllocError> {
+    let mut image = Vec::new(alloc);
+    put_header(&mut image, long(body.len() + 20), blocks, datas, names)?;
+    image.extend_from_slice(body)?;
     Ok(image)
 }
 
@@ -212,4 +250,30 @@ pub fn fault_of(alloc: Global, bytes: &[u8]) -> (u32, u16) {
         ) => (at, code),
         Err(LoadError::NoMemory) => (0, 11),
     }
+}
+
+/// Bytes have this fault.
+pub fn have_fault(
+    rt: &impl Abort,
+    alloc: Global,
+    what: impl Debug + Drop,
+    bytes: &[u8],
+    fault: (u32, u16),
+) {
+    same(rt, what, fault_of(alloc, bytes), fault);
+}
+
+/// The image of these records has this fault.
+pub fn records_have_fault(
+    rt: &impl Abort,
+    alloc: Global,
+    what: impl Debug + Drop,
+    blocks: &[Block],
+    datas: &[Data],
+    names: &[&str],
+    fault: (u32, u16),
+) -> Result<(), Fail> {
+    let bytes = image(alloc, blocks, datas, names)?;
+    have_fault(rt, alloc, what, bytes.as_slice(), fault);
+    Ok(())
 }

@@ -1,5 +1,7 @@
 use crate::compare::same;
 use image_file::{LoadError, LoadFault, load};
+use std::alloc::Global;
+use std::process::Abort;
 use std::test::Fail;
 
 /// The image of an OB 1 with `JU x;` and `x: T DB10.DBW 2;`, and of a DB 10 of four bytes.
@@ -12,7 +14,9 @@ pub static EXAMPLE: [u8; 80] = [
 ];
 
 /// One byte of the example altered, and the fault: offset and code; 0 for none.
-static ALTERED: [(usize, u8, u32, u16); 25] = [
+type Altered = (usize, u8, u32, u16);
+
+static ALTERED: [Altered; 25] = [
     (0, 0x53, 0, 0),
     (0, 0x54, 0, 1),
     (5, 0x03, 4, 2),
@@ -40,29 +44,38 @@ static ALTERED: [(usize, u8, u32, u16); 25] = [
     (73, 0x03, 79, 10),
 ];
 
-fn fault_of(rt: &HostRuntime, bytes: &[u8]) -> Option<LoadFault> {
-    match load(rt.alloc(), bytes) {
+fn fault_of(alloc: Global, bytes: &[u8]) -> Option<LoadFault> {
+    match load(alloc, bytes) {
         Ok(_) => None,
         Err(LoadError::Fault { fault }) => Some(fault),
         Err(LoadError::NoMemory) => Some(LoadFault { at: 0, code: 0 }),
     }
 }
 
-#[test]
-fn altered_images(rt: HostRuntime) -> Result<(), Fail> {
-    for (place, byte, at, code) in ALTERED {
-        let mut bytes = EXAMPLE;
-        if place < 80 {
-            bytes[place] = byte;
-        }
-        let wanted = if code == 0 {
-            None
-        } else {
-            Some(LoadFault { at, code })
-        };
-        same(&rt, (place, byte), fault_of(&rt, &bytes), wanted);
+/// The fault of a row; its code is 0 where there is none.
+fn wanted(at: u32, code: u16) -> Option<LoadFault> {
+    if code == 0 {
+        None
+    } else {
+        Some(LoadFault { at, code })
     }
-    Ok(())
+}
+
+/// The example with a byte altered has the row's fault.
+fn is_altered(rt: &impl Abort, alloc: Global, row: &Altered) {
+    let (place, byte, at, code) = *row;
+    let mut bytes = EXAMPLE;
+    if place < 80 {
+        bytes[place] = byte;
+    }
+    same(rt, (place, byte), fault_of(alloc, &bytes), wanted(at, code));
+}
+
+#[test]
+fn altered_images(rt: HostRuntime) {
+    for row in &ALTERED {
+        is_altered(&rt, rt.alloc(), row);
+    }
 }
 
 /// A byte behind the total length.
@@ -70,25 +83,27 @@ fn altered_images(rt: HostRuntime) -> Result<(), Fail> {
 fn longer_image(rt: HostRuntime) -> Result<(), Fail> {
     let mut bytes = Vec::from_slice(rt.alloc(), &EXAMPLE)?;
     bytes.push(0)?;
-    let wanted = Some(LoadFault { at: 80, code: 10 });
-    same(&rt, "81 bytes", fault_of(&rt, bytes.as_slice()), wanted);
+    let found = fault_of(rt.alloc(), bytes.as_slice());
+    same(&rt, "81 bytes", found, wanted(80, 10));
     Ok(())
 }
 
-#[test]
-fn cut_images(rt: HostRuntime) -> Result<(), Fail> {
-    for (len, at) in [
-        (0_usize, 0_u32),
-        (3, 0),
-        (5, 4),
-        (7, 6),
-        (11, 8),
-        (12, 8),
-        (79, 8),
-    ] {
-        let (bytes, _) = EXAMPLE.split_at(len);
-        let wanted = Some(LoadFault { at, code: 3 });
-        same(&rt, len, fault_of(&rt, bytes), wanted);
+/// Lengths, and the offset of the field that can't be read.
+static CUT: [(usize, u32); 7] = [(0, 0), (3, 0), (5, 4), (7, 6), (11, 8), (12, 8), (79, 8)];
+
+/// The example cut off at a length.
+fn cut(len: usize) -> &'static [u8] {
+    if len < 80 {
+        EXAMPLE.split_at(len).0
+    } else {
+        &EXAMPLE
     }
-    Ok(())
+}
+
+#[test]
+fn cut_images(rt: HostRuntime) {
+    for (len, at) in &CUT {
+        let found = fault_of(rt.alloc(), cut(*len));
+        same(&rt, *len, found, wanted(*at, 3));
+    }
 }

@@ -1,8 +1,10 @@
 //! Faults 7 that need the blocks that are called.
 
-use crate::building::{Block, Parameter, db, fault_of, fb, fc, image, ob};
+use crate::building::{
+    Block, Parameter, db, fault_of, fb, fc, have_fault, image, ob, records_have_fault,
+};
 use crate::compare::same;
-use std::alloc::Global;
+use std::alloc::{AllocError, Global};
 use std::process::Abort;
 use std::test::Fail;
 
@@ -13,30 +15,42 @@ const WORD_WORD_BYTE: &[Parameter] = &[(1, 3, 0), (3, 3, 0), (2, 2, 0)];
 
 const BIT_BYTE_DWORD: &[Parameter] = &[(1, 1, 0), (1, 2, 0), (1, 4, 0)];
 
-/// Rows before FC 1 (IN word, IN_OUT word, OUT byte), FC 2 (no parameter), FC 3 (IN bit, byte and
+/// A row before FC 1 (IN word, IN_OUT word, OUT byte), FC 2 (no parameter), FC 3 (IN bit, byte and
 /// double word), FB 1 (four bytes; IN word, OUT word), FB 2 (no parameter), FB 3 (20 bytes, no
-/// parameter), and the data blocks 5 (four bytes), 6 (three bytes) and 10 (four bytes). The code of
-/// OB 1 begins at offset 36.
+/// parameter), and the data blocks 5 (four bytes), 6 (three bytes) and 10 (four bytes).
+fn image_of(alloc: Global, code: &'static str) -> Result<Vec<u8>, AllocError> {
+    let blocks = [
+        ob(code),
+        fc(1, WORD_WORD_BYTE, "FB 00"),
+        fc(2, &[], "FB 00"),
+        fc(3, BIT_BYTE_DWORD, "FB 00"),
+        fb(1, 4, &[(1, 3, 0), (2, 3, 2)], "FB 00"),
+        fb(2, 0, &[], "FB 00"),
+        fb(3, 20, &[], "FB 00"),
+    ];
+    image(alloc, &blocks, &[db(5, 4), db(6, 3), db(10, 4)], &[])
+}
+
+/// The fault of a row; the code of OB 1 begins at offset 36.
+fn wanted(at: u32, faulty: bool) -> (u64, u16) {
+    if faulty {
+        (36 + u64::from(at), 7)
+    } else {
+        (0, 0)
+    }
+}
+
+fn agrees(rt: &impl Abort, alloc: Global, row: &Row) -> Result<(), Fail> {
+    let (code, at, faulty) = *row;
+    let bytes = image_of(alloc, code)?;
+    let (found_at, found) = fault_of(alloc, bytes.as_slice());
+    same(rt, code, (u64::from(found_at), found), wanted(at, faulty));
+    Ok(())
+}
+
 fn agree(rt: &impl Abort, alloc: Global, rows: &[Row]) -> Result<(), Fail> {
     for row in rows {
-        let (code, at, faulty) = *row;
-        let blocks = [
-            ob(code),
-            fc(1, WORD_WORD_BYTE, "FB 00"),
-            fc(2, &[], "FB 00"),
-            fc(3, BIT_BYTE_DWORD, "FB 00"),
-            fb(1, 4, &[(1, 3, 0), (2, 3, 2)], "FB 00"),
-            fb(2, 0, &[], "FB 00"),
-            fb(3, 20, &[], "FB 00"),
-        ];
-        let bytes = image(alloc, &blocks, &[db(5, 4), db(6, 3), db(10, 4)], &[])?;
-        let wanted = if faulty {
-            (36 + u64::from(at), 7)
-        } else {
-            (0, 0)
-        };
-        let (found_at, found) = fault_of(alloc, bytes.as_slice());
-        same(rt, code, (u64::from(found_at), found), wanted);
+        agrees(rt, alloc, row)?;
     }
     Ok(())
 }
@@ -249,26 +263,61 @@ fn system_functions(rt: HostRuntime) -> Result<(), Fail> {
     agree(&rt, rt.alloc(), &SYSTEM)
 }
 
+const INPUT: &str = "04 0B 00 05 00 03 F8 0D 02 0002 0000; FB 00";
+
+const OUTPUT: &str = "04 0B 00 05 01 03 F8 0D 02 0002 0000; FB 00";
+
+/// The code of FC 1, the parameter of FC 2, and the fault.
+type PassedOn = (&'static str, &'static [Parameter], (u32, u16));
+
+static PASSED_ON: [PassedOn; 6] = [
+    (INPUT, &[(1, 3, 0)], (0, 0)),
+    (INPUT, &[(2, 3, 0)], (48, 7)),
+    (INPUT, &[(3, 3, 0)], (48, 7)),
+    (INPUT, &[(1, 4, 0)], (48, 7)),
+    (OUTPUT, &[(2, 3, 0)], (0, 0)),
+    (OUTPUT, &[(3, 3, 0)], (0, 0)),
+];
+
+fn is_passed_on(rt: &impl Abort, alloc: Global, row: &PassedOn) -> Result<(), Fail> {
+    let (code, params, fault) = *row;
+    let blocks = [fc(1, &[(1, 3, 0), (2, 3, 0)], code), fc(2, params, "FB 00")];
+    let bytes = image(alloc, &blocks, &[], &[])?;
+    have_fault(rt, alloc, (code, params), bytes.as_slice(), fault);
+    Ok(())
+}
+
 /// What FC 1 with the parameters IN word and OUT word passes to FC 2, whose parameter has this
 /// section; the code of FC 1 begins at offset 48.
 #[test]
 fn parameters_passed_on(rt: HostRuntime) -> Result<(), Fail> {
-    let input = "04 0B 00 05 00 03 F8 0D 02 0002 0000; FB 00";
-    let output = "04 0B 00 05 01 03 F8 0D 02 0002 0000; FB 00";
-    let rows: [(&'static str, &'static [Parameter], (u32, u16)); 6] = [
-        (input, &[(1, 3, 0)], (0, 0)),
-        (input, &[(2, 3, 0)], (48, 7)),
-        (input, &[(3, 3, 0)], (48, 7)),
-        (input, &[(1, 4, 0)], (48, 7)),
-        (output, &[(2, 3, 0)], (0, 0)),
-        (output, &[(3, 3, 0)], (0, 0)),
-    ];
-    for (code, params, fault) in rows {
-        let blocks: [Block; 2] = [fc(1, &[(1, 3, 0), (2, 3, 0)], code), fc(2, params, "FB 00")];
-        let bytes = image(rt.alloc(), &blocks, &[], &[])?;
-        let found = fault_of(rt.alloc(), bytes.as_slice());
-        same(&rt, (code, params), found, fault);
+    for row in &PASSED_ON {
+        is_passed_on(&rt, rt.alloc(), row)?;
     }
+    Ok(())
+}
+
+/// An OB 1 that calls an absent function, at offset 36.
+fn absent() -> Block {
+    ob("F8 0D 02 0009 0000; FB 00")
+}
+
+const NAME: &str = "02 41 42 81 01 0000 00";
+
+/// The absent function before a data block, whose bytes begin at 61, and a name, which begins at 65.
+fn whole_image(alloc: Global) -> Result<Vec<u8>, AllocError> {
+    image(alloc, &[absent()], &[db(10, 4)], &[NAME])
+}
+
+/// That image, cut off at a length, which is its total length then.
+fn is_cut(rt: &impl Abort, alloc: Global, len: u32, fault: (u32, u16)) -> Result<(), Fail> {
+    let mut bytes = whole_image(alloc)?;
+    bytes.truncate(len as usize);
+    if bytes.len() > 11 {
+        bytes[10] = 0;
+        bytes[11] = (len % 256) as u8;
+    }
+    have_fault(rt, alloc, len, bytes.as_slice(), fault);
     Ok(())
 }
 
@@ -276,25 +325,14 @@ fn parameters_passed_on(rt: HostRuntime) -> Result<(), Fail> {
 /// something behind it can't be read.
 #[test]
 fn calls_beside_other_faults(rt: HostRuntime) -> Result<(), Fail> {
-    let absent = ob("F8 0D 02 0009 0000; FB 00");
-    let name = "02 41 42 81 01 0000 00";
-    let whole = image(rt.alloc(), &[absent], &[db(10, 4)], &[name])?;
-    let found = fault_of(rt.alloc(), whole.as_slice());
-    same(&rt, "the absent function alone", found, (36, 7));
+    let alloc = rt.alloc();
+    let datas = [db(10, 4)];
+    let alone = "the absent function alone";
+    records_have_fault(&rt, alloc, alone, &[absent()], &datas, &[NAME], (36, 7))?;
     // The second function has a fault 5 at its only op, which begins at 53 + 16.
-    let bad = fc(1, &[], "80 00");
-    let bytes = image(rt.alloc(), &[absent, bad], &[], &[])?;
-    let found = fault_of(rt.alloc(), bytes.as_slice());
-    same(&rt, "a second function", found, (69, 5));
-    // Cut off within the name, which begins at 65, and within the data block's bytes, which begin at 61.
-    for (len, fault) in [(70_u32, (36, 7)), (64, (61, 3))] {
-        let mut bytes = image(rt.alloc(), &[absent], &[db(10, 4)], &[name])?;
-        bytes.truncate(len as usize);
-        if bytes.len() > 11 {
-            bytes[10] = 0;
-            bytes[11] = (len % 256) as u8;
-        }
-        same(&rt, len, fault_of(rt.alloc(), bytes.as_slice()), fault);
-    }
-    Ok(())
+    let blocks = [absent(), fc(1, &[], "80 00")];
+    records_have_fault(&rt, alloc, "a second function", &blocks, &[], &[], (69, 5))?;
+    // Cut off within the name, and within the data block's bytes.
+    is_cut(&rt, alloc, 70, (36, 7))?;
+    is_cut(&rt, alloc, 64, (61, 3))
 }

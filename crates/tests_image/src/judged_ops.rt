@@ -1,6 +1,6 @@
 //! Faults 5 to 8 that an op has by itself, its statement and its block.
 
-use crate::building::{db, fault_of, fb, fc, image, ob};
+use crate::building::{Block, Data, db, fault_of, fb, fc, image, ob, records_have_fault};
 use crate::compare::same;
 use std::alloc::Global;
 use std::process::Abort;
@@ -9,14 +9,40 @@ use std::test::Fail;
 /// The code of a block, the offset in the code of its fault, and the fault's code; 0 for none.
 type Row = (&'static str, u32, u16);
 
+/// A row's fault, in code that begins at an offset of the image.
+fn wanted(start: u32, at: u32, fault: u16) -> (u64, u16) {
+    if fault == 0 {
+        (0, 0)
+    } else {
+        (u64::from(start) + u64::from(at), fault)
+    }
+}
+
+/// The image of these blocks has the fault of a row, whose code begins at an offset.
+fn agrees(
+    rt: &impl Abort,
+    alloc: Global,
+    row: &Row,
+    start: u32,
+    block: Block,
+    datas: &[Data],
+) -> Result<(), Fail> {
+    let (code, at, fault) = *row;
+    let bytes = image(alloc, &[block], datas, &[])?;
+    let (found_at, found) = fault_of(alloc, bytes.as_slice());
+    same(
+        rt,
+        code,
+        (u64::from(found_at), found),
+        wanted(start, at, fault),
+    );
+    Ok(())
+}
+
 /// Rows as the code of an OB 1 with 20 local bytes, which begins at offset 36, before a DB 10.
 fn agree_in_ob(rt: &impl Abort, alloc: Global, rows: &[Row]) -> Result<(), Fail> {
     for row in rows {
-        let (code, at, fault) = *row;
-        let bytes = image(alloc, &[ob(code)], &[db(10, 4)], &[])?;
-        let at = if fault == 0 { 0 } else { 36 + u64::from(at) };
-        let (found_at, found) = fault_of(alloc, bytes.as_slice());
-        same(rt, code, (u64::from(found_at), found), (at, fault));
+        agrees(rt, alloc, row, 36, ob(row.0), &[db(10, 4)])?;
     }
     Ok(())
 }
@@ -303,35 +329,33 @@ static FUNCTION: [Row; 15] = [
 
 #[test]
 fn parameters_of_a_function(rt: HostRuntime) -> Result<(), Fail> {
-    for row in FUNCTION {
-        let (code, at, fault) = row;
-        let block = fc(1, &[(1, 3, 0), (3, 3, 0), (2, 1, 0)], code);
-        let bytes = image(rt.alloc(), &[block], &[], &[])?;
-        let at = if fault == 0 { 0 } else { 54 + u64::from(at) };
-        let (found_at, found) = fault_of(rt.alloc(), bytes.as_slice());
-        same(&rt, code, (u64::from(found_at), found), (at, fault));
+    for row in &FUNCTION {
+        let block = fc(1, &[(1, 3, 0), (3, 3, 0), (2, 1, 0)], row.0);
+        agrees(&rt, rt.alloc(), row, 54, block, &[])?;
     }
     Ok(())
 }
 
+/// The code of a function whose input is one bit, and the fault.
+static WRITTEN: [(&str, (u32, u16)); 6] = [
+    ("90 05 00 01; FB 00", (0, 0)),
+    ("A2 05 00 01; FB 00", (42, 7)),
+    ("A3 05 00 01; FB 00", (42, 7)),
+    ("A4 05 00 01; FB 00", (42, 7)),
+    ("A5 05 00 01; FB 00", (42, 7)),
+    ("A6 05 00 01; FB 00", (42, 7)),
+];
+
 /// The instructions that write their operand, at an input of one bit: =, S, R, FP, FN.
 #[test]
 fn written_inputs(rt: HostRuntime) -> Result<(), Fail> {
-    for (code, fault) in [
-        ("90 05 00 01; FB 00", (0, 0)),
-        ("A2 05 00 01; FB 00", (42, 7)),
-        ("A3 05 00 01; FB 00", (42, 7)),
-        ("A4 05 00 01; FB 00", (42, 7)),
-        ("A5 05 00 01; FB 00", (42, 7)),
-        ("A6 05 00 01; FB 00", (42, 7)),
-    ] {
+    let alloc = rt.alloc();
+    for row in &WRITTEN {
+        let (code, fault) = *row;
         let block = fc(1, &[(1, 1, 0)], code);
-        let bytes = image(rt.alloc(), &[block], &[], &[])?;
-        same(&rt, code, fault_of(rt.alloc(), bytes.as_slice()), fault);
+        records_have_fault(&rt, alloc, code, &[block], &[], &[], fault)?;
     }
     let block = fb(1, 2, &[(1, 1, 0)], "90 05 00 01; FB 00");
-    let bytes = image(rt.alloc(), &[block], &[], &[])?;
-    let found = fault_of(rt.alloc(), bytes.as_slice());
-    same(&rt, "a function block's input", found, (42, 7));
-    Ok(())
+    let what = "a function block's input";
+    records_have_fault(&rt, alloc, what, &[block], &[], &[], (42, 7))
 }

@@ -4,6 +4,7 @@ use crate::compare::same;
 use flat_code::{JUMPS, NameEntry, Names, condition_of, flag_of, jump_of};
 use plc_base::{Area, Place, Width};
 use std::alloc::{AllocError, Global};
+use std::process::Abort;
 use std::test::*;
 
 fn entry(alloc: Global, name: &[u8], byte: u16) -> Result<NameEntry, AllocError> {
@@ -21,54 +22,67 @@ fn entry(alloc: Global, name: &[u8], byte: u16) -> Result<NameEntry, AllocError>
     })
 }
 
-#[test]
-fn names_without_case(rt: HostRuntime) -> Result<(), Fail> {
-    let mut list = Vec::new(rt.alloc());
-    let spelled: [&[u8]; 5] = [b"A", b"A B", b"MOTOR_1", b"MOTOR_10", b"Z\xC4"];
-    for (byte, name) in spelled.iter().enumerate() {
-        list.push(entry(rt.alloc(), name, byte as u16)?)?;
+/// Entries of names, their bytes 0, 1, 2 and so on.
+fn entries(alloc: Global, names: &[&[u8]]) -> Result<Vec<NameEntry>, AllocError> {
+    let mut list = Vec::new(alloc);
+    for (byte, name) in names.iter().enumerate() {
+        list.push(entry(alloc, name, (byte % 65_536) as u16)?)?;
     }
-    assert!(rt; Names::are_in_order(list.as_slice()));
-    let names = Names::new(list);
-    same(&rt, "names", names.as_slice().len(), 5);
-    let rows: [(&[u8], Option<u16>); 12] = [
-        (b"a", Some(0)),
-        (b"A", Some(0)),
-        (b"a b", Some(1)),
-        (b"Motor_1", Some(2)),
-        (b"MOTOR_10", Some(3)),
-        (b"z\xC4", Some(4)),
-        (b"z\xE4", None),
-        (b"", None),
-        (b"A ", None),
-        (b"MOTOR", None),
-        (b"MOTOR_2", None),
-        (b"ZZ", None),
-    ];
-    for (name, byte) in rows {
+    Ok(list)
+}
+
+static SPELLED: [&[u8]; 5] = [b"A", b"A B", b"MOTOR_1", b"MOTOR_10", b"Z\xC4"];
+
+/// What is looked for, and the byte of the name that is found.
+static FOUND: [(&[u8], Option<u16>); 12] = [
+    (b"a", Some(0)),
+    (b"A", Some(0)),
+    (b"a b", Some(1)),
+    (b"Motor_1", Some(2)),
+    (b"MOTOR_10", Some(3)),
+    (b"z\xC4", Some(4)),
+    (b"z\xE4", None),
+    (b"", None),
+    (b"A ", None),
+    (b"MOTOR", None),
+    (b"MOTOR_2", None),
+    (b"ZZ", None),
+];
+
+fn are_found(rt: &impl Abort, names: &Names) {
+    same(rt, "names", names.as_slice().len(), 5);
+    for (name, byte) in &FOUND {
         let found = names.find(name).map(|found| found.0.byte);
-        same(&rt, name, found, byte);
+        same(rt, *name, found, *byte);
     }
-    Ok(())
 }
 
 #[test]
+fn names_without_case(rt: HostRuntime) -> Result<(), Fail> {
+    let list = entries(rt.alloc(), &SPELLED)?;
+    assert!(rt; Names::are_in_order(list.as_slice()));
+    let names = Names::new(list);
+    are_found(&rt, &names);
+    Ok(())
+}
+
+/// Names, and whether they are in order.
+static ORDERED: [(&[&[u8]], bool); 7] = [
+    (&[], true),
+    (&[b""], false),
+    (&[b"A", b"B"], true),
+    (&[b"B", b"A"], false),
+    (&[b"A", b"A"], false),
+    (&[b"a"], false),
+    (&[b"A", b"Bz"], false),
+];
+
+#[test]
 fn names_in_order(rt: HostRuntime) -> Result<(), Fail> {
-    let rows: [(&[&[u8]], bool); 7] = [
-        (&[], true),
-        (&[b""], false),
-        (&[b"A", b"B"], true),
-        (&[b"B", b"A"], false),
-        (&[b"A", b"A"], false),
-        (&[b"a"], false),
-        (&[b"A", b"Bz"], false),
-    ];
-    for (names, right) in rows {
-        let mut list = Vec::new(rt.alloc());
-        for name in names {
-            list.push(entry(rt.alloc(), name, 0)?)?;
-        }
-        same(&rt, names, Names::are_in_order(list.as_slice()), right);
+    for (names, right) in &ORDERED {
+        let list = entries(rt.alloc(), names)?;
+        let found = Names::are_in_order(list.as_slice());
+        same(&rt, *names, found, *right);
     }
     Ok(())
 }

@@ -10,6 +10,7 @@ use flat_code::{
 };
 use plc_base::{Area, Check, Compare, TimerKind, Width};
 use std::alloc::{AllocError, Global};
+use std::process::Abort;
 use std::test::*;
 
 // Code, instruction, the forms of its operand; behind 01 the greatest literal, behind 06 and 07
@@ -344,32 +345,35 @@ fn type_behind(operation: Operation) -> &'static str {
     }
 }
 
-/// The greatest literal that is taken, of those beside which the limits of the list lie.
+/// Literals beside which the limits of the list lie.
+static LITERALS: [u32; 19] = [
+    0,
+    1,
+    2,
+    3,
+    4,
+    14,
+    15,
+    16,
+    31,
+    32,
+    33,
+    254,
+    255,
+    256,
+    65_534,
+    65_535,
+    65_536,
+    4_294_967_294,
+    4_294_967_295,
+];
+
+/// The greatest of those literals that is taken.
 fn greatest_literal(takes: Takes) -> Option<u32> {
     let mut greatest = None;
-    for value in [
-        0,
-        1,
-        2,
-        3,
-        4,
-        14,
-        15,
-        16,
-        31,
-        32,
-        33,
-        254,
-        255,
-        256,
-        65_534,
-        65_535,
-        65_536,
-        4_294_967_294,
-        4_294_967_295,
-    ] {
-        if takes.admits(&Operand::Literal { value }) {
-            greatest = Some(value);
+    for value in &LITERALS {
+        if takes.admits(&Operand::Literal { value: *value }) {
+            greatest = Some(*value);
         }
     }
     greatest
@@ -457,48 +461,63 @@ fn form(operand: &Operand) -> &'static str {
     }
 }
 
+static WIDTHS: [(Width, u8); 4] = [
+    (Width::Bit, 1),
+    (Width::Byte, 8),
+    (Width::Word, 16),
+    (Width::Dword, 32),
+];
+
 /// The widths of operands in memory.
 fn put_widths(out: &mut String, takes: Takes) -> Result<(), AllocError> {
     out.push_str(" /")?;
-    for (width, bits) in [
-        (Width::Bit, 1),
-        (Width::Byte, 8),
-        (Width::Word, 16),
-        (Width::Dword, 32),
-    ] {
-        if takes.has_width(width) {
+    for (width, bits) in &WIDTHS {
+        if takes.has_width(*width) {
             write!(out, " {bits}")?;
         }
     }
     Ok(())
 }
 
-/// A line of the list as the table of the crate has it.
-fn line(alloc: Global, code: u8) -> Result<String, AllocError>
-    requires { code < 128 }
-{
-    let mut out = String::new(alloc);
-    let operation = operation_of(code);
-    let takes = taken_by(code);
-    let name = name(operation);
-    let of = type_behind(operation);
-    write!(out, "{code:02X} {name}{of}")?;
+/// The operands that are taken, beside the widths of those in memory.
+fn put_operands(out: &mut String, takes: Takes) -> Result<(), AllocError> {
     if takes.admits(&Operand::Nothing) {
         out.push_str(" 00")?;
     }
     if let Some(most) = greatest_literal(takes) {
         write!(out, " 01:{most}")?;
     }
-    for operand in OPERANDS {
-        if takes.admits(&operand) {
-            let form = form(&operand);
+    for operand in &OPERANDS {
+        if takes.admits(operand) {
+            let form = form(operand);
             write!(out, " {form}")?;
         }
     }
     if takes.admits(&OPERANDS[0]) {
-        put_widths(&mut out, takes)?;
+        put_widths(out, takes)?;
     }
-    Ok(out)
+    Ok(())
+}
+
+/// A line of the list as the table of the crate has it.
+fn put_line(out: &mut String, code: u8) -> Result<(), AllocError>
+    requires { code < 128 }
+{
+    let operation = operation_of(code);
+    let name = name(operation);
+    let of = type_behind(operation);
+    write!(out, "{code:02X} {name}{of}")?;
+    put_operands(out, taken_by(code))
+}
+
+/// The line of a code is this one.
+fn has_line(rt: &impl Abort, alloc: Global, code: u8, want: &str) -> Result<(), Fail>
+    requires { code < 128 }
+{
+    let mut line = String::new(alloc);
+    put_line(&mut line, code)?;
+    same(rt, code, line.as_str(), want);
+    Ok(())
 }
 
 #[test]
@@ -506,8 +525,7 @@ fn each_code_takes_what_the_list_says(rt: HostRuntime) -> Result<(), Fail> {
     let mut lines = LIST.lines();
     for code in 0..128u8 {
         let want = lines.next().unwrap_or("no line");
-        let line = line(rt.alloc(), code)?;
-        same(&rt, code, line.as_str(), want);
+        has_line(&rt, rt.alloc(), code, want)?;
         let is_its_own = code == operation_of(code).code() || want.ends_with('-');
         same(&rt, ("code of the word of", code), is_its_own, true);
     }

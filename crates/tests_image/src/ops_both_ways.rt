@@ -4,7 +4,7 @@
 use crate::compare::same;
 use flat_code::{BadOp, Op, Operand, decode_op, encode_op};
 use plc_base::{Area, Width};
-use std::alloc::Global;
+use std::alloc::{AllocError, Global};
 use std::process::Abort;
 use std::test::*;
 
@@ -91,14 +91,13 @@ fn byte_of(word: &str) -> u8 {
     u8::from_str_radix(word, 16).unwrap_or(0)
 }
 
-/// The bytes of an op: its code, with the end mark where it has one, and what stands behind it.
-fn op_bytes(alloc: Global, first: u8, text: &str) -> Result<Vec<u8>, Fail> {
-    let mut bytes = Vec::new(alloc);
-    bytes.push(first)?;
+/// Appends the bytes of an op: its code, with the end mark where it has one, and what stands behind it.
+fn put_op(out: &mut Vec<u8>, first: u8, text: &str) -> Result<(), AllocError> {
+    out.push(first)?;
     for word in text.split_ascii_whitespace() {
-        bytes.push(byte_of(word))?;
+        out.push(byte_of(word))?;
     }
-    Ok(bytes)
+    Ok(())
 }
 
 /// The op that a few bytes begin with.
@@ -109,6 +108,24 @@ fn decoded(bytes: &[u8]) -> Result<(Op, u32), BadOp> {
     decode_op(bytes, 0)
 }
 
+/// Bytes begin with an op that takes so many of them; it is answered.
+fn is_read(rt: &impl Abort, what: &str, bytes: &[u8], len: usize) -> Op {
+    let Ok((op, end)) = decoded(bytes) else {
+        panic!(rt; "no op: {what}")
+    };
+    same(rt, what, end as usize, len);
+    op
+}
+
+/// An op is spelled by all but the last of these bytes.
+fn is_spelled(rt: &impl Abort, alloc: Global, op: &Op, bytes: &[u8]) -> Result<(), Fail> {
+    let mut spelled = Vec::new(alloc);
+    encode_op(op, &mut spelled)?;
+    spelled.push(0xEF)?;
+    same(rt, op.code, spelled.as_slice(), bytes);
+    Ok(())
+}
+
 /// An op is read to the end of its bytes, with its end mark, and spelled by the same bytes.
 fn is_read_and_spelled(
     rt: &impl Abort,
@@ -117,31 +134,57 @@ fn is_read_and_spelled(
     mark: u8,
     payload: &str,
 ) -> Result<(), Fail> {
-    let mut bytes = op_bytes(alloc, byte_of(code) | mark, payload)?;
+    let mut bytes = Vec::new(alloc);
+    put_op(&mut bytes, byte_of(code) | mark, payload)?;
     let len = bytes.len();
     bytes.push(0xEF)?;
-    let Ok((op, end)) = decoded(bytes.as_slice()) else {
-        panic!(rt; "no op: {code} {payload}")
-    };
-    let what = (code, mark, payload);
-    same(rt, what, (end as usize, op.last), (len, mark == 128));
-    let mut spelled = Vec::new(alloc);
-    encode_op(&op, &mut spelled)?;
-    same(rt, what, spelled.as_slice(), &bytes[..len]);
+    let op = is_read(rt, payload, bytes.as_slice(), len);
+    same(rt, (code, payload), op.last, mark == 128);
+    is_spelled(rt, alloc, &op, bytes.as_slice())
+}
+
+/// The op codes of a line, and the payloads behind them.
+fn parts_of(line: &str) -> (&str, &str) {
+    line.split_once('|').unwrap_or(("", ""))
+}
+
+/// Each of the payloads makes an op of a code.
+fn are_read_and_spelled(
+    rt: &impl Abort,
+    alloc: Global,
+    code: &str,
+    payloads: &str,
+) -> Result<(), Fail> {
+    for payload in payloads.split(';') {
+        is_read_and_spelled(rt, alloc, code, 0, payload)?;
+        is_read_and_spelled(rt, alloc, code, 128, payload)?;
+    }
     Ok(())
 }
 
 #[test]
 fn each_op_is_read_and_spelled(rt: HostRuntime) -> Result<(), Fail> {
     for line in OPS.lines() {
-        let (codes, payloads) = line.split_once('|').unwrap_or(("", ""));
+        let (codes, payloads) = parts_of(line);
         for code in codes.split_ascii_whitespace() {
-            for payload in payloads.split(';') {
-                for mark in [0, 128] {
-                    is_read_and_spelled(&rt, rt.alloc(), code, mark, payload)?;
-                }
-            }
+            are_read_and_spelled(&rt, rt.alloc(), code, payloads)?;
         }
+    }
+    Ok(())
+}
+
+fn is_no_op(rt: &impl Abort, alloc: Global, code: &str, payload: &str) -> Result<(), Fail> {
+    let mut bytes = Vec::new(alloc);
+    put_op(&mut bytes, byte_of(code), payload)?;
+    let is_none = decoded(bytes.as_slice()).is_err();
+    same(rt, (code, payload), is_none, true);
+    Ok(())
+}
+
+/// None of the payloads makes an op of a code.
+fn are_no_ops(rt: &impl Abort, alloc: Global, code: &str, payloads: &str) -> Result<(), Fail> {
+    for payload in payloads.split(';') {
+        is_no_op(rt, alloc, code, payload)?;
     }
     Ok(())
 }
@@ -149,45 +192,52 @@ fn each_op_is_read_and_spelled(rt: HostRuntime) -> Result<(), Fail> {
 #[test]
 fn other_bytes_are_no_op(rt: HostRuntime) -> Result<(), Fail> {
     for line in NO_OPS.lines() {
-        let (codes, payloads) = line.split_once('|').unwrap_or(("", ""));
+        let (codes, payloads) = parts_of(line);
         for code in codes.split_ascii_whitespace() {
-            for payload in payloads.split(';') {
-                let bytes = op_bytes(rt.alloc(), byte_of(code), payload)?;
-                let is_none = decoded(bytes.as_slice()).is_err();
-                same(&rt, (code, payload), is_none, true);
-            }
+            are_no_ops(&rt, rt.alloc(), code, payloads)?;
         }
-    }
-    for at in [1, 2, 3] {
-        same(&rt, at, decode_op(&[0x16, 0], at).is_err(), true);
     }
     Ok(())
 }
 
+#[test]
+fn no_op_begins_within_another(rt: HostRuntime) {
+    for at in [1, 2, 3] {
+        same(&rt, at, decode_op(&[0x16, 0], at).is_err(), true);
+    }
+}
+
 // JU to the offset 7; the data block 10 of a T; T DB10.DBW 2; BE.
+static CODE: [u8; 20] = [
+    0xEF, 8, 0, 0, 0, 0, 7, 2, 10, 0, 10, 0xA1, 2, 0x84, 3, 0, 2, 0, 0xFB, 0,
+];
+
+/// Where an op begins and ends, its op code, whether it ends its statement, and its operand.
+static PARTS: [(u32, u32, u8, bool, Operand); 4] = [
+    (0, 7, 0x6F, true, Operand::Jump { kind: 0, target: 7 }),
+    (7, 11, 0x02, false, Operand::UseDb { number: 10 }),
+    (
+        11,
+        18,
+        0x21,
+        true,
+        Operand::Direct {
+            area: Area::Db,
+            width: Width::Word,
+            byte: 2,
+            bit: 0,
+        },
+    ),
+    (18, 20, 0x7B, true, Operand::Nothing),
+];
+
 #[test]
 fn parts_of_ops(rt: HostRuntime) -> Result<(), Fail> {
-    let code = [
-        0xEF, 8, 0, 0, 0, 0, 7, 2, 10, 0, 10, 0xA1, 2, 0x84, 3, 0, 2, 0, 0xFB, 0,
-    ];
-    let place = Operand::Direct {
-        area: Area::Db,
-        width: Width::Word,
-        byte: 2,
-        bit: 0,
-    };
-    let mut at = 0;
-    for (code_of_op, last, operand) in [
-        (0x6F, true, Operand::Jump { kind: 0, target: 7 }),
-        (0x02, false, Operand::UseDb { number: 10 }),
-        (0x21, true, place),
-        (0x7B, true, Operand::Nothing),
-    ] {
-        let (op, end): (Op, u32) = decode_op(&code, at)?;
-        same(&rt, at, (op.code, op.last), (code_of_op, last));
+    for row in &PARTS {
+        let (at, want_end, code, last, operand) = *row;
+        let (op, end): (Op, u32) = decode_op(&CODE, at)?;
+        same(&rt, at, (end, op.code, op.last), (want_end, code, last));
         same(&rt, at, op.operand, operand);
-        at = end;
     }
-    same(&rt, "end", at, 20);
     Ok(())
 }

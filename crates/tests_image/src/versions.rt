@@ -1,8 +1,9 @@
 //! The two versions of images, and the profiles that they give.
 
-use crate::building::fault_of;
+use crate::building::have_fault;
 use crate::compare::same;
 use crate::images::EXAMPLE;
+use flat_code::Program;
 use image_file::{Loaded, load, load_written, load_written2, verify, write_image, write_image2};
 use plc_base::Profile;
 use std::alloc::Global;
@@ -40,9 +41,10 @@ static VERSIONS: [(u16, u16, u32, u16); 12] = [
 
 #[test]
 fn versions(rt: HostRuntime) {
-    for (version, profile, at, code) in VERSIONS {
-        let found = fault_of(rt.alloc(), &example_of(version, profile));
-        same(&rt, (version, profile), found, (at, code));
+    for row in &VERSIONS {
+        let (version, profile, at, code) = *row;
+        let bytes = example_of(version, profile);
+        have_fault(&rt, rt.alloc(), (version, profile), &bytes, (at, code));
     }
 }
 
@@ -52,16 +54,27 @@ fn profile_in(alloc: Global, bytes: &[u8]) -> Result<Profile, Fail> {
     Ok(loaded.profile())
 }
 
+/// Version, the field behind it, and the profile.
+static PROFILES: [(u16, u16, Profile); 3] = [
+    (1, 0, Profile::Small),
+    (2, 1, Profile::Small),
+    (2, 2, Profile::Large),
+];
+
 #[test]
 fn profiles(rt: HostRuntime) -> Result<(), Fail> {
-    for (version, field, profile) in [
-        (1, 0, Profile::Small),
-        (2, 1, Profile::Small),
-        (2, 2, Profile::Large),
-    ] {
+    for row in &PROFILES {
+        let (version, field, profile) = *row;
         let found = profile_in(rt.alloc(), &example_of(version, field))?;
         same(&rt, (version, field), found, profile);
     }
+    Ok(())
+}
+
+/// A program is the example's.
+fn is_of_example(rt: &impl Abort, alloc: Global, program: &Program) -> Result<(), Fail> {
+    let written = write_image(alloc, program)?;
+    same(rt, "the example", written.as_slice(), EXAMPLE.as_slice());
     Ok(())
 }
 
@@ -72,41 +85,88 @@ fn is_example(
     loaded: &Loaded,
     profile: Profile,
 ) -> Result<(), Fail> {
-    let program = loaded.program(alloc)?;
-    let written = write_image(alloc, &program)?;
-    same(rt, "the example", written.as_slice(), EXAMPLE.as_slice());
     same(rt, "the profile", loaded.profile(), profile);
+    let program = loaded.program(alloc)?;
+    is_of_example(rt, alloc, &program)
+}
+
+/// The program of bytes.
+fn program_of(alloc: Global, bytes: &[u8]) -> Result<Program, Fail> {
+    let loaded = load(alloc, bytes)?;
+    let program = loaded.program(alloc)?;
+    Ok(program)
+}
+
+/// The image of version 2 with a profile is the example's with this field.
+fn is_written_with(
+    rt: &impl Abort,
+    alloc: Global,
+    program: &Program,
+    profile: Profile,
+    field: u16,
+) -> Result<(), Fail> {
+    let written = write_image2(alloc, program, profile)?;
+    let wanted = example_of(2, field);
+    same(rt, field, written.as_slice(), wanted.as_slice());
     Ok(())
 }
 
 /// Version 2 differs from version 1 in the bytes 5 and 7 alone.
 #[test]
 fn written_in_version_2(rt: HostRuntime) -> Result<(), Fail> {
-    let program = load(rt.alloc(), &EXAMPLE)?.program(rt.alloc())?;
-    for (profile, field) in [(Profile::Small, 1), (Profile::Large, 2)] {
-        let written = write_image2(rt.alloc(), &program, profile)?;
-        let wanted = example_of(2, field);
-        same(&rt, field, written.as_slice(), wanted.as_slice());
-    }
-    Ok(())
+    let program = program_of(rt.alloc(), &EXAMPLE)?;
+    are_written(&rt, rt.alloc(), &program)
+}
+
+fn are_written(rt: &impl Abort, alloc: Global, program: &Program) -> Result<(), Fail> {
+    is_written_with(rt, alloc, program, Profile::Small, 1)?;
+    is_written_with(rt, alloc, program, Profile::Large, 2)
+}
+
+/// The image of version 1, loaded again.
+fn is_loaded_again(rt: &impl Abort, alloc: Global, program: &Program) -> Result<(), Fail> {
+    let loaded = load_written(alloc, program)?;
+    is_example(rt, alloc, &loaded, Profile::Small)
+}
+
+/// The image of version 2 with a profile, loaded again.
+fn is_loaded_with(
+    rt: &impl Abort,
+    alloc: Global,
+    program: &Program,
+    profile: Profile,
+) -> Result<(), Fail> {
+    let loaded = load_written2(alloc, program, profile)?;
+    is_example(rt, alloc, &loaded, profile)
+}
+
+fn are_loaded(rt: &impl Abort, alloc: Global, program: &Program) -> Result<(), Fail> {
+    is_loaded_again(rt, alloc, program)?;
+    is_loaded_with(rt, alloc, program, Profile::Large)?;
+    is_loaded_with(rt, alloc, program, Profile::Small)
 }
 
 #[test]
 fn written_and_loaded(rt: HostRuntime) -> Result<(), Fail> {
-    let program = load(rt.alloc(), &EXAMPLE)?.program(rt.alloc())?;
-    let first = load_written(rt.alloc(), &program)?;
-    is_example(&rt, rt.alloc(), &first, Profile::Small)?;
-    let large = load_written2(rt.alloc(), &program, Profile::Large)?;
-    is_example(&rt, rt.alloc(), &large, Profile::Large)?;
-    let small = load_written2(rt.alloc(), &program, Profile::Small)?;
-    is_example(&rt, rt.alloc(), &small, Profile::Small)
+    let program = program_of(rt.alloc(), &EXAMPLE)?;
+    are_loaded(&rt, rt.alloc(), &program)
+}
+
+/// The program of an image with the profile Large, verified without it.
+fn verified_alone(alloc: Global) -> Result<Loaded, Fail> {
+    let program = program_of(alloc, &example_of(2, 2))?;
+    let verified = verify(alloc, program)?;
+    Ok(verified)
+}
+
+#[test]
+fn verified_profile(rt: HostRuntime) -> Result<(), Fail> {
+    let verified = verified_alone(rt.alloc())?;
+    is_example(&rt, rt.alloc(), &verified, Profile::Small)
 }
 
 #[test]
 fn another_profile(rt: HostRuntime) -> Result<(), Fail> {
-    let program = load(rt.alloc(), &example_of(2, 2))?.program(rt.alloc())?;
-    let verified = verify(rt.alloc(), program)?;
-    is_example(&rt, rt.alloc(), &verified, Profile::Small)?;
-    let large = verified.with_profile(Profile::Large);
+    let large = verified_alone(rt.alloc())?.with_profile(Profile::Large);
     is_example(&rt, rt.alloc(), &large, Profile::Large)
 }
