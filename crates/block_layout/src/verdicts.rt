@@ -24,7 +24,7 @@ pub(crate) struct Frame {
 /// What is found of a declaration: its name stands before it, it opens the ninth structure or array,
 /// it breaks a rule of declarations, it is sound, and how many structures and arrays are open
 /// inside it, at most 9.
-#[derive(Clone, Copy, Debug, PartialEq, Eq)]
+#[derive(Clone, Copy)]
 pub(crate) struct Verdict {
     pub(crate) twice: bool,
     pub(crate) deep: bool,
