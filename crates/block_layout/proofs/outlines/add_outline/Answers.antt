@@ -9,10 +9,10 @@ pub returns-clause-list : goal.returns-clause-list
 returns-clause-list c =
     c.in_ok-push.ensures.items
     ∙ ap (λ (o : Outline). c.args.made.now.list.items ++ o ∷ [])
-    (outline_is c.args.types.now c.args.block.now _ _ (c.in_ok-laid.ensures.components ∙ c.in_ok-declarations_of.ensures.components) (c.in_ok-laid.ensures.temps ∙ c.in_ok-declarations_of.ensures.temps))
+    (outline_is c.args.types.now c.args.block.now _ _ (c.in_ok-laid.ensures.components ∙ c.in_ok-components.ensures.components) (c.in_ok-laid.ensures.temps ∙ c.in_ok-components.ensures.temps))
 
 pub returns-clause-twice : goal.returns-clause-twice
-returns-clause-twice c = c.lesser-made.ensures ∙ ap (λ (o : Option Refusal). lesser c.args.made.now.twice o) c.in_ok-declarations_of.ensures.twice
+returns-clause-twice c = c.lesser-made.ensures ∙ ap (λ (o : Option Refusal). lesser c.args.made.now.twice o) c.in_ok-components.ensures.twice
 
 pub returns-clause-deep : goal.returns-clause-deep
-returns-clause-deep c = c.lesser-made-2.ensures ∙ ap (λ (o : Option Refusal). lesser c.args.made.now.deep o) c.in_ok-declarations_of.ensures.deep
+returns-clause-deep c = c.lesser-made-2.ensures ∙ ap (λ (o : Option Refusal). lesser c.args.made.now.deep o) c.in_ok-components.ensures.deep

@@ -7,8 +7,8 @@ pub loop-part-init : goal.loop-part-init
 loop-part-init c =
     let asked = c.requires in record {
       room = c.in_ok-open_.ensures.«open»;
-      left = left_at c.args.types.now c.args.block.now c.args.made.now c.in_ok-open_.open_.items c.args.block.now.parts _ (sym c.as_slice-part-items.ensures)
-          (first_left c.args.types.now c.args.block.now c.args.made.now c.in_ok-open_.open_.items (c.in_ok-open_.ensures.lists c.args.types.now) asked.components asked.temps asked.twice asked.deep);
+      left = first_left c.args.types.now c.args.block.now c.args.made.now c.in_ok-open_.open_.items (c.in_ok-open_.ensures.lists c.args.types.now)
+          asked.components asked.temps asked.twice asked.deep;
     }
 
 pub loop-part-preserved : goal.loop-part-preserved
