@@ -1,4 +1,4 @@
-use Rattle.std.proofs.Common.{rules, ◌≡◌, ◌++◌, [], ◌∷◌, List, ℕ, refl, sym, ◌∙◌, ap, suc, add-one}
+use Rattle.std.proofs.Common.{rules, ◌++◌, [], ◌∷◌, List, ℕ, refl, sym, ◌∙◌, ap, suc, add-one}
 use Rattle.std.proofs.Math.ListN.{drop_of_length-le}
 use Rattle.std.proofs.lemmas.List.{append-nil}
 use Rattle.stl_ast.specs.declared.blocks.Block.{Block}

@@ -1,7 +1,4 @@
-use Rattle.std.proofs.Common.{rules, sym, subst, List, [], ◌∷◌, ◌≡◌}
-use Rattle.block_layout.specs.Around.{of_sections}
-use Rattle.block_layout.specs.Verdicts.{AreOpen}
-use Rattle.block_layout.specs.declared.verdicts.Frame.{Frame}
+use Rattle.std.proofs.Common.{rules, [], ◌∷◌, ◌≡◌}
 use Rattle.block_layout.proofs.SectionLemmas.{first_lists}
 use Rattle.block_layout.proofs.sections.first_open.Goals as goal
 
