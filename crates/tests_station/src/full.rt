@@ -1,9 +1,11 @@
 //! A station whose controller has almost all entries that it may have.
-use crate::bench::empty_controller;
+ghost use Rattle.std.specs.Prelude.{◌≡◌, false};
+
+use crate::bench::{closed, empty_controller, is_answered, with_one_pass};
 use crate::compare::same;
 use controller::Controller;
 use plc_base::Mode;
-use station::{FULL, Station, StationFault};
+use station::{FULL, Pass, Shared, Station, StationFault};
 use std::alloc::Global;
 use std::process::Abort;
 use std::sync::Wait;
@@ -24,14 +26,17 @@ fn enter_steps(rt: &impl Abort, controller: &mut Controller, count: u64) -> Resu
 
 /// A controller in STOP, by a request under a pass's number.
 fn stopped_controller<R: Abort + Wait>(rt: &R, alloc: Global) -> Result<Controller, Fail> {
-    let (station, mut passes) = Station::start(alloc, empty_controller(alloc)?, 1)?;
-    let mut pass = passes.remove(0);
-    let reply = station.ask(rt, &mut pass, Request::Stop);
-    same(rt, "a stop", reply, Ok(Reply::Done));
-    let Ok(controller) = station.close(pass) else {
-        panic!(rt; "the number is there")
-    };
-    Ok(controller)
+    let controller = empty_controller(alloc)?;
+    let (station, mut pass) = with_one_pass(alloc, controller)?;
+    is_answered(
+        rt,
+        "a stop",
+        &station,
+        &mut pass,
+        Request::Stop,
+        Ok(Reply::Done),
+    );
+    Ok(closed(rt, station, pass))
 }
 
 /// A controller in STOP, which can have one entry more.
@@ -41,22 +46,40 @@ fn almost_full_controller<R: Abort + Wait>(rt: &R, alloc: Global) -> Result<Cont
     Ok(controller)
 }
 
+/// One step is made, and nothing behind it.
+fn fill<R: Abort + Wait>(rt: &R, station: &Station, pass: &mut Pass<Shared>)
+    requires { (pass.old.lock ≡ station.now) × (pass.old.out ≡ false) }
+    ensures { (pass.new.lock ≡ pass.old.lock) × (pass.new.out ≡ false) }
+{
+    let stop = Mode::Stop { cause: 2, at: None };
+    let mode = station.step(rt, pass);
+    same(rt, "the last entry", mode, Ok(stop));
+    let mode = station.step(rt, pass);
+    same(rt, "a further step", mode, Err(StationFault::Full));
+    is_answered(
+        rt,
+        "a further request",
+        station,
+        pass,
+        Request::Diag,
+        Err(StationFault::Full),
+    );
+    same(rt, "entries seen", pass.seen(), 1);
+}
+
+/// A station is filled and closed.
+fn fill_and_close<R: Abort + Wait>(rt: &R, station: Station, mut pass: Pass<Shared>)
+    requires { (pass.lock ≡ station) × (pass.out ≡ false) }
+{
+    fill(rt, &station, &mut pass);
+    let controller = closed(rt, station, pass);
+    same(rt, "entries", controller.history_len(), FULL);
+}
+
 #[test]
 fn one_entry_more_and_then_it_is_full(rt: HostRuntime) -> Result<(), Fail> {
     let controller = almost_full_controller(&rt, rt.alloc())?;
-    let (station, mut passes) = Station::start(rt.alloc(), controller, 1)?;
-    let mut pass = passes.remove(0);
-    let stop = Mode::Stop { cause: 2, at: None };
-    let mode = station.step(&rt, &mut pass);
-    same(&rt, "the last entry", mode, Ok(stop));
-    let mode = station.step(&rt, &mut pass);
-    same(&rt, "a further step", mode, Err(StationFault::Full));
-    let reply = station.ask(&rt, &mut pass, Request::Diag);
-    same(&rt, "a further request", reply, Err(StationFault::Full));
-    same(&rt, "entries seen", pass.seen(), 1);
-    let Ok(controller) = station.close(pass) else {
-        panic!(rt; "the number is there")
-    };
-    same(&rt, "entries", controller.history_len(), FULL);
+    let (station, pass) = with_one_pass(rt.alloc(), controller)?;
+    fill_and_close(&rt, station, pass);
     Ok(())
 }
