@@ -125,7 +125,7 @@ static INPUTS: [Row; 8] = [
     (b"T #num; A 5;", 2, 25),
 ];
 
-static LABELS: [Row; 22] = [
+static LABELS: [Row; 23] = [
     (b"JU a1;\na1: SET;", 0, 0),
     (b"a1: SET;\nJC a1;", 0, 0),
     (b"JU a1;", 2, 26),
@@ -143,6 +143,8 @@ static LABELS: [Row; 22] = [
     (b"JL a9;\nSET;\na9: SET;", 2, 32),
     (b"JL a9;\nJC a9;\na9: SET;", 2, 32),
     (b"JL a9;\nJU a9;\nNOP 0;\na9: SET;", 2, 32),
+    // Another label in capital letters doesn't end the list.
+    (b"JL a9;\nJU a9;\nA9: SET;\na9: SET;", 2, 32),
     (b"a9: SET;\nJL a9;", 3, 32),
     (b"a9: JL a9;", 2, 32),
     (b"JL a9;\nJU a9;", 2, 26),
