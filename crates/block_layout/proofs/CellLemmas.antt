@@ -98,14 +98,14 @@ deep_same y o before (d ∷ ds) = ap (λ (l : List Refusal). broken_56 y o befor
 
 pub section_added : (y : Types) (o : Outside) (before : List Declaration) (p : Part) (old new : Declared) (open_ : List Frame) (vs us : List Verdict) (ds : List Declaration) →
     ds ≡ p.items → us ≡ vs → JudgedOnto y o before ds vs open_ →
-    new.components.items ≡ old.components.items ++ (if is_temp p.kind then [] else cells_by y p.kind false us ds) →
-    new.temps.items ≡ old.temps.items ++ (if is_temp p.kind then cells_by y p.kind false us ds else []) →
+    new.components.items ≡ old.components.items ++ (if is_temp p.kind then [] else cells_by y p.kind false us p.items) →
+    new.temps.items ≡ old.temps.items ++ (if is_temp p.kind then cells_by y p.kind false us p.items else []) →
     new.twice ≡ lesser old.twice (least (by_verdicts twice_by us ds)) → new.deep ≡ lesser old.deep (least (by_verdicts deep_by us ds)) →
     SectionAdded y o before p old new open_
 section_added y o before p old new open_ vs us ds are same judged are_components are_temps is_twice is_deep =
     let by : us ≡ verdicts_of y o before p.items = same ∙ judged.verdicts ∙ ap (λ (l : List Declaration). verdicts_of y o before l) are in
-    let cells : cells_by y p.kind false us ds ≡ opened (cells_of y o p.kind before p.items) =
-    ap (λ (l : List Declaration). cells_by y p.kind false us l) are ∙ ap (λ (l : List Verdict). cells_by y p.kind false l p.items) by ∙ cells_opened y o p.kind before p.items in
+    let cells : cells_by y p.kind false us p.items ≡ opened (cells_of y o p.kind before p.items) =
+    ap (λ (l : List Verdict). cells_by y p.kind false l p.items) by ∙ cells_opened y o p.kind before p.items in
     record {
       lists = subst (λ (l : List Declaration). AreOpen y o (onto before l) open_) are judged.lists;
       components = are_components ∙ ap (λ (l : List Cell). old.components.items ++ (if is_temp p.kind then [] else l)) cells;

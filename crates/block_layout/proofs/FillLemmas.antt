@@ -1,6 +1,6 @@
 -- Writes of values, one after the other.
-use Rattle.std.proofs.Common.{ℕ, zero, suc, ◌≡◌, ◌<◌, ◌≤◌, ◌+◌, ◌-◌, List, [], ◌∷◌, ◌++◌, true, false, nat_lt, nat_le, min, ⊎_elim, refl, sym, ◌∙◌, ap, arith, length, take, drop, get_or}
-use Rattle.std.specs.List.{flat_map, fold}
+use Rattle.std.proofs.Common.{ℕ, zero, suc, ◌≡◌, ◌<◌, ◌≤◌, ◌+◌, ◌-◌, List, [], ◌∷◌, ◌++◌, Bool, true, false, ◌&&◌, nat_eq, nat_lt, nat_le, min, ⊎_elim, if◌then◌else◌, map, refl, sym, ◌∙◌, ap, arith, length, take, drop, get_or}
+use Rattle.std.specs.List.{flat_map, fold, zip}
 use Rattle.std.proofs.Math.ListN.{drop_of_length-le}
 use Rattle.std.proofs.lemmas.Bool.{cases_Bool}
 use Rattle.std.proofs.lemmas.Bool.Decides.{nat_tests}

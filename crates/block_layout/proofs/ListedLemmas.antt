@@ -1,15 +1,17 @@
 -- Parameters that are declared again lie where they lay, and the instance is as long.
-use Rattle.std.proofs.Common.{arith, ℕ, ◌+◌, ◌*◌, ◌%◌, ◌≡◌, ◌≤◌, Bool, true, false, List, [], ◌∷◌, ◌++◌, map, Some, refl, sym, ◌∙◌, ap, subst}
-use Rattle.std.specs.Prelude.{min, if◌then◌else◌}
+use Rattle.std.proofs.Common.{arith, ℕ, suc, ◌+◌, ◌-◌, ◌*◌, ◌/◌, ◌%◌, ◌≡◌, ◌≤◌, ◌<◌, Bool, true, false, List, [], ◌∷◌, ◌++◌, map, Option, Some, None, refl, sym, ◌∙◌, ap, subst}
+use Rattle.std.specs.Prelude.{nat_eq, nat_lt, ◌&&◌, min, length, if◌then◌else◌}
 use Rattle.std.specs.List.{AllByRecursion}
 use Rattle.std.specs.Str.{bytes_eq}
 use Rattle.std.proofs.lemmas.Bool.Decides.{nat_tests}
 use Rattle.std.proofs.lemmas.Slice.Eq.{bytes_eq-Decides}
 use Rattle.stl_ast.specs.declared.declarations.Simple.{Simple}
 use Rattle.block_layout.specs.declared.cells.Cell.{Cell}
+use Rattle.block_layout.specs.declared.cells.Element.TheVariants.{Plain}
+use Rattle.block_layout.specs.declared.members.Member.{Member}
 use Rattle.block_layout.specs.Members.{component}
-use Rattle.block_layout.specs.Sizes.{alignment, capped, cell_bits, element_of, end_of, plain_bits, stepped, structure_bits, up}
-use Rattle.block_layout.specs.Listed.{AreAlike, AreApart, IsBytes, IsElementary, LengthStays, OffsetsStay, offset_named}
+use Rattle.block_layout.specs.Sizes.{alignment, array_bits, capped, cell_bits, element_alignment, element_bits, element_of, end_of, past, plain_bits, stepped, structure_bits, up}
+use Rattle.block_layout.specs.Listed.{AreAlike, AreApart, IsAlike, IsBytes, IsElementary, LengthStays, OffsetsStay, offset_named, offsets_in}
 
 -- what the layout takes from an elementary component
 align : Bool → ℕ → ℕ

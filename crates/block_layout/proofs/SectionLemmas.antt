@@ -1,4 +1,4 @@
-use Rattle.std.proofs.Common.{ℕ, zero, suc, ◌≡◌, ◌<◌, ◌≤◌, ◌+◌, List, [], ◌∷◌, ◌++◌, append_assoc, Option, None, Bool, true, false, not, if◌then◌else◌, refl, sym, ◌∙◌, ap, subst, arith, length, drop, get_or, Result, Ok, Err, IfOk}
+use Rattle.std.proofs.Common.{ℕ, zero, suc, ◌≡◌, ◌<◌, ◌≤◌, ◌+◌, List, [], ◌∷◌, ◌++◌, append_assoc, Option, None, Bool, true, false, not, if◌then◌else◌, refl, sym, ◌∙◌, ap, subst, arith, length, drop, get_or}
 use Rattle.std.specs.List.{flat_map}
 use Rattle.std.proofs.Math.ListN.{drop_of_length-le}
 use Rattle.std.proofs.lemmas.List.{drop_more, append-nil}
@@ -97,44 +97,34 @@ first_open y o f names depth sound = record { frames = λ level g below. at leve
             ∙ ap (λ (b : Bool). record { names = o.names; depth = deep (o.depth + 0); sound = b }) s
     at (suc level) g below = absurd (let never : ⊥ = omega arith in never)
 
-pub first_lists : (y : Types) (b : Block) (f : Frame) (open_ : List Frame) → open_ ≡ f ∷ [] → f.names ≡ returned_names b.result → f.depth ≡ 0 → f.sound ≡ true → AreOpen y (of_sections b) [] open_
-first_lists y b f open_ is_open names depth sound = subst (λ (l : List Frame). AreOpen y (of_sections b) [] l) (sym is_open) (first_open y (of_sections b) f names depth sound)
-
-pub first_left : (y : Types) (b : Block) (made : Declared) (open_ : List Frame) → AreOpen y (of_sections b) [] open_ →
+pub first_left : (y : Types) (b : Block) (made : Declared) (f : Frame) (open_ : List Frame) → open_ ≡ f ∷ [] → f.names ≡ returned_names b.result → f.depth ≡ 0 → f.sound ≡ true →
     made.components.items ≡ returned_cells b.result → made.temps.items ≡ [] → made.twice ≡ None → made.deep ≡ None → Left y b b.parts made open_
-first_left y b made open_ lists components temps twice deep_ = record {
+first_left y b made f open_ is_open names depth sound components temps twice deep_ = record {
   now = [];
-  lists = lists;
+  lists = subst (λ (l : List Frame). AreOpen y (of_sections b) [] l) (sym is_open) (first_open y (of_sections b) f names depth sound);
   components = ap (λ (l : List Cell). l ++ section_cells y (of_sections b) (λ k. not (is_temp k)) [] b.parts) components;
   temps = ap (λ (l : List Cell). l ++ section_cells y (of_sections b) is_temp [] b.parts) temps;
   twice = ap (λ (o : Option Refusal). lesser o (least (in_list (broken_21 (of_sections b)) (section_declarations b)))) twice ∙ lesser_first _;
   deep = ap (λ (o : Option Refusal). lesser o (least (in_list (broken_56 y (of_sections b)) (section_declarations b)))) deep_ ∙ lesser_first _;
 }
 
--- four facts of a value, where there is one, joined
-pub all_four : {T E P Q R S W : Type 0} (r : Result T E) → (P → Q → R → S → W) → IfOk r (λ _. P) → IfOk r (λ _. Q) → IfOk r (λ _. R) → IfOk r (λ _. S) → IfOk r (λ _. W)
-all_four (Ok x) joined p q r s = joined p q r s
-all_four (Err e) joined p q r s = tt
-
-pub declared_all : (y : Types) (b : Block) (made new : Declared) (vs us : List Verdict) (ds : List Declaration) → ds ≡ b.components → us ≡ vs → AreSections y b made → vs ≡ verdicts_of y of_structure [] b.components →
-    new.components.items ≡ made.components.items ++ cells_by y part.Static true us ds → new.temps.items ≡ made.temps.items ++ [] →
-    new.twice ≡ lesser made.twice (least (by_verdicts twice_by us ds)) → new.deep ≡ lesser made.deep (least (by_verdicts deep_by us ds)) → AreDeclared y b new
-declared_all y b made new vs us ds are_ds same sections are components temps twice deep_ =
-    let by : us ≡ verdicts_of y of_structure [] b.components = same ∙ are in
-    record {
-      components = components ∙ ap (λ (l : List Cell). l ++ cells_by y part.Static true us ds) sections.components
-          ∙ ap (λ (l : List Cell). (returned_cells b.result ++ section_cells y (of_sections b) (λ k. not (is_temp k)) [] b.parts) ++ l)
-          (ap (λ (l : List Declaration). cells_by y part.Static true us l) are_ds ∙ ap (λ (l : List Verdict). cells_by y part.Static true l b.components) by ∙ cells_begun y of_structure part.Static [] b.components);
-      temps = temps ∙ append-nil made.temps.items ∙ sections.temps;
-      twice = twice ∙ ap (λ (o : Option Refusal). lesser o (least (by_verdicts twice_by us ds))) sections.twice
-          ∙ ap (λ (l : List Refusal). lesser (least (in_list (broken_21 (of_sections b)) (section_declarations b))) (least l))
-          (ap (λ (l : List Declaration). by_verdicts twice_by us l) are_ds ∙ ap (λ (l : List Verdict). by_verdicts twice_by l b.components) by ∙ twice_same y of_structure [] b.components)
-          ∙ sym (least-append (in_list (broken_21 (of_sections b)) (section_declarations b)) (in_list (broken_21 of_structure) b.components));
-      deep = deep_ ∙ ap (λ (o : Option Refusal). lesser o (least (by_verdicts deep_by us ds))) sections.deep
-          ∙ ap (λ (l : List Refusal). lesser (least (in_list (broken_56 y (of_sections b)) (section_declarations b))) (least l))
-          (ap (λ (l : List Declaration). by_verdicts deep_by us l) are_ds ∙ ap (λ (l : List Verdict). by_verdicts deep_by l b.components) by ∙ deep_same y of_structure [] b.components)
-          ∙ sym (least-append (in_list (broken_56 y (of_sections b)) (section_declarations b)) (in_list (broken_56 y of_structure) b.components));
-    }
+pub declared_all : (y : Types) (b : Block) (made new : Declared) (vs : List Verdict) → AreSections y b made → vs ≡ verdicts_of y of_structure [] b.components →
+    new.components.items ≡ made.components.items ++ cells_by y part.Static true vs b.components → new.temps ≡ made.temps →
+    new.twice ≡ lesser made.twice (least (by_verdicts twice_by vs b.components)) → new.deep ≡ lesser made.deep (least (by_verdicts deep_by vs b.components)) → AreDeclared y b new
+declared_all y b made new vs sections are components temps twice deep_ = record {
+  components = components ∙ ap (λ (l : List Cell). l ++ cells_by y part.Static true vs b.components) sections.components
+      ∙ ap (λ (l : List Cell). (returned_cells b.result ++ section_cells y (of_sections b) (λ k. not (is_temp k)) [] b.parts) ++ l)
+      (ap (λ (l : List Verdict). cells_by y part.Static true l b.components) are ∙ cells_begun y of_structure part.Static [] b.components);
+  temps = ap (λ v. v.items) temps ∙ sections.temps;
+  twice = twice ∙ ap (λ (o : Option Refusal). lesser o (least (by_verdicts twice_by vs b.components))) sections.twice
+      ∙ ap (λ (l : List Refusal). lesser (least (in_list (broken_21 (of_sections b)) (section_declarations b))) (least l))
+      (ap (λ (l : List Verdict). by_verdicts twice_by l b.components) are ∙ twice_same y of_structure [] b.components)
+      ∙ sym (least-append (in_list (broken_21 (of_sections b)) (section_declarations b)) (in_list (broken_21 of_structure) b.components));
+  deep = deep_ ∙ ap (λ (o : Option Refusal). lesser o (least (by_verdicts deep_by vs b.components))) sections.deep
+      ∙ ap (λ (l : List Refusal). lesser (least (in_list (broken_56 y (of_sections b)) (section_declarations b))) (least l))
+      (ap (λ (l : List Verdict). by_verdicts deep_by l b.components) are ∙ deep_same y of_structure [] b.components)
+      ∙ sym (least-append (in_list (broken_56 y (of_sections b)) (section_declarations b)) (in_list (broken_56 y of_structure) b.components));
+}
 
 pub left_at : (y : Types) (b : Block) (made : Declared) (open_ : List Frame) (ps qs : List Part) → ps ≡ qs → Left y b ps made open_ → Left y b qs made open_
 left_at y b made open_ ps qs same left = subst (λ (l : List Part). Left y b l made open_) same left

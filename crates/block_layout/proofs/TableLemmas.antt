@@ -1,12 +1,12 @@
 -- The rules that are checked with the layout, joined.
-use Rattle.std.proofs.Common.{◌≡◌, List, [], ◌∷◌, append_assoc, Option, Some, None, map, refl, sym, ◌∙◌, ap}
+use Rattle.std.proofs.Common.{◌≡◌, List, [], ◌∷◌, ◌++◌, append_assoc, Option, Some, None, map, refl, sym, ◌∙◌, ap}
 use Rattle.std.proofs.lemmas.List.{append-nil}
 use Rattle.std.specs.List.{flat_map}
 use Rattle.std.specs.Option.{option_to_list}
 use Rattle.plc_base.specs.declared.refusals.Refusal.{Refusal}
 use Rattle.stl_ast.specs.declared.blocks.Block.{Block}
 use Rattle.plc_base.specs.Least.{least, lesser}
-use Rattle.plc_base.proofs.LeastLemmas.{least-append}
+use Rattle.plc_base.proofs.LeastLemmas.{least-append, lesser_nothing}
 use Rattle.block_layout.specs.Rule21.{rule_21}
 use Rattle.block_layout.specs.Rule22.{rule_22}
 use Rattle.block_layout.specs.Rule23.{rule_23}

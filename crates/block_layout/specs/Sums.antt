@@ -1,6 +1,6 @@
 -- Where a path leads, as a relation: each step goes to the least place that the alignments allow, and the offsets of the
 -- steps add up.
-use Rattle.std.specs.Prelude.{◌≡◌, ℕ, zero, suc, ◌+◌, ◌-ℤ◌, ◌*◌, ◌≤◌, nat_eq, ℤ, unsigned_abs, Bool, true, false, ◌&&◌, List, [], ◌∷◌, length, drop, map, Option, Some}
+use Rattle.std.specs.Prelude.{◌≡◌, ℕ, zero, suc, ◌+◌, ◌-ℤ◌, ◌*◌, ◌≤◌, nat_eq, ℤ, unsigned_abs, Bool, true, false, ◌&&◌, List, [], ◌∷◌, length, drop, map, Option, Some, None, if◌then◌else◌}
 use Rattle.std.specs.List.{slice_get}
 use Rattle.std.specs.Option.{option_and_then, option_map}
 use Rattle.plc_base.specs.declared.blocks.BlockId.{BlockId}

@@ -11,7 +11,7 @@ use stl_ast::{Block, Declaration, Part};
 
 /// What a declaration can break by itself: its data type is unknown, its initial value doesn't fit,
 /// or a bound of an array is upside down.
-#[derive(Clone, Copy)]
+#[derive(Clone, Copy, Debug, PartialEq, Eq)]
 pub(crate) enum Alone {
     UnknownType,
     UnfitValue,

@@ -19,7 +19,7 @@ use crate::types::Types;
 use stl_ast::Block;
 
 /// What stands before a block: how many blocks, how many of them are data blocks, and their bytes.
-#[derive(Clone, Copy)]
+#[derive(Clone, Copy, Debug, PartialEq, Eq)]
 pub(crate) struct Before {
     pub(crate) blocks: usize,
     pub(crate) data_blocks: usize,

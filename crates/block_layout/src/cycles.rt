@@ -148,19 +148,6 @@ fn contains_itself(
     }
 }
 
-/// Of each block whether it is a data type that contains itself, by the data types that each uses.
-fn cycles_by(alloc: Global, uses: &[Vec<usize>], blocks: &[Block]) -> Result<Vec<bool>, AllocError>
-    ensures { IfOk result (λ v. (y : Types) → map (λ u. u.items) uses.now ≡ uses_of_all y blocks.now
-        → v.items ≡ flagged (contains_itself y blocks.now) [] blocks.now) }
-{
-    let mut flags = Vec::with_capacity(alloc, blocks.len())?;
-    for i in 0..blocks.len() {
-        let flag = contains_itself(alloc, uses, i, &blocks[i])?;
-        flags.push(flag)?;
-    }
-    Ok(flags)
-}
-
 /// Of each block whether it is a data type that contains itself.
 pub(crate) fn cycles(
     alloc: Global,
@@ -171,5 +158,10 @@ pub(crate) fn cycles(
         ≡ flagged (contains_itself types.now blocks.now) [] blocks.now) }
 {
     let uses = all_uses(alloc, types, blocks)?;
-    cycles_by(alloc, uses.as_slice(), blocks)
+    let mut flags = Vec::with_capacity(alloc, blocks.len())?;
+    for i in 0..blocks.len() {
+        let flag = contains_itself(alloc, uses.as_slice(), i, &blocks[i])?;
+        flags.push(flag)?;
+    }
+    Ok(flags)
 }

@@ -1,5 +1,4 @@
 ghost use Rattle.std.specs.Prelude.{◌≡◌, List, [], ◌∷◌, ◌++◌, IfOk};
-ghost use Rattle.plc_base.specs.declared.blocks.BlockKind.TheVariants as kind;
 ghost use Rattle.block_layout.specs.Blocks.{block_place, is_block_number, is_ob_number, known_block};
 ghost use Rattle.block_layout.specs.Numbered.{number_of, numbered_place, numbers_of};
 
@@ -97,58 +96,16 @@ fn numbers_of(
     Ok(numbers)
 }
 
-/// The numbers of the blocks with code, by kind.
-#[derive(Drop)]
-struct CodeNumbers {
-    organization_blocks: Numbered,
-    functions: Numbered,
-    function_blocks: Numbered,
-}
-
-fn code_numbers(alloc: Global, ids: &[Option<BlockId>]) -> Result<CodeNumbers, AllocError>
-    ensures organization_blocks { IfOk result (λ n. n.organization_blocks
-        ≡ numbers_of kind.Ob ids.now) }
-    ensures functions { IfOk result (λ n. n.functions ≡ numbers_of kind.Fc ids.now) }
-    ensures function_blocks { IfOk result (λ n. n.function_blocks ≡ numbers_of kind.Fb ids.now) }
-{
-    let organization_blocks = numbers_of(alloc, BlockKind::Ob, ids)?;
-    let functions = numbers_of(alloc, BlockKind::Fc, ids)?;
-    Ok(CodeNumbers {
-        organization_blocks,
-        functions,
-        function_blocks: numbers_of(alloc, BlockKind::Fb, ids)?,
-    })
-}
-
-/// The numbers of the blocks without code of their own, by kind.
-#[derive(Drop)]
-struct OtherNumbers {
-    data_blocks: Numbered,
-    data_types: Numbered,
-    system_functions: Numbered,
-}
-
-fn other_numbers(alloc: Global, ids: &[Option<BlockId>]) -> Result<OtherNumbers, AllocError>
-    ensures data_blocks { IfOk result (λ n. n.data_blocks ≡ numbers_of kind.Db ids.now) }
-    ensures data_types { IfOk result (λ n. n.data_types ≡ numbers_of kind.Udt ids.now) }
-    ensures system_functions { IfOk result (λ n. n.system_functions
-        ≡ numbers_of kind.Sfc ids.now) }
-{
-    let data_blocks = numbers_of(alloc, BlockKind::Db, ids)?;
-    let data_types = numbers_of(alloc, BlockKind::Udt, ids)?;
-    Ok(OtherNumbers {
-        data_blocks,
-        data_types,
-        system_functions: numbers_of(alloc, BlockKind::Sfc, ids)?,
-    })
-}
-
 /// The blocks of a source by kind and number. Contracts see them in the order of the text.
 #[derive(Drop)]
 pub(crate) struct Directory {
     ids: Vec<Option<BlockId>>,
-    code: CodeNumbers,
-    others: OtherNumbers,
+    organization_blocks: Numbered,
+    functions: Numbered,
+    function_blocks: Numbered,
+    data_blocks: Numbered,
+    data_types: Numbered,
+    system_functions: Numbered,
 }
 
 impl Model for Directory {
@@ -161,21 +118,34 @@ impl Model for Directory {
 
     ghost view = { λ d. d.ids.items };
 
-    ghost invariant = { λ d. (d.code.organization_blocks ≡ numbers_of kind.Ob d.ids.items)
-        × (d.code.functions ≡ numbers_of kind.Fc d.ids.items)
-        × (d.code.function_blocks ≡ numbers_of kind.Fb d.ids.items)
-        × (d.others.data_blocks ≡ numbers_of kind.Db d.ids.items)
-        × (d.others.data_types ≡ numbers_of kind.Udt d.ids.items)
-        × (d.others.system_functions ≡ numbers_of kind.Sfc d.ids.items) };
+    ghost invariant = { λ d. (d.organization_blocks ≡ numbers_of kind.Ob d.ids.items)
+        × (d.functions ≡ numbers_of kind.Fc d.ids.items)
+        × (d.function_blocks ≡ numbers_of kind.Fb d.ids.items)
+        × (d.data_blocks ≡ numbers_of kind.Db d.ids.items)
+        × (d.data_types ≡ numbers_of kind.Udt d.ids.items)
+        × (d.system_functions ≡ numbers_of kind.Sfc d.ids.items) };
 }
 
 impl Directory {
     pub(crate) fn new(alloc: Global, ids: Vec<Option<BlockId>>) -> Result<Self, AllocError>
         ensures { IfOk result (λ d. d ≡ ids.items) }
     {
-        let code = code_numbers(alloc, ids.as_slice())?;
-        let others = other_numbers(alloc, ids.as_slice())?;
-        Ok(Directory { ids, code, others })
+        let all = ids.as_slice();
+        let organization_blocks = numbers_of(alloc, BlockKind::Ob, all)?;
+        let functions = numbers_of(alloc, BlockKind::Fc, all)?;
+        let function_blocks = numbers_of(alloc, BlockKind::Fb, all)?;
+        let data_blocks = numbers_of(alloc, BlockKind::Db, all)?;
+        let data_types = numbers_of(alloc, BlockKind::Udt, all)?;
+        let system_functions = numbers_of(alloc, BlockKind::Sfc, all)?;
+        Ok(Directory {
+            ids,
+            organization_blocks,
+            functions,
+            function_blocks,
+            data_blocks,
+            data_types,
+            system_functions,
+        })
     }
 
     /// The blocks in the order of the text.
@@ -189,12 +159,12 @@ impl Directory {
         ensures { result.now ≡ numbers_of kind self.now }
     {
         match kind {
-            BlockKind::Ob => &self.code.organization_blocks,
-            BlockKind::Fc => &self.code.functions,
-            BlockKind::Fb => &self.code.function_blocks,
-            BlockKind::Db => &self.others.data_blocks,
-            BlockKind::Udt => &self.others.data_types,
-            BlockKind::Sfc => &self.others.system_functions,
+            BlockKind::Ob => &self.organization_blocks,
+            BlockKind::Fc => &self.functions,
+            BlockKind::Fb => &self.function_blocks,
+            BlockKind::Db => &self.data_blocks,
+            BlockKind::Udt => &self.data_types,
+            BlockKind::Sfc => &self.system_functions,
         }
     }
 

@@ -3,16 +3,13 @@ ghost use Rattle.std.specs.List.{slice_get};
 ghost use Rattle.std.specs.Option.{option_copied};
 ghost use Rattle.plc_base.specs.Least.{least};
 ghost use Rattle.block_layout.specs.Blocks.{known_block};
-ghost use Rattle.block_layout.specs.Facts.{AreFacts, outline_of};
 ghost use Rattle.block_layout.specs.InitialBytes.{initial_bytes, length_at};
 ghost use Rattle.block_layout.specs.Layouts.{LaysOut, layout_of, layouts_by, layouts_of};
 ghost use Rattle.block_layout.specs.Offsets.{offset_of};
-ghost use Rattle.block_layout.specs.Rule21.{rule_21};
-ghost use Rattle.block_layout.specs.Rule56.{rule_56};
 ghost use Rattle.block_layout.specs.Table.{layout_refusals, refusals_by};
 
 use crate::blocks::{BlockLayout, Section};
-use crate::building::{Facts, facts_of, layouts_by};
+use crate::building::{facts_of, layouts_by};
 use crate::directory::Directory;
 use crate::filling::initial_bytes;
 use crate::measures::types_of;
@@ -121,37 +118,25 @@ struct Judged {
     refusal: Option<Refusal>,
 }
 
-/// The blocks laid out and checked, by their declarations and by what was found of them.
-fn judge_by(
-    alloc: Global,
-    types: &Types,
-    blocks: &[Block],
-    outlines: Outlines,
-    facts: &Facts,
-) -> Result<Judged, AllocError>
-    requires outlines { outlines.list.items ≡ map (outline_of types.now) blocks.now }
-    requires twice { outlines.twice ≡ least (rule_21 blocks.now) }
-    requires deep { outlines.deep ≡ least (rule_56 types.now blocks.now) }
-    requires facts { AreFacts types.now blocks.now facts.now }
-    ensures layouts { IfOk result (λ j. j.layouts.items ≡ layouts_by types.now blocks.now) }
-    ensures refusal { IfOk result (λ j. j.refusal
-        ≡ least (refusals_by types.now (layouts_by types.now blocks.now) blocks.now)) }
-{
-    let Outlines { list, twice, deep } = outlines;
-    let layouts = layouts_by(alloc, types, blocks, list, facts)?;
-    let refusal = least_refusal(alloc, types, layouts.as_slice(), blocks, facts, twice, deep)?;
-    Ok(Judged { layouts, refusal })
-}
-
 /// The blocks laid out and checked.
 fn judge(alloc: Global, types: &Types, blocks: &[Block]) -> Result<Judged, AllocError>
     ensures layouts { IfOk result (λ j. j.layouts.items ≡ layouts_by types.now blocks.now) }
     ensures refusal { IfOk result (λ j. j.refusal
         ≡ least (refusals_by types.now (layouts_by types.now blocks.now) blocks.now)) }
 {
-    let outlines = outline_all(alloc, types, blocks)?;
-    let facts = facts_of(alloc, types, blocks, outlines.list.as_slice())?;
-    judge_by(alloc, types, blocks, outlines, &facts)
+    let Outlines { list, twice, deep } = outline_all(alloc, types, blocks)?;
+    let facts = facts_of(alloc, types, blocks, list.as_slice())?;
+    let layouts = layouts_by(alloc, types, blocks, list, &facts)?;
+    let refusal = least_refusal(
+        alloc,
+        types,
+        layouts.as_slice(),
+        blocks,
+        &facts,
+        twice,
+        deep,
+    )?;
+    Ok(Judged { layouts, refusal })
 }
 
 #[derive(Drop)]

@@ -15,7 +15,7 @@ ghost use Rattle.std.specs.List.{slice_get};
 ghost use Rattle.std.specs.Option.{option_copied};
 ghost use Rattle.block_layout.specs.Members.{component};
 ghost use Rattle.block_layout.specs.Sizes.{element_of, elements_of, structure_bits, largest};
-ghost use Rattle.block_layout.specs.Scopes.{AreKept, AreScopes, EndParameters, HaveParameters, IsScope};
+ghost use Rattle.block_layout.specs.Scopes.{AreScopes, EndParameters, HaveParameters, IsScope};
 ghost use Rattle.block_layout.specs.declared.cells.Cell.{Cell};
 
 use crate::cells::Cell;
@@ -25,22 +25,15 @@ use crate::sizes::{elements, structure_bits};
 use std::alloc::{AllocError, Global};
 use std::marker::Model;
 
-/// What is kept of cells: the bits of an element of each, the outermost components, those of each
-/// sound cell, the bits of the whole, and the place behind the last parameter.
+/// Cells with their sizes, and with the components of each structure. Contracts see the cells.
 #[derive(Drop)]
-struct Kept {
+pub struct Layout {
+    cells: Vec<Cell>,
     elements: Vec<u64>,
     outer: NameList,
     scopes: Vec<NameList>,
     bits: u64,
     parameters: usize,
-}
-
-/// Cells with their sizes, and with the components of each structure. Contracts see the cells.
-#[derive(Drop)]
-pub struct Layout {
-    cells: Vec<Cell>,
-    kept: Kept,
 }
 
 impl Model for Layout {
@@ -53,8 +46,8 @@ impl Model for Layout {
 
     ghost view = { λ l. l.cells.items };
 
-    ghost invariant = { λ l. AreKept l.cells.items l.kept.elements.items l.kept.outer
-        l.kept.scopes.items l.kept.bits l.kept.parameters };
+    ghost invariant = { λ l. AreKept l.cells.items l.elements.items l.outer l.scopes.items l.bits
+        l.parameters };
 }
 
 /// The cells from a place on.
@@ -120,31 +113,24 @@ fn parameters_end(cells: &[Cell]) -> usize
     end
 }
 
-/// What is kept of cells.
-fn kept_of(alloc: Global, cells: &[Cell]) -> Result<Kept, AllocError>
-    ensures { IfOk result (λ k. AreKept cells.now k.elements.items k.outer k.scopes.items k.bits
-        k.parameters) }
-{
-    let elements = elements(alloc, cells)?;
-    let outer = members(alloc, cells, elements.as_slice(), 0)?;
-    let scopes = scopes(alloc, cells, elements.as_slice())?;
-    let bits = structure_bits(cells, elements.as_slice());
-    Ok(Kept {
-        elements,
-        outer,
-        scopes,
-        bits,
-        parameters: parameters_end(cells),
-    })
-}
-
 impl Layout {
     /// These cells, laid out.
     pub(crate) fn new(alloc: Global, cells: Vec<Cell>) -> Result<Self, AllocError>
         ensures { IfOk result (λ l. l ≡ cells.items) }
     {
-        let kept = kept_of(alloc, cells.as_slice())?;
-        Ok(Layout { cells, kept })
+        let elements = elements(alloc, cells.as_slice())?;
+        let outer = members(alloc, cells.as_slice(), elements.as_slice(), 0)?;
+        let scopes = scopes(alloc, cells.as_slice(), elements.as_slice())?;
+        let bits = structure_bits(cells.as_slice(), elements.as_slice());
+        let parameters = parameters_end(cells.as_slice());
+        Ok(Layout {
+            cells,
+            elements,
+            outer,
+            scopes,
+            bits,
+            parameters,
+        })
     }
 
     /// The cells.
@@ -158,14 +144,14 @@ impl Layout {
     pub(crate) fn parameters(&self) -> &[Cell]
         ensures { HaveParameters self.now result.now }
     {
-        &self.cells.as_slice()[..self.kept.parameters]
+        &self.cells.as_slice()[..self.parameters]
     }
 
     /// The bits of an element of each cell.
     pub(crate) fn elements(&self) -> &[u64]
         ensures { result.now ≡ elements_of self.now }
     {
-        self.kept.elements.as_slice()
+        self.elements.as_slice()
     }
 
     /// The bits of a structure of these cells.
@@ -173,7 +159,7 @@ impl Layout {
         ensures value { result ≡ structure_bits self.now }
         ensures near { result ≤ largest }
     {
-        self.kept.bits
+        self.bits
     }
 
     /// The cell at a place.
@@ -194,7 +180,7 @@ impl Layout {
         ensures value { result ≡ component 0 0 0 name.now self.now }
         ensures within { IfSome result (λ m. m.place < length self.now) }
     {
-        find(&self.kept.outer, name, self.cells.as_slice(), 0)
+        find(&self.outer, name, self.cells.as_slice(), 0)
     }
 
     /// The component of this name of the sound cell at a place; its place counts from behind that
@@ -209,7 +195,7 @@ impl Layout {
     {
         let behind = behind(self.cells.as_slice(), place + 1);
         find(
-            &self.kept.scopes[place],
+            &self.scopes[place],
             name,
             behind,
             self.cells[place].level as u64 + 1,
@@ -223,6 +209,6 @@ impl Layout {
             ≡ element_of (get_or self.now place c) (drop (place + 1) self.now) }
         ensures near { result ≤ largest }
     {
-        self.kept.elements[place]
+        self.elements[place]
     }
 }

@@ -1,4 +1,4 @@
-ghost use Rattle.std.specs.Prelude.{◌≡◌, ◌≤◌, ◌++◌, IfOk, map, [], max, true};
+ghost use Rattle.std.specs.Prelude.{◌≡◌, ◌≤◌, IfOk, map, [], max, true};
 ghost use Rattle.plc_base.specs.Kinds.{is_data_type};
 ghost use Rattle.stl_ast.specs.declared.blocks.PartKind.TheVariants as part;
 ghost use Rattle.block_layout.specs.Around.{of_structure};
@@ -21,7 +21,6 @@ ghost use Rattle.block_layout.specs.Measures.{
 ghost use Rattle.block_layout.specs.Sizes.{structure_bits};
 ghost use Rattle.block_layout.specs.Verdicts.{reaches};
 
-use crate::cells::Cell;
 use crate::directory::Directory;
 use crate::making::add_cells;
 use crate::sections::structure_verdicts;
@@ -65,19 +64,15 @@ fn type_depth(alloc: Global, types: &Types, block: &Block) -> Result<u64, AllocE
     }
 }
 
-/// Adds the cells of the structure of a block.
+/// The bits of the structure of a block.
 #[tactic(auto, using(crate::proofs::CellLemmas::cells_begun))]
-fn add_structure(
-    alloc: Global,
-    types: &Types,
-    block: &Block,
-    cells: &mut Vec<Cell>,
-) -> Result<(), AllocError>
-    ensures { IfOk result (λ _. cells.new.items ≡ cells.old.items
-        ++ cells_of types.now of_structure part.Static [] block.now.components) }
+fn own_bits(alloc: Global, types: &Types, block: &Block) -> Result<u64, AllocError>
+    ensures { IfOk result (λ n. n
+        ≡ structure_bits (cells_of types.now of_structure part.Static [] block.now.components)) }
 {
     let declarations = block.components.as_slice();
     let verdicts = structure_verdicts(alloc, types, block)?;
+    let mut cells = Vec::with_capacity(alloc, declarations.len())?;
     add_cells(
         alloc,
         types,
@@ -85,26 +80,10 @@ fn add_structure(
         true,
         declarations,
         &verdicts,
-        cells,
-    )
-}
-
-/// The bits of a structure of these cells.
-fn bits_of_cells(alloc: Global, cells: &[Cell]) -> Result<u64, AllocError>
-    ensures { IfOk result (λ n. n ≡ structure_bits cells.now) }
-{
-    let elements = elements(alloc, cells)?;
-    Ok(structure_bits(cells, &elements))
-}
-
-/// The bits of the structure of a block.
-fn own_bits(alloc: Global, types: &Types, block: &Block) -> Result<u64, AllocError>
-    ensures { IfOk result (λ n. n
-        ≡ structure_bits (cells_of types.now of_structure part.Static [] block.now.components)) }
-{
-    let mut cells = Vec::with_capacity(alloc, block.components.as_slice().len())?;
-    add_structure(alloc, types, block, &mut cells)?;
-    bits_of_cells(alloc, &cells)
+        &mut cells,
+    )?;
+    let elements = elements(alloc, &cells)?;
+    Ok(structure_bits(&cells, &elements))
 }
 
 /// The bits of a block as a user-defined data type.

@@ -1,11 +1,9 @@
-ghost use Rattle.std.specs.Prelude.{◌≡◌, [], ◌∷◌, ◌++◌, IfOk, map};
-ghost use Rattle.plc_base.specs.Least.{least, lesser};
-ghost use Rattle.block_layout.specs.Around.{in_block};
+ghost use Rattle.std.specs.Prelude.{◌≡◌, IfOk, map};
+ghost use Rattle.plc_base.specs.Least.{least};
 ghost use Rattle.block_layout.specs.Facts.{outline_of};
-ghost use Rattle.block_layout.specs.Rule21.{broken_21, rule_21};
-ghost use Rattle.block_layout.specs.Rule56.{broken_56, rule_56};
+ghost use Rattle.block_layout.specs.Rule21.{rule_21};
+ghost use Rattle.block_layout.specs.Rule56.{rule_56};
 
-use crate::cells::Cell;
 use crate::layouts::Layout;
 use crate::sections::{Declared, declarations_of};
 use crate::types::Types;
@@ -29,44 +27,6 @@ pub(crate) struct Outlines {
     pub(crate) deep: Option<Refusal>,
 }
 
-/// Cells of components and of temporary variables, laid out.
-fn laid(alloc: Global, components: Vec<Cell>, temps: Vec<Cell>) -> Result<Outline, AllocError>
-    ensures components { IfOk result (λ o. o.components ≡ components.items) }
-    ensures temps { IfOk result (λ o. o.temps ≡ temps.items) }
-{
-    let components = Layout::new(alloc, components)?;
-    Ok(Outline {
-        components,
-        temps: Layout::new(alloc, temps)?,
-    })
-}
-
-/// Adds the declarations of a block.
-fn add_outline(
-    alloc: Global,
-    types: &Types,
-    block: &Block,
-    made: &mut Outlines,
-) -> Result<(), AllocError>
-    ensures list { IfOk result (λ _. made.new.list.items
-        ≡ made.old.list.items ++ outline_of types.now block.now ∷ []) }
-    ensures twice { IfOk result (λ _. made.new.twice
-        ≡ lesser made.old.twice (least (in_block broken_21 block.now))) }
-    ensures deep { IfOk result (λ _. made.new.deep
-        ≡ lesser made.old.deep (least (in_block (broken_56 types.now) block.now))) }
-{
-    let Declared {
-        components,
-        temps,
-        twice,
-        deep,
-    } = declarations_of(alloc, types, block)?;
-    made.twice = lesser(made.twice, twice);
-    made.deep = lesser(made.deep, deep);
-    made.list.push(laid(alloc, components, temps)?)?;
-    Ok(())
-}
-
 /// The declarations of the blocks of a source.
 #[tactic(auto, unfolding(crate::specs::Rule21::rule_21, crate::specs::Rule56::rule_56))]
 pub(crate) fn outline_all(
@@ -78,13 +38,22 @@ pub(crate) fn outline_all(
     ensures twice { IfOk result (λ o. o.twice ≡ least (rule_21 blocks.now)) }
     ensures deep { IfOk result (λ o. o.deep ≡ least (rule_56 types.now blocks.now)) }
 {
-    let mut made = Outlines {
-        list: Vec::with_capacity(alloc, blocks.len())?,
-        twice: None,
-        deep: None,
-    };
+    let mut list = Vec::with_capacity(alloc, blocks.len())?;
+    let mut twice = None;
+    let mut deep = None;
     for block in blocks {
-        add_outline(alloc, types, block, &mut made)?;
+        let made = declarations_of(alloc, types, block)?;
+        twice = lesser(twice, made.twice);
+        deep = lesser(deep, made.deep);
+        let Declared {
+            components,
+            temps,
+            ..
+        } = made;
+        list.push(Outline {
+            components: Layout::new(alloc, components)?,
+            temps: Layout::new(alloc, temps)?,
+        })?;
     }
-    Ok(made)
+    Ok(Outlines { list, twice, deep })
 }

@@ -1,10 +1,11 @@
-ghost use Rattle.std.specs.Prelude.{◌≡◌, ◌<◌, List, length, [], ◌++◌, None, IfOk, true, false, if◌then◌else◌};
-ghost use Rattle.plc_base.specs.Least.{least, lesser};
+ghost use Rattle.std.specs.Prelude.{◌≡◌, ◌<◌, List, length, [], ◌++◌, IfOk, true, false, if◌then◌else◌};
 ghost use Rattle.stl_ast.specs.declared.declarations.Declaration.{Declaration};
 ghost use Rattle.block_layout.specs.Around.{
   Outside,
   of_sections,
   of_structure,
+  onto,
+  ret_val,
   returned_names,
 };
 ghost use Rattle.block_layout.specs.Cells.{is_temp, returned_cells};
@@ -13,13 +14,10 @@ ghost use Rattle.block_layout.specs.Verdicts.{
   AreOpen,
   AreSections,
   SectionAdded,
-  by_verdicts,
   cells_by,
-  deep_by,
-  twice_by,
+  frame_of,
   verdicts_of,
 };
-ghost use Rattle.block_layout.specs.Types.{Types};
 
 use crate::cells::{Cell, Element};
 use crate::making::add_cells;
@@ -29,7 +27,7 @@ use crate::types::Types;
 use crate::verdicts::{Frame, Verdict, judge_all};
 use plc_base::{Refusal, lesser};
 use std::alloc::{AllocError, Global};
-use stl_ast::{Block, Declaration, Name, Part, PartKind, Sequence, Simple};
+use stl_ast::{Block, Name, Part, PartKind, Sequence, Simple};
 use stl_symbols::Names;
 
 /// What the declarations of a block come to: the cells of its components and of its temporary
@@ -48,37 +46,31 @@ fn is_temp(kind: PartKind) -> bool
     matches!(kind, PartKind::Temp)
 }
 
-/// Adds the cells of declarations and the least refusals of them, by their verdicts; `begun` says
-/// that a sound one of the section stands before them.
-fn add_judged(
+/// Adds the cells of a section.
+fn add_section(
     alloc: Global,
     types: &Types,
-    section: PartKind,
-    begun: bool,
-    declarations: &[Declaration],
+    part: &Part,
     verdicts: &[Verdict],
     into: &mut Declared,
 ) -> Result<(), AllocError>
-    requires { length verdicts.now ≡ length declarations.now }
+    requires { length verdicts.now ≡ length part.now.items }
     ensures components { IfOk result (λ _. into.new.components.items ≡ into.old.components.items
-        ++ (if is_temp section then []
-        else cells_by types.now section begun verdicts.now declarations.now)) }
+        ++ (if is_temp part.now.kind then []
+        else cells_by types.now part.now.kind false verdicts.now part.now.items)) }
     ensures temps { IfOk result (λ _. into.new.temps.items ≡ into.old.temps.items
-        ++ (if is_temp section
-        then cells_by types.now section begun verdicts.now declarations.now else [])) }
-    ensures twice { IfOk result (λ _. into.new.twice
-        ≡ lesser into.old.twice (least (by_verdicts twice_by verdicts.now declarations.now))) }
-    ensures deep { IfOk result (λ _. into.new.deep
-        ≡ lesser into.old.deep (least (by_verdicts deep_by verdicts.now declarations.now))) }
+        ++ (if is_temp part.now.kind
+        then cells_by types.now part.now.kind false verdicts.now part.now.items else [])) }
+    ensures twice { IfOk result (λ _. into.new.twice ≡ into.old.twice) }
+    ensures deep { IfOk result (λ _. into.new.deep ≡ into.old.deep) }
 {
-    into.twice = lesser(into.twice, least_twice(declarations, verdicts));
-    into.deep = lesser(into.deep, least_deep(declarations, verdicts));
-    if is_temp(section) {
+    let declarations = part.items.as_slice();
+    if is_temp(part.kind) {
         add_cells(
             alloc,
             types,
-            section,
-            begun,
+            part.kind,
+            false,
             declarations,
             verdicts,
             &mut into.temps,
@@ -87,8 +79,8 @@ fn add_judged(
         add_cells(
             alloc,
             types,
-            section,
-            begun,
+            part.kind,
+            false,
             declarations,
             verdicts,
             &mut into.components,
@@ -97,7 +89,7 @@ fn add_judged(
 }
 
 /// Adds what a section comes to.
-fn add_section(
+fn section(
     alloc: Global,
     types: &Types,
     part: &Part,
@@ -112,15 +104,10 @@ fn add_section(
 {
     let declarations = part.items.as_slice();
     let verdicts = judge_all(alloc, types, open_, declarations)?;
-    add_judged(
-        alloc,
-        types,
-        part.kind,
-        false,
-        declarations,
-        &verdicts,
-        into,
-    )
+    add_section(alloc, types, part, &verdicts, into)?;
+    into.twice = lesser(into.twice, least_twice(declarations, &verdicts));
+    into.deep = lesser(into.deep, least_deep(declarations, &verdicts));
+    Ok(())
 }
 
 /// The list that a block's sections begin in.
@@ -140,35 +127,22 @@ fn first_frame(alloc: Global, returned: Option<Simple>) -> Result<Frame, AllocEr
     })
 }
 
-/// The lists that are open where a block's sections begin.
-fn first_open(alloc: Global, block: &Block) -> Result<Vec<Frame>, AllocError>
-    ensures open { IfOk result (λ v. 0 < length v.items) }
-    ensures lists { IfOk result (λ v. (y : Types) → AreOpen y (of_sections block.now) [] v.items) }
+/// What the sections of a block come to.
+fn sections(alloc: Global, types: &Types, block: &Block) -> Result<Declared, AllocError>
+    ensures { IfOk result (λ made. AreSections types.now block.now made) }
 {
-    let frame = first_frame(alloc, block.result)?;
     let mut open_ = Vec::new(alloc);
-    open_.push(frame)?;
-    Ok(open_)
-}
-
-/// Adds what the sections of a block come to, behind its return value.
-fn add_sections(
-    alloc: Global,
-    types: &Types,
-    block: &Block,
-    made: &mut Declared,
-) -> Result<(), AllocError>
-    requires components { made.old.components.items ≡ returned_cells block.now.result }
-    requires temps { made.old.temps.items ≡ [] }
-    requires twice { made.old.twice ≡ None }
-    requires deep { made.old.deep ≡ None }
-    ensures { IfOk result (λ _. AreSections types.now block.now made.new) }
-{
-    let mut open_ = first_open(alloc, block)?;
+    open_.push(first_frame(alloc, block.result)?)?;
+    let mut made = Declared {
+        components: returned_cells(alloc, block.result)?,
+        temps: Vec::new(alloc),
+        twice: None,
+        deep: None,
+    };
     for part in block.parts.as_slice() {
-        add_section(alloc, types, part, &mut open_, made)?;
+        section(alloc, types, part, &mut open_, &mut made)?;
     }
-    Ok(())
+    Ok(made)
 }
 
 /// The cell of a return value.
@@ -189,22 +163,6 @@ fn returned_cells(alloc: Global, returned: Option<Simple>) -> Result<Vec<Cell>, 
         })?;
     }
     Ok(cells)
-}
-
-/// What the return value of a block comes to.
-fn returned(alloc: Global, block: &Block) -> Result<Declared, AllocError>
-    ensures components { IfOk result (λ made. made.components.items
-        ≡ returned_cells block.now.result) }
-    ensures temps { IfOk result (λ made. made.temps.items ≡ []) }
-    ensures twice { IfOk result (λ made. made.twice ≡ None) }
-    ensures deep { IfOk result (λ made. made.deep ≡ None) }
-{
-    Ok(Declared {
-        components: returned_cells(alloc, block.result)?,
-        temps: Vec::new(alloc),
-        twice: None,
-        deep: None,
-    })
 }
 
 /// The list that the structure of a block opens.
@@ -235,29 +193,6 @@ pub(crate) fn structure_verdicts(
     judge_all(alloc, types, &mut open_, block.components.as_slice())
 }
 
-/// Adds what the structure of a block comes to.
-fn add_structure(
-    alloc: Global,
-    types: &Types,
-    block: &Block,
-    made: &mut Declared,
-) -> Result<(), AllocError>
-    ensures { IfOk result (λ _. AreSections types.now block.now made.old
-        → AreDeclared types.now block.now made.new) }
-{
-    let declarations = block.components.as_slice();
-    let verdicts = structure_verdicts(alloc, types, block)?;
-    add_judged(
-        alloc,
-        types,
-        PartKind::Static,
-        true,
-        declarations,
-        &verdicts,
-        made,
-    )
-}
-
 /// What the declarations of a block come to.
 pub(crate) fn declarations_of(
     alloc: Global,
@@ -266,8 +201,19 @@ pub(crate) fn declarations_of(
 ) -> Result<Declared, AllocError>
     ensures { IfOk result (λ made. AreDeclared types.now block.now made) }
 {
-    let mut made = returned(alloc, block)?;
-    add_sections(alloc, types, block, &mut made)?;
-    add_structure(alloc, types, block, &mut made)?;
+    let mut made = sections(alloc, types, block)?;
+    let declarations = block.components.as_slice();
+    let verdicts = structure_verdicts(alloc, types, block)?;
+    add_cells(
+        alloc,
+        types,
+        PartKind::Static,
+        true,
+        declarations,
+        &verdicts,
+        &mut made.components,
+    )?;
+    made.twice = lesser(made.twice, least_twice(declarations, &verdicts));
+    made.deep = lesser(made.deep, least_deep(declarations, &verdicts));
     Ok(made)
 }

@@ -14,7 +14,7 @@ use std::alloc::{AllocError, Global};
 use stl_ast::{Block, Setting};
 
 /// What a setting can break: its value doesn't fit, or an index is outside its array.
-#[derive(Clone, Copy)]
+#[derive(Clone, Copy, Debug, PartialEq, Eq)]
 pub(crate) enum SettingFault {
     UnfitValue,
     OutsideIndex,

@@ -24,7 +24,7 @@ pub(crate) struct Frame {
 /// What is found of a declaration: its name stands before it, it opens the ninth structure or array,
 /// it breaks a rule of declarations, it is sound, and how many structures and arrays are open
 /// inside it, at most 9.
-#[derive(Clone, Copy)]
+#[derive(Clone, Copy, Debug, PartialEq, Eq)]
 pub(crate) struct Verdict {
     pub(crate) twice: bool,
     pub(crate) deep: bool,
@@ -60,40 +60,8 @@ fn stays_sound(verdict: Verdict, frame: &Frame) -> bool
     !verdict.breaks && frame.sound
 }
 
-/// Enters a declaration with this name into the list that it goes on, and opens the list inside it.
-#[tactic(auto, unfolding(crate::specs::Verdicts::verdict_in, crate::specs::Verdicts::entered_by))]
-fn enter_named(
-    alloc: Global,
-    types: &Types,
-    open_: &mut Vec<Frame>,
-    name: &[u8],
-    declaration: &Declaration,
-) -> Result<Verdict, AllocError>
-    requires level { declaration.now.level < length open_.old.items }
-    requires name { name.now ≡ folded declaration.now.name }
-    ensures verdict { IfOk result (λ v. (f : Frame)
-        → v ≡ verdict_in types.now (get_or open_.old.items declaration.now.level f)
-        declaration.now) }
-    ensures lists { IfOk result (λ _. (f : Frame) → open_.new.items
-        ≡ entered_by types.now open_.old.items
-        (get_or open_.old.items declaration.now.level f) declaration.now) }
-{
-    let level = declaration.level as usize;
-    open_.truncate(level + 1);
-    let mut frame = open_.remove(level);
-    let verdict = judge(types, &frame, name, declaration);
-    let sound = stays_sound(verdict, &frame);
-    frame.names.add(alloc, name)?;
-    open_.push(frame)?;
-    open_.push(Frame {
-        names: Names::new(alloc),
-        depth: verdict.reach,
-        sound,
-    })?;
-    Ok(verdict)
-}
-
 /// Enters a declaration into the list that it goes on, and opens the list inside it.
+#[tactic(auto, unfolding(crate::specs::Verdicts::verdict_in, crate::specs::Verdicts::entered_by))]
 fn enter(
     alloc: Global,
     types: &Types,
@@ -109,7 +77,19 @@ fn enter(
         (get_or open_.old.items declaration.now.level f) declaration.now) }
 {
     let name = declaration.name.as_bytes().to_ascii_uppercase(alloc)?;
-    enter_named(alloc, types, open_, &name, declaration)
+    let level = declaration.level as usize;
+    open_.truncate(level + 1);
+    let mut frame = open_.remove(level);
+    let verdict = judge(types, &frame, &name, declaration);
+    let sound = stays_sound(verdict, &frame);
+    frame.names.add(alloc, &name)?;
+    open_.push(frame)?;
+    open_.push(Frame {
+        names: Names::new(alloc),
+        depth: verdict.reach,
+        sound,
+    })?;
+    Ok(verdict)
 }
 
 /// The verdicts of declarations that stand one behind the other, on the lists that are open.

@@ -1,7 +1,8 @@
-use Rattle.std.proofs.Common.{rules, arith, ◌≡◌, ◌∷◌, [], ℕ, List, Bool, false, get_or, length, map, sym, ◌∙◌, ap, replicate}
+use Rattle.std.proofs.Common.{rules, arith, ◌≡◌, ◌∷◌, [], ℕ, List, Bool, false, get_or, length, map, refl, sym, ◌∙◌, ap, subst, replicate, add-one}
+use Rattle.stl_ast.specs.declared.blocks.Block.{Block}
 use Rattle.block_layout.specs.Cycles.{spread}
 use Rattle.block_layout.specs.Rule43.{leads_to}
-use Rattle.block_layout.proofs.CycleLemmas.{all_rounds, ended, first_round, later_round, length-uses, next_round, none_there, written}
+use Rattle.block_layout.proofs.CycleLemmas.{IsRound, all_rounds, ended, first_round, later_round, length-uses, next_round, none_there, written}
 use Rattle.block_layout.proofs.cycles.leads_back.Goals as goal
 
 pub loop-step-init : goal.loop-step-init

@@ -1,4 +1,4 @@
-use Rattle.std.proofs.Common.{◌+◌, rules, refl, ◌∙◌, ap, arith, length, length-drop}
+use Rattle.std.proofs.Common.{ℕ, ◌≡◌, ◌+◌, rules, refl, ◌∙◌, ap, arith, length, length-drop}
 use Rattle.block_layout.specs.InitialBytes.{type_writes}
 use Rattle.block_layout.proofs.FillLemmas.{from_turn, no_cells, no_type, type_filled}
 use Rattle.block_layout.proofs.ScopeLemmas.{behind_elements}

@@ -1,4 +1,5 @@
 use Rattle.block_layout.specs.Scopes.{EndParameters}
+use Rattle.std.proofs.Common.{ℕ}
 use Rattle.block_layout.proofs.layouts.parameters_end.Given as goal
 
 abbrev pub invariant-loop-end : goal.invariant-loop-end

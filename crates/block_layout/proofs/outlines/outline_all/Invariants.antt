@@ -9,7 +9,7 @@ use Rattle.block_layout.proofs.outlines.outline_all.Given as goal
 
 abbrev pub invariant-loop-block : goal.invariant-loop-block
 invariant-loop-block l = record {
-  list : l.made.list.items ++ map (outline_of l.types) (drop l.block-index l.blocks) ≡ map (outline_of l.types) l.blocks;
-  twice : lesser l.made.twice (least (flat_map (in_block broken_21) (drop l.block-index l.blocks))) ≡ least (flat_map (in_block broken_21) l.blocks);
-  deep : lesser l.made.deep (least (flat_map (in_block (broken_56 l.types)) (drop l.block-index l.blocks))) ≡ least (flat_map (in_block (broken_56 l.types)) l.blocks);
+  list : l.list.items ++ map (outline_of l.types) (drop l.block-index l.blocks) ≡ map (outline_of l.types) l.blocks;
+  twice : lesser l.twice (least (flat_map (in_block broken_21) (drop l.block-index l.blocks))) ≡ least (flat_map (in_block broken_21) l.blocks);
+  deep : lesser l.deep (least (flat_map (in_block (broken_56 l.types)) (drop l.block-index l.blocks))) ≡ least (flat_map (in_block (broken_56 l.types)) l.blocks);
 }

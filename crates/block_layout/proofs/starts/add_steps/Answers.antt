@@ -1,4 +1,4 @@
-use Rattle.std.proofs.Common.{ℕ, ◌^◌, ◌-◌, [], ◌∷◌, ◌++◌, ◌∙◌, ap, lit≤}
+use Rattle.std.proofs.Common.{ℕ, ◌≡◌, ◌^◌, ◌-◌, List, [], ◌∷◌, ◌++◌, ◌∙◌, ap, lit≤}
 use Rattle.block_layout.proofs.StartLemmas.{steps_more}
 use Rattle.block_layout.proofs.starts.add_steps.Goals as goal
 

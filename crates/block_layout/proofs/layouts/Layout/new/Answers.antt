@@ -1,9 +1,20 @@
-use Rattle.std.proofs.Common.{subst, List}
+use Rattle.std.proofs.Common.{◌∙◌, ap, subst, length, List}
 use Rattle.block_layout.specs.declared.cells.Cell.{Cell}
-use Rattle.block_layout.specs.Scopes.{AreKept}
+use Rattle.block_layout.specs.Members.{names_of, members_of}
+use Rattle.block_layout.specs.Sizes.{elements_of, structure_bits}
+use Rattle.block_layout.specs.Scopes.{AreScopes, EndParameters}
 use Rattle.block_layout.proofs.layouts.Layout.new.Goals as goal
 
 pub invariant_of-result : goal.invariant_of-result
-invariant_of-result c =
-    let kept = c.in_ok-kept.kept in
-    subst (λ (l : List Cell). AreKept l kept.elements.items kept.outer kept.scopes.items kept.bits kept.parameters) c.as_slice.ensures.value c.in_ok-kept.ensures
+invariant_of-result c = record {
+  sized = c.in_ok-elements.ensures ∙ ap (λ (l : List Cell). elements_of l) c.as_slice.ensures.value;
+  outermost = record {
+    names = c.in_ok-outer.ensures.names ∙ ap (λ (l : List Cell). names_of 0 l) c.as_slice-2.ensures.value;
+    members = c.in_ok-outer.ensures.members ∙ ap (λ (l : List Cell). members_of 0 0 0 l) c.as_slice-2.ensures.value;
+  };
+  counted = c.in_ok-scopes.ensures.count ∙ ap (λ (l : List Cell). length l) c.as_slice-4.ensures.value;
+  inner = subst (λ (l : List Cell). AreScopes l c.in_ok-scopes.scopes.items) c.as_slice-4.ensures.value c.in_ok-scopes.ensures.scopes;
+  whole = c.structure_bits-bits.ensures.value ∙ ap (λ (l : List Cell). structure_bits l) c.as_slice-6.ensures.value;
+  near = c.structure_bits-bits.ensures.near;
+  ended = subst (λ (l : List Cell). EndParameters l c.parameters_end-parameters.result) c.as_slice-8.ensures.value c.parameters_end-parameters.ensures;
+}

@@ -1,6 +1,6 @@
 use Rattle.std.proofs.Common.{◌<◌, drop, length}
 use Rattle.block_layout.proofs.SectionLemmas.{Left}
-use Rattle.block_layout.proofs.sections.add_sections.Given as goal
+use Rattle.block_layout.proofs.sections.sections.Given as goal
 
 abbrev pub invariant-loop-part : goal.invariant-loop-part
 invariant-loop-part l = record {
