@@ -1,0 +1,12 @@
+pub mod Gaps
+pub mod Pieces
+pub mod Words
+pub mod Mnemonics
+pub mod Digits
+pub mod Literals
+pub mod Names
+pub mod Operands
+pub mod Statements
+pub mod Declarations
+pub mod Clauses
+pub mod Trees

@@ -1,0 +1,49 @@
+-- Tokens, each with the gap before it.
+use Rattle.std.specs.Prelude.{ℕ, List, [], ◌∷◌, ◌++◌, decimal, fold, ℤ, pos, negsuc, suc}
+use Rattle.stl_lexer.specs.Bytes.{double_quote, hash}
+use Rattle.stl_lexer.specs.Marks.{mark_text}
+use Rattle.stl_lexer.specs.Pieces.{Piece}
+use Rattle.stl_lexer.specs.declared.kinds.TokenKind.{TokenKind}
+use Rattle.stl_lexer.specs.declared.kinds.TokenKind.TheVariants as kind
+use Rattle.stl_lexer.specs.declared.marks.Mark.{Mark}
+use Rattle.stl_lexer.specs.declared.marks.Mark.TheVariants as mark_of
+use Rattle.stl_print.specs.Gaps.{gap_text}
+use Rattle.stl_print.specs.declared.gaps.Gap.{Gap}
+use Rattle.stl_print.specs.declared.gaps.Gap.TheVariants as gap
+
+-- a text with a piece behind it
+abbrev pub with_piece : List ℕ → Piece → List ℕ
+with_piece text p = (text ++ p.gap) ++ p.text
+
+-- a text with pieces behind it
+abbrev pub with_pieces : List ℕ → List Piece → List ℕ
+with_pieces text ps = fold with_piece text ps
+
+-- a token behind a gap
+abbrev pub token : Gap → TokenKind → List ℕ → Piece
+token g k text = record { gap = gap_text g; kind = k; text = text }
+
+-- a word
+abbrev pub word : Gap → List ℕ → Piece
+word g text = token g kind.Word text
+
+-- a mark
+abbrev pub mark : Gap → Mark → Piece
+mark g m = token g kind.Mark (mark_text m)
+
+-- a number in decimal digits
+abbrev pub number : Gap → ℕ → Piece
+number g n = token g kind.Number (decimal n)
+
+-- a number with a sign where it is below 0: the sign is a token of its own
+abbrev pub signed_number : Gap → ℤ → List Piece
+signed_number g (pos n) = number g n ∷ []
+signed_number g (negsuc n) = mark g mark_of.Minus ∷ number gap.Nothing (suc n) ∷ []
+
+-- a name in double quotes
+abbrev pub quoted : Gap → List ℕ → Piece
+quoted g name = token g kind.Quoted (double_quote ∷ (name ++ double_quote ∷ []))
+
+-- a name of the block's own, behind `#`
+abbrev pub local : Gap → List ℕ → Piece
+local g name = token g kind.Local (hash ∷ name)
