@@ -8,6 +8,7 @@ use Rattle.stl_print.specs.Digits.{digit, digits}
 pub digits-next : (front text : List ℕ) (base n m count place d : ℕ) → 0 < place → place ≤ count
     → n ≡ m / base → text ≡ front ++ digits base (count - place) n → d ≡ digit (m % base)
     → text ++ d ∷ [] ≡ front ++ digits base (count - (place - 1)) m
+unfolding digits
 digits-next front text base n m count place d some within above before is =
     ap (λ (l : List ℕ). l ++ d ∷ []) before
     ∙ append_assoc front (digits base (count - place) n) (d ∷ [])

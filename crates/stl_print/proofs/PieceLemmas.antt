@@ -1,5 +1,6 @@
 -- A text with pieces behind it.
 use Rattle.std.proofs.Common.{◌≡◌, sym, ◌∙◌, ap, refl, ℕ, suc, List, [], ◌∷◌, ◌++◌, append_assoc}
+use Rattle.std.proofs.lemmas.Grind.{fold-append}
 use Rattle.std.proofs.lemmas.List.{append-nil}
 use Rattle.std.specs.Prelude.{ℤ, pos, negsuc, decimal}
 use Rattle.std.specs.Fmt.{signed_decimal}
@@ -7,7 +8,7 @@ use Rattle.stl_lexer.specs.Marks.{mark_text}
 use Rattle.stl_lexer.specs.Pieces.{Piece, spelled}
 use Rattle.stl_print.specs.Gaps.{gap_text}
 use Rattle.stl_print.specs.Mnemonics.{Spelling, one, two, spelling_pieces, spelling_text}
-use Rattle.stl_print.specs.Pieces.{signed_number, with_pieces}
+use Rattle.stl_print.specs.Pieces.{signed_number, with_piece, with_pieces}
 use Rattle.stl_print.specs.declared.gaps.Gap.{Gap}
 
 -- a token in two parts
@@ -38,3 +39,10 @@ signed_piece text g (pos n) = refl
 signed_piece text g (negsuc n) =
     ap (λ (s : List ℕ). s ++ decimal (suc n)) (append-nil ((text ++ gap_text g) ++ 45 ∷ []))
     ∙ append_assoc (text ++ gap_text g) (45 ∷ []) (decimal (suc n))
+
+-- pieces behind others
+pub pieces_then :
+    (text between after : List ℕ) (ps qs : List Piece) → between ≡ with_pieces text ps → after ≡ with_pieces between qs
+    → after ≡ with_pieces text (ps ++ qs)
+pieces_then text between after ps qs first rest =
+    rest ∙ ap (λ (s : List ℕ). with_pieces s qs) first ∙ sym (fold-append with_piece text ps qs)

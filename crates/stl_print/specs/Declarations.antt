@@ -1,5 +1,5 @@
 -- Declarations.
-use Rattle.std.specs.Prelude.{ℕ, ◌+◌, ◌-◌, List, [], ◌∷◌, ◌++◌, codes, replicate, Option, Some, None}
+use Rattle.std.specs.Prelude.{ℕ, List, [], ◌∷◌, ◌++◌, codes, Option, Some, None}
 use Rattle.std.specs.List.{flat_map}
 use Rattle.stl_ast.specs.declared.blocks.Setting.{Setting}
 use Rattle.stl_ast.specs.declared.declarations.Bounds.{Bounds}

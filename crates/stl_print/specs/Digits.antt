@@ -6,6 +6,6 @@ abbrev pub digit : ℕ → ℕ
 digit n = if nat_lt n 10 then n + 48 else n + 55
 
 -- the lowest so many digits of a number in a base
-abbrev pub digits : (base count : ℕ) → ℕ → List ℕ
+unfoldable pub digits : (base count : ℕ) → ℕ → List ℕ
 digits base zero n = []
 digits base (suc count) n = digits base count (n / base) ++ digit (n % base) ∷ []

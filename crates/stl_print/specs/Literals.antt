@@ -1,5 +1,5 @@
 -- Constants.
-use Rattle.std.specs.Prelude.{ℕ, true, false, List, [], ◌∷◌, ◌++◌, codes, decimal, ℤ}
+use Rattle.std.specs.Prelude.{ℕ, List, [], ◌∷◌, ◌++◌, codes, decimal}
 use Rattle.std.specs.Fmt.{signed_decimal}
 use Rattle.stl_ast.specs.declared.literals.Literal.{Literal}
 use Rattle.stl_ast.specs.declared.literals.Literal.TheVariants as literal
@@ -9,6 +9,7 @@ use Rattle.stl_lexer.specs.declared.kinds.TokenKind.TheVariants as kind
 use Rattle.stl_lexer.specs.declared.marks.Mark.TheVariants as mark_of
 use Rattle.stl_print.specs.Digits.{digits}
 use Rattle.stl_print.specs.Pieces.{mark, number, signed_number, token, word}
+use Rattle.stl_print.specs.Words.{truth_word}
 use Rattle.stl_print.specs.declared.gaps.Gap.{Gap}
 use Rattle.stl_print.specs.declared.gaps.Gap.TheVariants as gap
 
@@ -29,8 +30,7 @@ listed_bytes (b ∷ bytes) = number gap.Nothing b ∷ further_bytes bytes
 -- a constant: decimal with its sign; binary with 32 digits; hexadecimal with two, four or eight digits, in upper case;
 -- times in milliseconds
 unfoldable pub literal_pieces : Gap → Literal → List Piece
-literal_pieces g (literal.Truth true) = word g (codes "TRUE") ∷ []
-literal_pieces g (literal.Truth false) = word g (codes "FALSE") ∷ []
+literal_pieces g (literal.Truth value) = word g (truth_word value) ∷ []
 literal_pieces g (literal.Number value) = signed_number g value
 literal_pieces g (literal.Binary value) = based g (codes "2#") (digits 2 32 value) ∷ []
 literal_pieces g (literal.Byte value) = based g (codes "B#16#") (digits 16 2 value) ∷ []

@@ -1,5 +1,5 @@
 -- A tree as text.
-use Rattle.std.specs.Prelude.{ℕ, ◌-◌, Bool, true, false, if◌then◌else◌, List, [], ◌∷◌, ◌++◌, map, replicate, Option, Some, None}
+use Rattle.std.specs.Prelude.{ℕ, ◌-◌, if◌then◌else◌, List, [], ◌∷◌, ◌++◌, map, replicate, Option, Some, None}
 use Rattle.std.specs.List.{flat_map}
 use Rattle.plc_base.specs.Kinds.{is_data_type}
 use Rattle.plc_base.specs.declared.blocks.BlockKind.{BlockKind}

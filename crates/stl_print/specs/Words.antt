@@ -1,5 +1,5 @@
 -- The words of the language, but for the instruction words.
-use Rattle.std.specs.Prelude.{ℕ, List, [], ◌∷◌, ◌++◌, codes, Option, Some, None}
+use Rattle.std.specs.Prelude.{ℕ, Bool, true, false, List, [], ◌++◌, codes, Option, Some, None}
 use Rattle.plc_base.specs.declared.blocks.BlockKind.{BlockKind}
 use Rattle.plc_base.specs.declared.blocks.BlockKind.TheVariants as kinds
 use Rattle.plc_base.specs.declared.flags.Flag.{Flag}
@@ -129,3 +129,8 @@ flag_kind flag.Ov = kind.Word
 flag_kind flag.Os = kind.Word
 flag_kind flag.Uo = kind.Word
 flag_kind _ = kind.SignWord
+
+-- a value of a bit
+unfoldable pub truth_word : Bool → List ℕ
+truth_word true = codes "TRUE"
+truth_word false = codes "FALSE"

@@ -38,7 +38,7 @@ fn append_declarations(
     reached: u32,
     out: &mut Vec<u8>,
 ) -> Result<u32, NoMemory>
-    ensures { IfOk result (λ line. (line, out.new.items)
+    ensures { IfOk result (λ behind. (behind, out.new.items)
         ≡ with_clauses (reached, out.old.items) (declared_from 0 declarations.now)) }
 {
     let mut line = reached;
@@ -54,18 +54,19 @@ fn append_declarations(
     append_structure_ends(level, line, out)
 }
 
-#[tactic(auto, unfolding(crate::specs::Trees::part_clauses))]
+#[tactic(auto, using(crate::proofs::LineLemmas::clauses_then), unfolding(crate::specs::Trees::part_clauses))]
 fn append_part(part: &Part, reached: u32, out: &mut Vec<u8>) -> Result<u32, NoMemory>
-    ensures { IfOk result (λ line. (line, out.new.items)
+    ensures { IfOk result (λ behind. (behind, out.new.items)
         ≡ with_clauses (reached, out.old.items) (part_clauses part.now)) }
 {
     let line = append_section_word(part.kind, part.line, reached, out)?;
     let line = append_declarations(part.items.as_slice(), line, out)?;
-    append_section_end(line, out)
+    let line = append_section_end(line, out)?;
+    Ok(line)
 }
 
 fn append_parts(parts: &[Part], reached: u32, out: &mut Vec<u8>) -> Result<u32, NoMemory>
-    ensures { IfOk result (λ line. (line, out.new.items)
+    ensures { IfOk result (λ behind. (behind, out.new.items)
         ≡ with_clauses (reached, out.old.items) (flat_map part_clauses parts.now)) }
 {
     let mut line = reached;
@@ -82,7 +83,7 @@ fn append_components(
     reached: u32,
     out: &mut Vec<u8>,
 ) -> Result<u32, NoMemory>
-    ensures { IfOk result (λ line. (line, out.new.items)
+    ensures { IfOk result (λ behind. (behind, out.new.items)
         ≡ with_clauses (reached, out.old.items) (clause.Structure ∷ (declared_from 0 components.now ++ clause.EndStructure ∷ []))) }
 {
     let line = append_structure(reached, out)?;
@@ -97,7 +98,7 @@ fn append_type(
     reached: u32,
     out: &mut Vec<u8>,
 ) -> Result<u32, NoMemory>
-    ensures { IfOk result (λ line. (line, out.new.items)
+    ensures { IfOk result (λ behind. (behind, out.new.items)
         ≡ with_clauses (reached, out.old.items) (type_clauses of.now components.now)) }
 {
     match of {
@@ -113,7 +114,7 @@ fn append_shape(
     reached: u32,
     out: &mut Vec<u8>,
 ) -> Result<u32, NoMemory>
-    ensures { IfOk result (λ line. (line, out.new.items)
+    ensures { IfOk result (λ behind. (behind, out.new.items)
         ≡ with_clauses (reached, out.old.items) (shape_clauses shape.now components.now)) }
 {
     match shape {
@@ -127,7 +128,7 @@ fn append_instance_of(
     reached: u32,
     out: &mut Vec<u8>,
 ) -> Result<u32, NoMemory>
-    ensures { IfOk result (λ line. (line, out.new.items)
+    ensures { IfOk result (λ behind. (behind, out.new.items)
         ≡ with_clauses (reached, out.old.items) (instance_clauses name.now)) }
 {
     match name {
@@ -137,7 +138,7 @@ fn append_instance_of(
 }
 
 fn append_begin_of(kind: BlockKind, reached: u32, out: &mut Vec<u8>) -> Result<u32, NoMemory>
-    ensures { IfOk result (λ line. (line, out.new.items)
+    ensures { IfOk result (λ behind. (behind, out.new.items)
         ≡ with_clauses (reached, out.old.items) (begin_clauses kind)) }
 {
     if kind.is_data_type() {
@@ -148,7 +149,7 @@ fn append_begin_of(kind: BlockKind, reached: u32, out: &mut Vec<u8>) -> Result<u
 }
 
 fn append_settings(settings: &[Setting], reached: u32, out: &mut Vec<u8>) -> Result<u32, NoMemory>
-    ensures { IfOk result (λ line. (line, out.new.items)
+    ensures { IfOk result (λ behind. (behind, out.new.items)
         ≡ with_clauses (reached, out.old.items) (map clause.Sets settings.now)) }
 {
     let mut line = reached;
@@ -161,7 +162,7 @@ fn append_settings(settings: &[Setting], reached: u32, out: &mut Vec<u8>) -> Res
 }
 
 fn append_body(statements: &[Statement], reached: u32, out: &mut Vec<u8>) -> Result<u32, NoMemory>
-    ensures { IfOk result (λ line. (line, out.new.items)
+    ensures { IfOk result (λ behind. (behind, out.new.items)
         ≡ with_clauses (reached, out.old.items) (map clause.Runs statements.now)) }
 {
     let mut line = reached;
@@ -174,9 +175,9 @@ fn append_body(statements: &[Statement], reached: u32, out: &mut Vec<u8>) -> Res
 }
 
 /// Appends a block.
-#[tactic(auto, unfolding(crate::specs::Trees::block_clauses))]
+#[tactic(auto, using(crate::proofs::LineLemmas::clauses_then), unfolding(crate::specs::Trees::block_clauses))]
 fn append_block(block: &Block, reached: u32, out: &mut Vec<u8>) -> Result<u32, NoMemory>
-    ensures { IfOk result (λ line. (line, out.new.items)
+    ensures { IfOk result (λ behind. (behind, out.new.items)
         ≡ with_clauses (reached, out.old.items) (block_clauses block.now)) }
 {
     let line = append_head(block, reached, out)?;
@@ -186,7 +187,8 @@ fn append_block(block: &Block, reached: u32, out: &mut Vec<u8>) -> Result<u32, N
     let line = append_begin_of(block.kind, line, out)?;
     let line = append_settings(block.settings.as_slice(), line, out)?;
     let line = append_body(block.body.as_slice(), line, out)?;
-    append_end(block.kind, block.end_line, line, out)
+    let line = append_end(block.kind, block.end_line, line, out)?;
+    Ok(line)
 }
 
 /// Appends blocks.
@@ -195,7 +197,7 @@ pub(crate) fn append_blocks(
     reached: u32,
     out: &mut Vec<u8>,
 ) -> Result<u32, NoMemory>
-    ensures { IfOk result (λ line. (line, out.new.items)
+    ensures { IfOk result (λ behind. (behind, out.new.items)
         ≡ with_clauses (reached, out.old.items) (flat_map block_clauses blocks.now)) }
 {
     let mut line = reached;

@@ -22,10 +22,9 @@ const HERE: u32 = 0;
 
 /// Appends a clause that is one word.
 fn append_keyword(word: &[u8], line: u32, reached: u32, out: &mut Vec<u8>) -> Result<u32, NoMemory>
-    ensures { IfOk result (λ behind. (behind, out.new.items) ≡ (
-      line_after reached line,
-      (out.old.items ++ gap_text (gap_before reached line)) ++ word.now,
-    )) }
+    ensures line { IfOk result (λ behind. behind ≡ line_after reached line) }
+    ensures text { OnOk result (out.new.items
+        ≡ (out.old.items ++ gap_text (gap_before reached line)) ++ word.now) }
 {
     append_token(clause_gap(reached, line), word, out)?;
     Ok(line_behind(reached, line))
@@ -52,7 +51,7 @@ fn append_return_type(
 /// Appends the first clause of a block.
 #[tactic(auto, unfolding(crate::specs::Clauses::clause_pieces, crate::specs::Clauses::line_of, crate::specs::Clauses::with_clause))]
 pub(crate) fn append_head(block: &Block, reached: u32, out: &mut Vec<u8>) -> Result<u32, NoMemory>
-    ensures { IfOk result (λ line. (line, out.new.items)
+    ensures { IfOk result (λ behind. (behind, out.new.items)
         ≡ with_clauses (reached, out.old.items) (clause.Head block.now.line block.now.kind block.now.name block.now.result ∷ [])) }
 {
     let line = append_keyword(head_word(block.kind), block.line, reached, out)?;
@@ -69,10 +68,11 @@ pub(crate) fn append_end(
     reached: u32,
     out: &mut Vec<u8>,
 ) -> Result<u32, NoMemory>
-    ensures { IfOk result (λ line. (line, out.new.items)
+    ensures { IfOk result (λ behind. (behind, out.new.items)
         ≡ with_clauses (reached, out.old.items) (clause.Ends line kind ∷ [])) }
 {
-    append_keyword(end_word(kind), line, reached, out)
+    let line = append_keyword(end_word(kind), line, reached, out)?;
+    Ok(line)
 }
 
 /// Appends the word that begins a section.
@@ -83,16 +83,17 @@ pub(crate) fn append_section_word(
     reached: u32,
     out: &mut Vec<u8>,
 ) -> Result<u32, NoMemory>
-    ensures { IfOk result (λ line. (line, out.new.items)
+    ensures { IfOk result (λ behind. (behind, out.new.items)
         ≡ with_clauses (reached, out.old.items) (clause.Section line kind ∷ [])) }
 {
-    append_keyword(section_word(kind), line, reached, out)
+    let line = append_keyword(section_word(kind), line, reached, out)?;
+    Ok(line)
 }
 
 /// Appends END_VAR.
 #[tactic(auto, unfolding(crate::specs::Clauses::clause_pieces, crate::specs::Clauses::line_of, crate::specs::Clauses::with_clause))]
 pub(crate) fn append_section_end(reached: u32, out: &mut Vec<u8>) -> Result<u32, NoMemory>
-    ensures { IfOk result (λ line. (line, out.new.items)
+    ensures { IfOk result (λ behind. (behind, out.new.items)
         ≡ with_clauses (reached, out.old.items) (clause.EndSection ∷ [])) }
 {
     append_keyword(b"END_VAR", HERE, reached, out)
@@ -101,7 +102,7 @@ pub(crate) fn append_section_end(reached: u32, out: &mut Vec<u8>) -> Result<u32,
 /// Appends BEGIN.
 #[tactic(auto, unfolding(crate::specs::Clauses::clause_pieces, crate::specs::Clauses::line_of, crate::specs::Clauses::with_clause))]
 pub(crate) fn append_begin(reached: u32, out: &mut Vec<u8>) -> Result<u32, NoMemory>
-    ensures { IfOk result (λ line. (line, out.new.items)
+    ensures { IfOk result (λ behind. (behind, out.new.items)
         ≡ with_clauses (reached, out.old.items) (clause.Begins ∷ [])) }
 {
     append_keyword(b"BEGIN", HERE, reached, out)
@@ -110,7 +111,7 @@ pub(crate) fn append_begin(reached: u32, out: &mut Vec<u8>) -> Result<u32, NoMem
 /// Appends the STRUCT of a block.
 #[tactic(auto, unfolding(crate::specs::Clauses::clause_pieces, crate::specs::Clauses::line_of, crate::specs::Clauses::with_clause))]
 pub(crate) fn append_structure(reached: u32, out: &mut Vec<u8>) -> Result<u32, NoMemory>
-    ensures { IfOk result (λ line. (line, out.new.items)
+    ensures { IfOk result (λ behind. (behind, out.new.items)
         ≡ with_clauses (reached, out.old.items) (clause.Structure ∷ [])) }
 {
     append_keyword(b"STRUCT", HERE, reached, out)
@@ -119,7 +120,7 @@ pub(crate) fn append_structure(reached: u32, out: &mut Vec<u8>) -> Result<u32, N
 /// Appends END_STRUCT.
 #[tactic(auto, unfolding(crate::specs::Clauses::clause_pieces, crate::specs::Clauses::line_of, crate::specs::Clauses::with_clause))]
 pub(crate) fn append_structure_end(reached: u32, out: &mut Vec<u8>) -> Result<u32, NoMemory>
-    ensures { IfOk result (λ line. (line, out.new.items)
+    ensures { IfOk result (λ behind. (behind, out.new.items)
         ≡ with_clauses (reached, out.old.items) (clause.EndStructure ∷ [])) }
 {
     let line = append_keyword(b"END_STRUCT", HERE, reached, out)?;
@@ -128,12 +129,13 @@ pub(crate) fn append_structure_end(reached: u32, out: &mut Vec<u8>) -> Result<u3
 }
 
 /// Appends the END_STRUCT of so many structures.
+#[tactic(auto, using(crate::proofs::LineLemmas::ends_all, crate::proofs::LineLemmas::ends_more))]
 pub(crate) fn append_structure_ends(
     count: u64,
     reached: u32,
     out: &mut Vec<u8>,
 ) -> Result<u32, NoMemory>
-    ensures { IfOk result (λ line. (line, out.new.items)
+    ensures { IfOk result (λ behind. (behind, out.new.items)
         ≡ with_clauses (reached, out.old.items) (structure_ends count)) }
 {
     let mut line = reached;
@@ -150,7 +152,7 @@ pub(crate) fn append_base(
     reached: u32,
     out: &mut Vec<u8>,
 ) -> Result<u32, NoMemory>
-    ensures { IfOk result (λ line. (line, out.new.items)
+    ensures { IfOk result (λ behind. (behind, out.new.items)
         ≡ with_clauses (reached, out.old.items) (clause.Based name.now ∷ [])) }
 {
     append_block_name(clause_gap(reached, HERE), name, out)?;
@@ -164,7 +166,7 @@ pub(crate) fn append_declares(
     reached: u32,
     out: &mut Vec<u8>,
 ) -> Result<u32, NoMemory>
-    ensures { IfOk result (λ line. (line, out.new.items)
+    ensures { IfOk result (λ behind. (behind, out.new.items)
         ≡ with_clauses (reached, out.old.items) (clause.Declares declaration.now ∷ [])) }
 {
     append_declaration(clause_gap(reached, declaration.line), declaration, out)?;
@@ -178,7 +180,7 @@ pub(crate) fn append_sets(
     reached: u32,
     out: &mut Vec<u8>,
 ) -> Result<u32, NoMemory>
-    ensures { IfOk result (λ line. (line, out.new.items)
+    ensures { IfOk result (λ behind. (behind, out.new.items)
         ≡ with_clauses (reached, out.old.items) (clause.Sets setting.now ∷ [])) }
 {
     append_setting(clause_gap(reached, setting.line), setting, out)?;
@@ -192,7 +194,7 @@ pub(crate) fn append_runs(
     reached: u32,
     out: &mut Vec<u8>,
 ) -> Result<u32, NoMemory>
-    ensures { IfOk result (λ line. (line, out.new.items)
+    ensures { IfOk result (λ behind. (behind, out.new.items)
         ≡ with_clauses (reached, out.old.items) (clause.Runs statement.now ∷ [])) }
 {
     append_statement(clause_gap(reached, statement.line), statement, out)?;

@@ -16,6 +16,7 @@ fn digit(value: u8) -> u8
 }
 
 /// Appends the lowest hexadecimal digits of a number, so many, in upper case.
+#[tactic(auto, unfolding(crate::specs::Digits::digits))]
 pub(crate) fn append_hex_digits(count: u32, number: u32, out: &mut Vec<u8>) -> Result<(), NoMemory>
     requires { count ≤ 8 }
     ensures { OnOk result (out.new.items ≡ out.old.items ++ digits 16 count number) }
@@ -27,6 +28,7 @@ pub(crate) fn append_hex_digits(count: u32, number: u32, out: &mut Vec<u8>) -> R
 }
 
 /// Appends the lowest binary digits of a number, so many.
+#[tactic(auto, unfolding(crate::specs::Digits::digits))]
 pub(crate) fn append_binary_digits(
     count: u32,
     number: u32,

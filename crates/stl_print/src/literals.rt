@@ -1,4 +1,4 @@
-ghost use Rattle.std.specs.Prelude.{◌≡◌, ◌++◌, ◌∷◌, [], codes, decimal, OnOk};
+ghost use Rattle.std.specs.Prelude.{◌≡◌, ◌≤◌, ◌++◌, ◌∷◌, [], codes, decimal, OnOk};
 ghost use Rattle.std.specs.Fmt.{signed_decimal};
 ghost use Rattle.stl_lexer.specs.Bytes.{single_quote};
 ghost use Rattle.stl_print.specs.Digits.{digits};
@@ -12,6 +12,7 @@ use crate::tokens::{
     append_enclosed, append_mark, append_number, append_prefixed, append_signed_number,
     append_token,
 };
+use crate::words::truth_word;
 use itoa::Buffer;
 use plc_base::NoMemory;
 use stl_ast::Literal;
@@ -38,13 +39,6 @@ fn append_binary(gap: Gap, value: u32, out: &mut Vec<u8>) -> Result<(), NoMemory
 {
     append_token(gap, b"2#", out)?;
     append_binary_digits(32, value, out)
-}
-
-fn append_truth(gap: Gap, value: bool, out: &mut Vec<u8>) -> Result<(), NoMemory>
-    ensures { OnOk result (out.new.items
-        ≡ (out.old.items ++ gap_text gap) ++ (if value then codes "TRUE" else codes "FALSE")) }
-{
-    append_token(gap, if value { b"TRUE" } else { b"FALSE" }, out)
 }
 
 fn append_long(gap: Gap, value: i32, out: &mut Vec<u8>) -> Result<(), NoMemory>
@@ -117,7 +111,7 @@ pub(crate) fn append_literal(gap: Gap, literal: &Literal, out: &mut Vec<u8>) -> 
         ≡ with_pieces out.old.items (literal_pieces gap literal.now)) }
 {
     match literal {
-        Literal::Truth { value } => append_truth(gap, *value, out),
+        Literal::Truth { value } => append_token(gap, truth_word(*value), out),
         Literal::Number { value } => append_signed_number(gap, *value, out),
         Literal::Binary { value } => append_binary(gap, *value, out),
         Literal::Byte { value } => append_hexadecimal(gap, b"B#16#", 2, u32::from(*value), out),

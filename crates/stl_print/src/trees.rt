@@ -1,22 +1,18 @@
-ghost use Rattle.std.specs.Prelude.{◌≡◌, [], IfOk, OnOk};
-ghost use Rattle.stl_print.specs.Trees.{printed};
+ghost use Rattle.std.specs.Prelude.{◌≡◌, ◌++◌, IfOk, OnOk};
+ghost use Rattle.stl_print.specs.Trees.{end_of, printed};
 
 use crate::blocks::append_blocks;
 use plc_base::NoMemory;
 use std::alloc::Global;
-use stl_ast::Tree;
+use stl_ast::{Block, Tree};
 
-/// Appends a tree to an empty text.
-fn append_tree(tree: &Tree, out: &mut Vec<u8>) -> Result<(), NoMemory>
-    requires { out.old.items ≡ [] }
-    ensures { OnOk result (out.new.items ≡ printed tree.now) }
+/// Appends the end of the last line, where there is one.
+fn append_last_end(blocks: &[Block], out: &mut Vec<u8>) -> Result<(), NoMemory>
+    ensures { OnOk result (out.new.items ≡ out.old.items ++ end_of blocks.now) }
 {
-    let blocks = tree.blocks.as_slice();
-    append_blocks(blocks, 0, out)?;
-    if blocks.is_empty() {
-        Ok(())
-    } else {
-        out.extend_from_slice(b"\n")
+    match blocks {
+        [] => Ok(()),
+        [_, ..] => out.extend_from_slice(b"\n"),
     }
 }
 
@@ -30,7 +26,9 @@ fn append_tree(tree: &Tree, out: &mut Vec<u8>) -> Result<(), NoMemory>
 pub fn print(alloc: Global, tree: &Tree) -> Result<Vec<u8>, NoMemory>
     ensures { IfOk result (λ text. text.items ≡ printed tree.now) }
 {
+    let blocks = tree.blocks.as_slice();
     let mut text = Vec::new(alloc);
-    append_tree(tree, &mut text)?;
+    append_blocks(blocks, 0, &mut text)?;
+    append_last_end(blocks, &mut text)?;
     Ok(text)
 }

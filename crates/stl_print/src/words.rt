@@ -11,6 +11,7 @@ ghost use Rattle.stl_print.specs.Words.{
   result_word,
   section_word,
   size_letter,
+  truth_word,
   type_word,
   width_letter,
 };
@@ -185,4 +186,12 @@ pub(crate) fn flag_text(flag: Flag) -> &'static [u8]
         Flag::LeZero => b"<=0",
         Flag::Uo => b"UO",
     }
+}
+
+/// A value of a bit.
+#[tactic(auto, unfolding(crate::specs::Words::truth_word))]
+pub(crate) fn truth_word(value: bool) -> &'static [u8]
+    ensures { result.now ≡ truth_word value }
+{
+    if value { b"TRUE" } else { b"FALSE" }
 }
