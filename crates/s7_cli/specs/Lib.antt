@@ -1,5 +1,4 @@
 pub mod Answer
-pub mod Asking
 pub mod BoundSays
 pub mod BoundTexts
 pub mod Command
