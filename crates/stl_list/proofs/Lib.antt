@@ -1,1 +1,4 @@
 pub mod RunLemmas
+pub mod OrderLemmas
+pub mod ChainLemmas
+pub mod DeclaredLemmas

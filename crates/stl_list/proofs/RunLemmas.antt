@@ -1,16 +1,17 @@
 -- The offsets of statements: they rise, and are found by a binary search.
-use Rattle.std.proofs.Common.{◌≡◌, ℕ, zero, suc, ◌+◌, ◌≤◌, ◌<◌, eqb, Bool, true, false, List, [], ◌∷◌, ◌++◌, length, drop, get_or, refl, sym, ap, ◌∙◌, arith}
+use Rattle.std.proofs.Common.{◌≡◌, ℕ, zero, suc, ◌+◌, ◌-◌, ◌≤◌, ◌<◌, eqb, ltb, Bool, true, false, List, [], ◌∷◌, ◌++◌, length, take, drop, get_or, refl, sym, ap, subst, ◌∙◌, append_assoc, length-append, length-drop, arith}
 use Rattle.std.specs.List.{AllByRecursion, position_or_len}
 use Rattle.std.specs.List.Sorted.{IsBinarySearchResult, IsStrictlySortedBy}
 use Rattle.std.specs.Ordering.{nat_cmp}
 use Rattle.std.specs.Prelude.{Result, Ok, Err}
 use Rattle.std.specs.declared.cmp.Ordering.TheVariants.{Less}
 use Rattle.std.proofs.lemmas.Bool.Decides.{nat_tests}
+use Rattle.std.proofs.lemmas.List.{append-nil, drop_more, get_or-drop, take_more}
 use Rattle.std.proofs.lemmas.List.Sorted.{searched}
 use Rattle.std.proofs.lemmas.Map.Keys.{below_from_sorted}
 use Rattle.flat_code.specs.Codes.{code_bytes, size}
 use Rattle.flat_code.specs.Ops.{OpData, op_bytes}
-use Rattle.stl_list.specs.Runs.{start_here, starts, starts_from, number_at}
+use Rattle.stl_list.specs.Runs.{Run, number_at, runs_from, start_here, starts, starts_from}
 
 -- ---- they rise
 
@@ -45,9 +46,10 @@ rise_from : (at : ℕ) (begins : Bool) (ops : List OpData) → IsStrictlySortedB
 unfolding IsStrictlySortedBy
 rise_from at begins [] = tt
 rise_from at true (op ∷ ops) =
-    let above = size_above op in
-    (less_from at (at + size op) (starts_from (at + size op) op.last ops) (omega arith) (are_from (at + size op) op.last ops),
-     rise_from (at + size op) op.last ops)
+    let above = size_above op in (
+      less_from at (at + size op) (starts_from (at + size op) op.last ops) (omega arith) (are_from (at + size op) op.last ops),
+      rise_from (at + size op) op.last ops,
+    )
 rise_from at false (op ∷ ops) = rise_from (at + size op) op.last ops
 
 pub starts_rise : (ops : List OpData) → IsStrictlySortedBy nat_cmp (starts ops)
@@ -107,3 +109,65 @@ found_nowhere starts x i rise h =
 pub record Reaches (noted : List ℕ) (at : ℕ) (begins : Bool) (left ops : List OpData) : Type 0 where
   pub listed : noted ++ starts_from at begins left ≡ starts ops
   pub place : at + length (code_bytes left) ≡ length (code_bytes ops)
+
+pub reaches_none : (noted : List ℕ) (ops : List OpData) → noted ≡ [] → Reaches noted 0 true ops ops
+unfolding starts
+reaches_none noted ops is = record { listed = ap (λ (z : List ℕ). z ++ starts_from 0 true ops) is; place = refl }
+
+-- the bytes of the ops that are left, behind one op more
+bytes_behind : (at after : ℕ) (op : OpData) (rest : List OpData) (whole : ℕ) → after ≡ at + size op → at + length (code_bytes (op ∷ rest)) ≡ whole → after + length (code_bytes rest) ≡ whole
+unfolding size
+bytes_behind at after op rest whole there bytes = omega (arith, there, bytes, length-append (op_bytes op) (code_bytes rest))
+
+-- behind one op more
+pub reaches_next : (noted next : List ℕ) (at after : ℕ) (begins : Bool) (op : OpData) (ops : List OpData) (i : ℕ) → i < length ops → op ≡ get_or ops i op
+    → next ≡ noted ++ start_here at begins → after ≡ at + size op → Reaches noted at begins (drop i ops) ops → Reaches next after op.last (drop (i + 1) ops) ops
+reaches_next noted next at after begins op ops i within is more there h =
+    let parted : drop i ops ≡ op ∷ drop (i + 1) ops = drop_more ops i op within ∙ ap (λ (y : OpData). y ∷ drop (i + 1) ops) (sym is) in
+    let all = subst (λ (z : List OpData). noted ++ starts_from at begins z ≡ starts ops) parted h.listed in
+    let bytes = subst (λ (z : List OpData). at + length (code_bytes z) ≡ length (code_bytes ops)) parted h.place in
+    record {
+      listed =
+          ap (λ (z : List ℕ). z ++ starts_from after op.last (drop (i + 1) ops)) more
+          ∙ append_assoc noted (start_here at begins) (starts_from after op.last (drop (i + 1) ops))
+          ∙ ap (λ (k : ℕ). noted ++ (start_here at begins ++ starts_from k op.last (drop (i + 1) ops))) there
+          ∙ all;
+      place = bytes_behind at after op (drop (i + 1) ops) (length (code_bytes ops)) there bytes;
+    }
+
+-- an op that is left has room
+pub room_left : (noted : List ℕ) (at : ℕ) (begins : Bool) (op : OpData) (ops : List OpData) (i : ℕ) → i < length ops → op ≡ get_or ops i op
+    → Reaches noted at begins (drop i ops) ops → at + size op ≤ length (code_bytes ops)
+unfolding size
+room_left noted at begins op ops i within is h =
+    let parted : drop i ops ≡ op ∷ drop (i + 1) ops = drop_more ops i op within ∙ ap (λ (y : OpData). y ∷ drop (i + 1) ops) (sym is) in
+    let bytes = subst (λ (z : List OpData). at + length (code_bytes z) ≡ length (code_bytes ops)) parted h.place in
+    omega (arith, bytes, length-append (op_bytes op) (code_bytes (drop (i + 1) ops)))
+
+pub reaches_end : (noted : List ℕ) (at : ℕ) (begins : Bool) (left ops : List OpData) → left ≡ [] → Reaches noted at begins left ops → noted ≡ starts ops
+reaches_end noted at begins left ops over h =
+    sym (append-nil noted) ∙ sym (ap (λ (z : List OpData). noted ++ starts_from at begins z) over) ∙ h.listed
+
+-- ---- statements
+
+-- a statement of which the ops from a place on were passed ends at an op
+pub run_ends : (ops : List OpData) (from place : ℕ) (op : OpData) → from ≤ place → place < length ops → op ≡ get_or ops place op → op.last ≡ true
+    → runs_from (take (place - from) (drop from ops)) (drop place ops)
+    ≡ record { before = take (place - from) (drop from ops); op = op } ∷ runs_from (take (place + 1 - (place + 1)) (drop (place + 1) ops)) (drop (place + 1) ops)
+run_ends ops from place op le lt is last =
+    let parted : drop place ops ≡ op ∷ drop (place + 1) ops = drop_more ops place op lt ∙ ap (λ (y : OpData). y ∷ drop (place + 1) ops) (sym is) in
+    let none : place + 1 - (place + 1) ≡ 0 = omega arith in
+    rw parted (rw last (rw none refl))
+
+-- or goes on behind it
+pub run_goes : (ops : List OpData) (from place : ℕ) (op : OpData) → from ≤ place → place < length ops → op ≡ get_or ops place op → op.last ≡ false
+    → runs_from (take (place - from) (drop from ops)) (drop place ops) ≡ runs_from (take (place + 1 - from) (drop from ops)) (drop (place + 1) ops)
+run_goes ops from place op le lt is last =
+    let parted : drop place ops ≡ op ∷ drop (place + 1) ops = drop_more ops place op lt ∙ ap (λ (y : OpData). y ∷ drop (place + 1) ops) (sym is) in
+    let here : get_or (drop from ops) (place - from) op ≡ op = get_or-drop ops from (place - from) op ∙ ap (λ (k : ℕ). get_or ops k op) (omega arith) ∙ sym is in
+    let one : place + 1 - from ≡ (place - from) + 1 = omega arith in
+    let longer : take (place + 1 - from) (drop from ops) ≡ take (place - from) (drop from ops) ++ op ∷ [] =
+    ap (λ (k : ℕ). take k (drop from ops)) one
+    ∙ take_more (drop from ops) (place - from) op (omega (arith, length-drop ops from))
+    ∙ ap (λ (y : OpData). take (place - from) (drop from ops) ++ y ∷ []) here in
+    rw longer (rw parted (rw last refl))

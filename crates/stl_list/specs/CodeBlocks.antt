@@ -7,7 +7,7 @@ use Rattle.stl_ast.specs.declared.declarations.Simple.{Simple}
 use Rattle.stl_ast.specs.declared.names.BlockName.TheVariants as block
 use Rattle.stl_types.specs.declared.parameters.Formal.{Formal}
 use Rattle.stl_codegen.specs.Order.{sorted}
-use Rattle.stl_list.specs.Declared.{sections}
+use Rattle.stl_list.specs.Sections.{sections}
 use Rattle.stl_list.specs.Lines.{first_line, line_behind, lines_from, stands_before}
 use Rattle.stl_list.specs.Parameters.{is_return}
 use Rattle.stl_list.specs.Signatures.{Signature, formals_of}

@@ -11,7 +11,7 @@ use Rattle.stl_ast.specs.declared.declarations.ElementType.TheVariants as elemen
 use Rattle.stl_ast.specs.declared.declarations.TypeTree.{TypeTree}
 use Rattle.stl_ast.specs.declared.names.BlockName.{BlockName}
 use Rattle.stl_ast.specs.declared.names.BlockName.TheVariants as block
-use Rattle.stl_list.specs.Declared.{bytes_here, data_name}
+use Rattle.stl_list.specs.Sections.{bytes_here, data_name}
 use Rattle.stl_list.specs.Initial.{settings_of, values_of}
 use Rattle.stl_list.specs.Operands.{data_block_name}
 use Rattle.stl_list.specs.Signatures.{Signature}

@@ -12,7 +12,7 @@ use Rattle.stl_ast.specs.declared.literals.Literal.{Literal}
 use Rattle.stl_ast.specs.declared.literals.Literal.TheVariants as literal
 use Rattle.stl_types.specs.declared.parameters.Formal.{Formal}
 use Rattle.stl_list.specs.Constants.{typed_constant}
-use Rattle.stl_list.specs.Declared.{static_len, static_name, static_start}
+use Rattle.stl_list.specs.Sections.{static_len, static_name, static_start}
 use Rattle.stl_list.specs.Signatures.{Signature}
 
 -- ---- a data block of its own

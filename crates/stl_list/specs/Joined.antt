@@ -114,9 +114,13 @@ parameter_count (b ∷ bs) = length b.params + parameter_count bs
 
 -- ---- chains
 
+-- a label, if it is this one, gives way to another
+abbrev pub replaced : (from to label : ℕ) → ℕ
+replaced from to label = if label == from then to else label
+
 -- all that have one label get another
 abbrev pub relabelled : Option ℕ → Option ℕ → List ℕ → List ℕ
-relabelled (Some from) (Some to) labels = map (λ label. if label == from then to else label) labels
+relabelled (Some from) (Some to) labels = map (replaced from to) labels
 relabelled _ _ labels = labels
 
 -- the labels of parameters after a link: two that are joined have the same label, and so have all that

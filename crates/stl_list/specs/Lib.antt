@@ -9,7 +9,7 @@ pub mod Operands
 pub mod Actuals
 pub mod Statements
 pub mod Lines
-pub mod Declared
+pub mod Sections
 pub mod CodeBlocks
 pub mod Initial
 pub mod DataBlocks

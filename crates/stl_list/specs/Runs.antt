@@ -1,7 +1,7 @@
 -- The statements of a code block: its ops up to each end mark.
-use Rattle.std.specs.Prelude.{ℕ, ◌+◌, ◌^◌, ◌<◌, ◌==◌, Bool, true, false, List, [], ◌∷◌, ◌++◌, length, replicate, if◌then◌else◌, slice_set}
+use Rattle.std.specs.Prelude.{ℕ, ◌+◌, ◌==◌, Bool, true, false, List, [], ◌∷◌, ◌++◌, length, replicate, if◌then◌else◌, slice_set}
 use Rattle.std.specs.List.{fold, position_or_len}
-use Rattle.flat_code.specs.Codes.{code_bytes, size}
+use Rattle.flat_code.specs.Codes.{size}
 use Rattle.flat_code.specs.Ops.{OpData}
 use Rattle.flat_code.specs.declared.operands.Operand.{Operand}
 use Rattle.flat_code.specs.declared.operands.Operand.TheVariants as flat
@@ -21,10 +21,6 @@ runs_from before (op ∷ ops) =
 -- the statements of the code of a block
 unfoldable pub runs : List OpData → List Run
 runs ops = runs_from [] ops
-
--- the code takes so few bytes that each offset fits 32 bits
-abbrev pub IsShort : List OpData → Type 0
-IsShort ops = length (code_bytes ops) < 2 ^ 32
 
 -- one offset, where a statement begins there
 abbrev pub start_here : (at : ℕ) → (begins : Bool) → List ℕ

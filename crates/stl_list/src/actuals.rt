@@ -9,6 +9,7 @@ ghost use Rattle.stl_list.specs.Actuals.{
   is_written,
   passed_operand,
 };
+ghost use Rattle.stl_list.specs.Signatures.{called_formals};
 
 use crate::constants::typed_constant;
 use crate::links::{called_id, system_parameters};

@@ -1,7 +1,8 @@
 //! Which parameters a chain of passings joins to an INT or a TIME of a system function.
-ghost use Rattle.std.specs.Prelude.{◌≡◌, ◌<◌, length, IfOk, slice_get};
-ghost use Rattle.std.specs.Option.{option_map};
+ghost use Rattle.std.specs.Prelude.{◌≡◌, ◌<◌, false, length, map, unwrap_or, IfOk, slice_get};
+ghost use Rattle.std.specs.List.{range_with_len};
 ghost use Rattle.stl_list.specs.Joined.{
+  chains_by,
   chains_of,
   is_int,
   is_time,
@@ -10,8 +11,9 @@ ghost use Rattle.stl_list.specs.Joined.{
   marked,
   marks_of,
   parameter_count,
-  relabelled,
   relinked,
+  replaced,
+  set_label,
 };
 
 use crate::links::{Link, links};
@@ -34,29 +36,61 @@ fn parameter_count(blocks: &[CodeBlock]) -> usize
     count
 }
 
+fn replaced(from: usize, to: usize, label: usize) -> usize
+    ensures { result ≡ replaced from to label }
+{
+    if label == from { to } else { label }
+}
+
 /// Gives all that have one label another.
 fn relabel(labels: &mut [usize], from: usize, to: usize)
-    ensures { labels.new ≡ relabelled (Some from) (Some to) labels.old }
+    ensures { labels.new ≡ map (replaced from to) labels.old }
 {
     for label in labels.iter_mut() {
-        if *label == from {
-            *label = to;
-        }
+        *label = replaced(from, to, *label);
+    }
+}
+
+fn label_at(labels: &[usize], parameter: usize) -> Option<usize>
+    ensures { result ≡ slice_get labels.now parameter }
+{
+    labels.get(parameter).copied()
+}
+
+/// Joins two parameters, and all that are joined to one of them.
+#[tactic(auto, using(crate::proofs::ChainLemmas::replaced_by_itself))]
+fn join(labels: &mut [usize], own: usize, other: usize)
+    ensures { labels.new ≡ relinked labels.old (Link.Joins own other) }
+{
+    let Some(from) = label_at(labels, own) else {
+        return;
+    };
+    let Some(to) = label_at(labels, other) else {
+        return;
+    };
+    if from != to {
+        relabel(labels, from, to);
     }
 }
 
 fn relink(labels: &mut [usize], link: Link)
     ensures { labels.new ≡ relinked labels.old link }
 {
-    if let Link::Joins { own, other } = link {
-        let from = labels.get(own).copied();
-        let to = labels.get(other).copied();
-        if let (Some(from), Some(to)) = (from, to) {
-            if from != to {
-                relabel(labels, from, to);
-            }
-        }
+    match link {
+        Link::Joins { own, other } => join(labels, own, other),
+        Link::Has { .. } => {}
     }
+}
+
+/// A label for each of so many parameters.
+fn first_labels(alloc: Global, count: usize) -> Result<Vec<usize>, NoMemory>
+    ensures { IfOk result (λ v. v.items ≡ range_with_len 0 count) }
+{
+    let mut labels = Vec::with_capacity(alloc, count)?;
+    for number in 0..count {
+        labels.push(number)?;
+    }
+    Ok(labels)
 }
 
 /// Labels of so many parameters: those that a chain of passings joins have the same.
@@ -64,7 +98,7 @@ fn relink(labels: &mut [usize], link: Link)
 fn labels_of(alloc: Global, count: usize, links: &[Link]) -> Result<Vec<usize>, NoMemory>
     ensures { IfOk result (λ v. v.items ≡ labels_of count links.now) }
 {
-    let mut labels = (0..count).collect::<Vec<usize>>(alloc)?;
+    let mut labels = first_labels(alloc, count)?;
     for link in links {
         relink(&mut labels, *link);
     }
@@ -87,9 +121,37 @@ fn is_time(kind: Simple) -> bool
 fn mark_label(marks: &mut [bool], labels: &[usize], own: usize)
     ensures { marks.new ≡ set_label marks.old (slice_get labels.now own) }
 {
-    if let Some(label) = labels.get(own).copied() {
+    if let Some(label) = label_at(labels, own) {
         if label < marks.len() {
             marks[label] = true;
+        }
+    }
+}
+
+/// Marks the label of a parameter that is passed for an INT of a system function.
+fn mark_int(marks: &mut [bool], labels: &[usize], link: Link)
+    ensures { marks.new ≡ marked is_int labels.now marks.old link }
+{
+    match link {
+        Link::Joins { .. } => {}
+        Link::Has { own, kind } => {
+            if is_int(kind) {
+                mark_label(marks, labels, own);
+            }
+        }
+    }
+}
+
+/// The same for a TIME.
+fn mark_time(marks: &mut [bool], labels: &[usize], link: Link)
+    ensures { marks.new ≡ marked is_time labels.now marks.old link }
+{
+    match link {
+        Link::Joins { .. } => {}
+        Link::Has { own, kind } => {
+            if is_time(kind) {
+                mark_label(marks, labels, own);
+            }
         }
     }
 }
@@ -101,13 +163,7 @@ fn int_marks(alloc: Global, labels: &[usize], links: &[Link]) -> Result<Vec<bool
 {
     let mut marks = vec![in alloc; false; labels.len()]?;
     for link in links {
-        if let Link::Has {
-            own,
-            kind: Simple::Int,
-        } = *link
-        {
-            mark_label(&mut marks, labels, own);
-        }
+        mark_int(&mut marks, labels, *link);
     }
     Ok(marks)
 }
@@ -119,13 +175,7 @@ fn time_marks(alloc: Global, labels: &[usize], links: &[Link]) -> Result<Vec<boo
 {
     let mut marks = vec![in alloc; false; labels.len()]?;
     for link in links {
-        if let Link::Has {
-            own,
-            kind: Simple::Time,
-        } = *link
-        {
-            mark_label(&mut marks, labels, own);
-        }
+        mark_time(&mut marks, labels, *link);
     }
     Ok(marks)
 }
@@ -150,12 +200,18 @@ impl Model for Chains {
     } };
 }
 
+fn is_marked(marks: &[bool], label: usize) -> bool
+    ensures { result ≡ unwrap_or (slice_get marks.now label) false }
+{
+    marks.get(label).copied().unwrap_or(false)
+}
+
 fn mark_at(marks: &[bool], label: Option<usize>) -> bool
     ensures { result ≡ mark_at marks.now label }
 {
     match label {
         None => false,
-        Some(label) => marks.get(label).copied().unwrap_or(false),
+        Some(label) => is_marked(marks, label),
     }
 }
 
@@ -192,7 +248,7 @@ impl Chains {
     pub(crate) fn kind_at(&self, parameter: usize, width: Width) -> Simple
         ensures { result ≡ kind_at self.now parameter width }
     {
-        let label = self.labels.get(parameter).copied();
+        let label = label_at(self.labels.as_slice(), parameter);
         if mark_at(self.ints.as_slice(), label) {
             Simple::Int
         } else if mark_at(self.times.as_slice(), label) {

@@ -1,12 +1,17 @@
 //! The code blocks of a listing.
-ghost use Rattle.std.specs.Prelude.{◌≡◌, ◌<◌, ◌^◌, ◌++◌, length, IfOk};
-ghost use Rattle.std.specs.List.{AllByRecursion};
-ghost use Rattle.flat_code.specs.Codes.{code_bytes};
+ghost use Rattle.std.specs.Prelude.{◌≡◌, ◌++◌, max, IfOk};
+ghost use Rattle.std.specs.List.{All};
+ghost use Rattle.stl_list.specs.Lines.{lines_from as lines_behind};
+ghost use Rattle.stl_list.specs.Lines.{first_line as first_line_of};
+ghost use Rattle.stl_list.specs.Sections.{sections as sections_of};
+ghost use Rattle.stl_list.specs.Signatures.{formals_of as formals_in};
+ghost use Rattle.stl_list.specs.Statements.{body_of as body_on};
+ghost use Rattle.image_file.specs.Writing.{BlockFits};
 ghost use Rattle.stl_list.specs.CodeBlocks.{line_reached, listed_block, listed_blocks, result_of};
 
-use crate::declared::sections;
 use crate::lines::{first_line, line_behind, lines_from};
 use crate::parameters::is_return;
+use crate::sections::sections;
 use crate::signatures::{Signature, formals_of};
 use crate::statements::body_of;
 use flat_code::CodeBlock;
@@ -30,9 +35,9 @@ fn body_behind(
     reached: u32,
     block: &CodeBlock,
 ) -> Result<Vec<Statement>, NoMemory>
-    requires { length (code_bytes block.now.code) < 2 ^ 32 }
+    requires { BlockFits block.now }
     ensures { IfOk result (λ v. v.items
-        ≡ body_of signatures.now (lines_from reached block.now.lines) block.now) }
+        ≡ body_on signatures.now (lines_behind reached block.now.lines) block.now) }
 {
     let lines = lines_from(alloc, reached, block.lines.as_slice())?;
     body_of(alloc, signatures, lines.as_slice(), block)
@@ -46,7 +51,13 @@ fn block_with(
     block: &CodeBlock,
     parts: Vec<Part>,
     body: Vec<Statement>,
-) -> Block {
+) -> Block
+    requires parts { parts.items ≡ sections_of (max reached (first_line_of block.now))
+        (formals_in signatures.now block.now.id) block.now }
+    requires body { body.items
+        ≡ body_on signatures.now (lines_behind reached block.now.lines) block.now }
+    ensures { result ≡ listed_block signatures.now reached block.now }
+{
     Block {
         line: reached.max(first_line(block)),
         end_line: line_behind(reached, block.lines.as_slice()),
@@ -69,7 +80,7 @@ fn listed_block(
     reached: u32,
     block: &CodeBlock,
 ) -> Result<Block, NoMemory>
-    requires { length (code_bytes block.now.code) < 2 ^ 32 }
+    requires { BlockFits block.now }
     ensures { IfOk result (λ b. b ≡ listed_block signatures.now reached block.now) }
 {
     let line = reached.max(first_line(block));
@@ -85,7 +96,7 @@ pub(crate) fn add_code_blocks(
     signatures: &[Signature],
     blocks: &[CodeBlock],
 ) -> Result<u32, NoMemory>
-    requires { AllByRecursion (λ b. length (code_bytes b.code) < 2 ^ 32) blocks.now }
+    requires { All BlockFits blocks.now }
     ensures listed { IfOk result (λ _. listed.new.items
         ≡ listed.old.items ++ listed_blocks signatures.now 1 blocks.now) }
     ensures line { IfOk result (λ line. line ≡ line_reached 1 blocks.now) }

@@ -1,6 +1,8 @@
 //! The data blocks of a listing.
-ghost use Rattle.std.specs.Prelude.{◌≡◌, ◌≤◌, ◌++◌, Some, None, find, length, IfOk};
-ghost use Rattle.std.specs.Option.{option_copied};
+ghost use Rattle.std.specs.Prelude.{◌≡◌, ◌<◌, ◌++◌, [], Some, None, length, IfOk};
+ghost use Rattle.std.specs.List.{All};
+ghost use Rattle.image_file.specs.Writing.{DataFits};
+ghost use Rattle.std.specs.Option.{option_copied, option_map};
 ghost use Rattle.stl_list.specs.DataBlocks.{
   data_block,
   function_block,
@@ -11,10 +13,10 @@ ghost use Rattle.stl_list.specs.DataBlocks.{
   structure,
 };
 
-use crate::declared::{DATA_NAME, bytes_here};
 use crate::initial::{settings_of, values_of};
 use crate::links::is_same;
 use crate::operands::data_block_name;
+use crate::sections::{DATA_NAME, bytes_here};
 use crate::signatures::Signature;
 use flat_code::DataBlock;
 use plc_base::{BlockId, BlockKind, NoMemory};
@@ -105,7 +107,8 @@ fn known_settings(
 
 /// A data block of its own.
 fn listed_own(alloc: Global, line: u32, number: u16, bytes: &[u8]) -> Result<Block, NoMemory>
-    requires { length bytes.now ≤ 65535 }
+    requires { length bytes.now < 65536 }
+    ensures { IfOk result (λ b. b ≡ listed_data [] line number bytes.now None) }
 {
     let values = values_of(alloc, bytes)?;
     let components = bytes_here(alloc, line, DATA_NAME, bytes.len() as u16, values)?;
@@ -121,7 +124,7 @@ fn listed_data(
     bytes: &[u8],
     instance_of: Option<u16>,
 ) -> Result<Block, NoMemory>
-    requires { length bytes.now ≤ 65535 }
+    requires { length bytes.now < 65536 }
     ensures { IfOk result (λ b. b
         ≡ listed_data signatures.now line number bytes.now instance_of) }
 {
@@ -143,7 +146,7 @@ pub(crate) fn add_data_blocks(
     line: u32,
     blocks: &[DataBlock],
 ) -> Result<(), NoMemory>
-    requires { AllByRecursion (λ d. length d.bytes ≤ 65535) blocks.now }
+    requires { All DataFits blocks.now }
     ensures { IfOk result (λ _. listed.new.items
         ≡ listed.old.items ++ listed_data_blocks signatures.now line blocks.now) }
 {

@@ -17,7 +17,7 @@ ghost use Rattle.stl_list.specs.Initial.{
 };
 
 use crate::constants::typed_constant;
-use crate::declared::{STATIC_NAME, static_len, static_start};
+use crate::sections::{STATIC_NAME, static_len, static_start};
 use crate::signatures::Signature;
 use flat_code::Param;
 use plc_base::{NoMemory, Width};

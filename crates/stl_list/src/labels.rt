@@ -1,6 +1,6 @@
 //! The labels of statements.
-ghost use Rattle.std.specs.Prelude.{◌≡◌, ◌<◌, IfOk};
-ghost use Rattle.stl_list.specs.Labels.{digit, label_of};
+ghost use Rattle.std.specs.Prelude.{◌≡◌, ◌<◌, ◌∷◌, IfOk};
+ghost use Rattle.stl_list.specs.Labels.{digit, label_of, three_digits};
 
 use plc_base::NoMemory;
 use std::alloc::Global;

@@ -27,9 +27,11 @@ pub(crate) fn lines_from(alloc: Global, reached: u32, lines: &[u32]) -> Result<V
 pub(crate) fn line_behind(reached: u32, lines: &[u32]) -> u32
     ensures { result ≡ line_behind reached lines.now }
 {
-    lines
-        .iter()
-        .fold(reached, |line: u32, next: &u32| line.max(*next))
+    let mut line = reached;
+    for next in lines {
+        line = line.max(*next);
+    }
+    line
 }
 
 /// The line at a place; 0 past the end.

@@ -1,6 +1,6 @@
 //! Which parameters calls pass on to which.
-ghost use Rattle.std.specs.Prelude.{◌≡◌, ◌<◌, ◌++◌, length, IfOk};
-ghost use Rattle.flat_code.specs.Programs.{CodeBlock as CodeBlockData};
+ghost use Rattle.std.specs.Prelude.{◌≡◌, ◌<◌, ◌^◌, ◌++◌, length, slice_get, IfOk};
+ghost use Rattle.plc_base.specs.Kinds.{is_same_block};
 ghost use Rattle.stl_list.specs.Joined.{
   block_links,
   call_links,
@@ -15,6 +15,7 @@ ghost use Rattle.stl_list.specs.Joined.{
   system_link,
   system_links,
   system_parameters,
+  typed_link,
 };
 
 use flat_code::{CodeBlock, Op, Operand, Passed, kind_of_code};
@@ -73,7 +74,8 @@ pub(crate) fn system_parameters(alloc: Global, number: u16) -> Result<Vec<Formal
 /// The number of the first parameter of a block; past all parameters where there is no such block.
 fn first_of(blocks: &[CodeBlock], id: BlockId) -> usize
     requires { length blocks.now < 65536 }
-    ensures { result ≡ first_of blocks.now id }
+    ensures value { result ≡ first_of blocks.now id }
+    ensures small { result < 2 ^ 32 }
 {
     let mut first = 0;
     for block in blocks {
@@ -107,6 +109,8 @@ fn add_joined(
     other: usize,
     before: &[Op],
 ) -> Result<(), NoMemory>
+    requires first { first < 2 ^ 32 }
+    requires other { other < 2 ^ 32 }
     ensures { IfOk result (λ _. links.new.items
         ≡ links.old.items ++ joined_links first other before.now) }
 {
@@ -147,6 +151,7 @@ fn add_system(
     first: usize,
     before: &[Op],
 ) -> Result<(), NoMemory>
+    requires { first < 2 ^ 32 }
     ensures { IfOk result (λ _. links.new.items
         ≡ links.old.items ++ system_links formals.now first before.now) }
 {
@@ -167,6 +172,8 @@ fn add_call(
     first: usize,
     before: &[Op],
 ) -> Result<(), NoMemory>
+    requires first { first < 2 ^ 32 }
+    requires blocks { length blocks.now < 65536 }
     ensures { IfOk result (λ _. links.new.items
         ≡ links.old.items ++ call_links blocks.now id first before.now) }
 {
@@ -187,6 +194,8 @@ fn add_run(
     before: &[Op],
     op: &Op,
 ) -> Result<(), NoMemory>
+    requires first { first < 2 ^ 32 }
+    requires blocks { length blocks.now < 65536 }
     ensures { IfOk result (λ _. links.new.items
         ≡ links.old.items ++ run_links blocks.now first before.now op.now.operand) }
 {
@@ -211,13 +220,16 @@ fn add_block(
     first: usize,
     ops: &[Op],
 ) -> Result<(), NoMemory>
+    requires first { first < 2 ^ 32 }
+    requires blocks { length blocks.now < 65536 }
     ensures { IfOk result (λ _. links.new.items
         ≡ links.old.items ++ block_links blocks.now first ops.now) }
 {
     let mut from = 0;
     for place in 0..ops.len() {
-        if ops[place].last {
-            add_run(alloc, links, blocks, first, &ops[from..place], &ops[place])?;
+        let op = &ops[place];
+        if op.last {
+            add_run(alloc, links, blocks, first, &ops[from..place], op)?;
             from = place + 1;
         }
     }

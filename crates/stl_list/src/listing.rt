@@ -1,8 +1,16 @@
-ghost use Rattle.std.specs.Prelude.{◌≡◌, ◌<◌, ◌≤◌, ◌⊎◌, length, IfOk, IfSome};
+ghost use Rattle.std.specs.Prelude.{◌≡◌, ◌<◌, ◌≤◌, ◌⊎◌, nat_lt, length, IfOk, IfSome};
+ghost use Rattle.std.specs.List.{All, list_any};
 ghost use Rattle.std.specs.Option.{IfNone};
-ghost use Rattle.flat_code.specs.Programs.{Program as ProgramData};
-ghost use Rattle.stl_list.specs.Listing.{blocks_by, listed_source, listed_tree};
-ghost use Rattle.stl_list.specs.Symbols.{listed_names as names_text};
+ghost use Rattle.image_file.specs.Writing.{BlockFits, DataFits};
+ghost use Rattle.stl_list.specs.Joined.{chains_of};
+ghost use Rattle.stl_list.specs.Listing.{
+  blocks_by as blocks_from,
+  listed_source as source_of,
+  listed_tree as tree_of,
+};
+ghost use Rattle.stl_list.specs.Lines.{last_line as last_line_of};
+ghost use Rattle.stl_list.specs.Signatures.{signatures as signatures_in};
+ghost use Rattle.stl_list.specs.Symbols.{listed_names as text_of_names};
 
 use crate::chains::Chains;
 use crate::code_blocks::add_code_blocks;
@@ -30,7 +38,12 @@ fn blocks_by(
     signatures: &[Signature],
     code_blocks: &[CodeBlock],
     data_blocks: &[DataBlock],
-) -> Result<Vec<Block>, NoMemory> {
+) -> Result<Vec<Block>, NoMemory>
+    requires code { All BlockFits code_blocks.now }
+    requires data { All DataFits data_blocks.now }
+    ensures { IfOk result (λ v. v.items
+        ≡ blocks_from signatures.now code_blocks.now data_blocks.now) }
+{
     let mut blocks = Vec::new(alloc);
     let line = add_code_blocks(alloc, &mut blocks, signatures, code_blocks)?;
     add_data_blocks(alloc, &mut blocks, signatures, line, data_blocks)?;
@@ -38,14 +51,18 @@ fn blocks_by(
 }
 
 /// The signatures of the code blocks of a program.
-fn signatures_of(alloc: Global, blocks: &[CodeBlock]) -> Result<Vec<Signature>, NoMemory> {
+fn signatures_of(alloc: Global, blocks: &[CodeBlock]) -> Result<Vec<Signature>, NoMemory>
+    requires { length blocks.now < 65536 }
+    ensures { IfOk result (λ v. v.items ≡ signatures_in (chains_of blocks.now) blocks.now) }
+{
     let chains = Chains::of(alloc, blocks)?;
     signatures(alloc, &chains, blocks)
 }
 
 /// The tree of the source of a program.
+#[tactic(auto, unfolding(crate::specs::Listing::listed_tree))]
 fn listed_tree(alloc: Global, program: Program) -> Result<Tree, NoMemory>
-    ensures { IfOk result (λ t. t ≡ listed_tree program) }
+    ensures { IfOk result (λ t. t ≡ tree_of program) }
 {
     let Program {
         mut code_blocks,
@@ -66,15 +83,15 @@ fn listed_tree(alloc: Global, program: Program) -> Result<Tree, NoMemory>
 }
 
 fn listed_source(alloc: Global, program: Program) -> Result<Vec<u8>, NoMemory>
-    ensures { IfOk result (λ v. v.items ≡ listed_source program) }
+    ensures { IfOk result (λ v. v.items ≡ source_of program) }
 {
     let tree = listed_tree(alloc, program)?;
     print(alloc, &tree)
 }
 
-fn listing(alloc: Global, program: Program) -> Result<Listing, NoMemory>
-    ensures source { IfOk result (λ x. x.source.items ≡ listed_source program) }
-    ensures symbols { IfOk result (λ x. x.symbols.items ≡ names_text program.names) }
+fn listing_of(alloc: Global, program: Program) -> Result<Listing, NoMemory>
+    ensures source { IfOk result (λ x. x.source.items ≡ source_of program) }
+    ensures symbols { IfOk result (λ x. x.symbols.items ≡ text_of_names program.names) }
 {
     let symbols = listed_names(alloc, program.names.as_slice())?;
     Ok(Listing {
@@ -89,34 +106,56 @@ fn listing(alloc: Global, program: Program) -> Result<Listing, NoMemory>
 ///
 /// Want of memory.
 pub fn list(alloc: Global, l: &Loaded) -> Result<Listing, NoMemory>
-    ensures source { IfOk result (λ x. x.source.items ≡ listed_source l.now.program) }
-    ensures symbols { IfOk result (λ x. x.symbols.items ≡ names_text l.now.program.names) }
+    ensures source { IfOk result (λ x. x.source.items ≡ source_of l.now.program) }
+    ensures symbols { IfOk result (λ x. x.symbols.items ≡ text_of_names l.now.program.names) }
 {
-    listing(alloc, l.program(alloc)?)
+    listing_of(alloc, l.program(alloc)?)
 }
 
 /// Whether a code block ends past a line.
-fn ends_past(blocks: &[CodeBlock], line: usize) -> bool {
+fn ends_past(blocks: &[CodeBlock], line: usize) -> bool
+    ensures { result ≡ list_any (λ b. nat_lt line (last_line_of b)) blocks.now }
+{
     blocks
         .iter()
         .any(|block: &CodeBlock| last_line(block) as usize > line)
 }
 
-/// The source and the symbols file of a program, if neither has more bytes than `most`. Where a line of
-/// the program is past that, nothing is written.
+/// A listing of which neither text has more bytes than `most`.
+fn within(listing: Listing, most: usize) -> Option<Listing>
+    ensures same { IfSome result (λ x. x ≡ listing) }
+    ensures source { IfSome result (λ x. length x.source.items ≤ most) }
+    ensures symbols { IfSome result (λ x. length x.symbols.items ≤ most) }
+    ensures none { IfNone result ((most < length listing.source.items)
+        ⊎ (most < length listing.symbols.items)) }
+{
+    if listing.source.len() > most || listing.symbols.len() > most {
+        None
+    } else {
+        Some(listing)
+    }
+}
+
+/// The source and the symbols file of a program, if neither has more bytes than `most`: `None` exactly
+/// where one has. Where a line of the program is past that, no text is made.
 ///
 /// # Errors
 ///
 /// Want of memory.
-pub fn list_within(alloc: Global, l: &Loaded, most: usize) -> Result<Option<Listing>, NoMemory> {
+pub fn list_within(alloc: Global, l: &Loaded, most: usize) -> Result<Option<Listing>, NoMemory>
+    ensures source { IfOk result (λ found. IfSome found (λ x. x.source.items
+        ≡ source_of l.now.program)) }
+    ensures symbols { IfOk result (λ found. IfSome found (λ x. x.symbols.items
+        ≡ text_of_names l.now.program.names)) }
+    ensures short { IfOk result (λ found. IfSome found (λ x.
+        (length x.source.items ≤ most) × (length x.symbols.items ≤ most))) }
+    ensures none { IfOk result (λ found. IfNone found
+        ((most < length (source_of l.now.program))
+        ⊎ (most < length (text_of_names l.now.program.names)))) }
+{
     let program = l.program(alloc)?;
     if ends_past(program.code_blocks.as_slice(), most) {
         return Ok(None);
     }
-    let listing = listing(alloc, program)?;
-    if listing.source.len() > most || listing.symbols.len() > most {
-        Ok(None)
-    } else {
-        Ok(Some(listing))
-    }
+    Ok(within(listing_of(alloc, program)?, most))
 }

@@ -1,6 +1,10 @@
 //! The operand of a statement by that of its op.
-ghost use Rattle.std.specs.Prelude.{◌≡◌, IfOk};
+ghost use Rattle.std.specs.Prelude.{◌≡◌, option_map, IfOk};
 ghost use Rattle.flat_code.specs.Operations.{operation_of};
+ghost use Rattle.std.specs.List.Sorted.{IsStrictlySortedBy};
+ghost use Rattle.std.specs.Ordering.{nat_cmp};
+ghost use Rattle.stl_list.specs.Labels.{label_of};
+ghost use Rattle.stl_list.specs.Runs.{number_at};
 ghost use Rattle.stl_list.specs.Operands.{
   data_block_name,
   direct_operand,
@@ -221,6 +225,7 @@ pub(crate) fn direct_operand(
 
 /// The label of the statement at an offset.
 fn target(alloc: Global, starts: &[u32], offset: u32) -> Result<Operand, NoMemory>
+    requires { IsStrictlySortedBy nat_cmp starts.now }
     ensures { IfOk result (λ o. o ≡ Operand.Label (label_of (number_at starts.now offset))) }
 {
     Ok(Operand::Label {
@@ -308,6 +313,7 @@ pub(crate) fn operand_by(
     opened: Option<u16>,
     op: &Op,
 ) -> Result<Operand, NoMemory>
+    requires { IsStrictlySortedBy nat_cmp starts.now }
     ensures { IfOk result (λ o. o ≡ operand_by formals.now starts.now opened
         (operation_of op.now.code) op.now.operand) }
 {

@@ -1,8 +1,8 @@
 //! The statements of a code block.
-ghost use Rattle.std.specs.Prelude.{◌≡◌, ◌++◌, IfOk};
+ghost use Rattle.std.specs.Prelude.{◌≡◌, ◌<◌, ◌++◌, length, IfOk};
 ghost use Rattle.std.specs.List.Sorted.{IsStrictlySortedBy};
 ghost use Rattle.std.specs.Ordering.{nat_cmp};
-ghost use Rattle.stl_list.specs.Runs.{IsShort};
+ghost use Rattle.flat_code.specs.Codes.{code_bytes};
 ghost use Rattle.stl_list.specs.Runs.{marked_by, number_at, start_here, starts, targets};
 
 use flat_code::{Op, Operand};
@@ -22,7 +22,7 @@ fn note_start(starts: &mut Vec<u32>, at: u32, begins: bool) -> Result<(), NoMemo
 /// The offsets at which the statements of a block begin.
 #[tactic(auto, unfolding(crate::specs::Runs::starts))]
 pub(crate) fn starts(alloc: Global, ops: &[Op]) -> Result<Vec<u32>, NoMemory>
-    requires { IsShort ops.now }
+    requires { length (code_bytes ops.now) < 4294967296 }
     ensures { IfOk result (λ v. v.items ≡ starts ops.now) }
 {
     let mut starts = Vec::new(alloc);

@@ -1,6 +1,7 @@
 //! What a source says of a code block before its statements, as far as calls and instances need it.
-ghost use Rattle.std.specs.Prelude.{◌≡◌, ◌<◌, length, IfOk};
-ghost use Rattle.stl_list.specs.Signatures.{formals_from, formals_of, is_behind, signature, signatures};
+ghost use Rattle.std.specs.Prelude.{◌≡◌, ◌<◌, ◌≤◌, ◌^◌, false, length, IfOk};
+ghost use Rattle.plc_base.specs.Kinds.{is_function};
+ghost use Rattle.stl_list.specs.Signatures.{formal_of, formals_from, formals_of, is_behind, signature, signatures};
 
 use crate::chains::Chains;
 use crate::links::is_same;
@@ -63,6 +64,8 @@ fn formals(
     first: usize,
     params: &[Param],
 ) -> Result<Vec<Formal>, NoMemory>
+    requires first { first < 2 ^ 32 }
+    requires few { length params.now ≤ 60 }
     ensures { IfOk result (λ v. v.items ≡ formals_from chains.now returns false 0 first params.now) }
 {
     let mut formals = Vec::new(alloc);
@@ -82,12 +85,13 @@ fn is_function(kind: BlockKind) -> bool
 }
 
 /// A code block whose first parameter has this number.
-fn signature(
+fn signature_of(
     alloc: Global,
     chains: &Chains,
     first: usize,
     block: &CodeBlock,
 ) -> Result<Signature, NoMemory>
+    requires { first < 2 ^ 32 }
     ensures { IfOk result (λ s. s ≡ signature chains.now first block.now) }
 {
     let params = Vec::from_slice(alloc, block.params.as_slice())?;
@@ -113,7 +117,7 @@ pub(crate) fn signatures(
     let mut signatures = Vec::new(alloc);
     let mut first = 0;
     for block in blocks {
-        signatures.push(signature(alloc, chains, first, block)?)?;
+        signatures.push(signature_of(alloc, chains, first, block)?)?;
         first += block.params.len();
     }
     Ok(signatures)

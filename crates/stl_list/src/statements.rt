@@ -1,6 +1,6 @@
 //! The statements of a code block.
-ghost use Rattle.std.specs.Prelude.{◌≡◌, ◌<◌, ◌^◌, ◌++◌, length, IfOk};
-ghost use Rattle.flat_code.specs.Codes.{code_bytes};
+ghost use Rattle.std.specs.Prelude.{◌≡◌, ◌++◌, IfOk};
+ghost use Rattle.image_file.specs.Writing.{BlockFits};
 ghost use Rattle.stl_list.specs.Statements.{body_of, label_alone, label_of_end};
 
 use crate::actuals::actuals_by;
@@ -40,6 +40,11 @@ impl<'a> Model for Surroundings<'a> {
       starts = s.starts.now;
       targets = s.targets.now;
     } };
+
+    ghost use Rattle.std.specs.List.Sorted.{IsStrictlySortedBy};
+    ghost use Rattle.std.specs.Ordering.{nat_cmp};
+
+    ghost invariant = { λ s. IsStrictlySortedBy nat_cmp s.starts.now };
 }
 
 /// A label with nothing behind its colon.
@@ -147,8 +152,9 @@ impl<'a> Surroundings<'a> {
         let mut from = 0;
         let mut n = 0;
         for place in 0..ops.len() {
-            if ops[place].last {
-                self.add_statement(alloc, &mut statements, n, &ops[from..place], &ops[place])?;
+            let op = &ops[place];
+            if op.last {
+                self.add_statement(alloc, &mut statements, n, &ops[from..place], op)?;
                 from = place + 1;
                 n += 1;
             }
@@ -158,14 +164,14 @@ impl<'a> Surroundings<'a> {
 }
 
 /// The body of a block whose statements stand on these lines.
-#[tactic(auto, unfolding(crate::specs::Statements::body_of))]
+#[tactic(auto, using(crate::proofs::RunLemmas::starts_rise), unfolding(crate::specs::Statements::body_of))]
 pub(crate) fn body_of(
     alloc: Global,
     signatures: &[Signature],
     lines: &[u32],
     block: &CodeBlock,
 ) -> Result<Vec<Statement>, NoMemory>
-    requires { length (code_bytes block.now.code) < 2 ^ 32 }
+    requires { BlockFits block.now }
     ensures { IfOk result (λ v. v.items ≡ body_of signatures.now lines.now block.now) }
 {
     let ops = block.code.as_slice();

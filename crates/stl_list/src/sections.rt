@@ -1,8 +1,10 @@
 //! Declarations and sections.
-ghost use Rattle.std.specs.Prelude.{◌≡◌, ◌<◌, ◌≤◌, ◌++◌, [], IfOk};
-ghost use Rattle.stl_list.specs.Declared.{
+ghost use Rattle.std.specs.Prelude.{◌≡◌, ◌-◌, ◌++◌, [], ◌∷◌, pos, IfOk};
+ghost use Rattle.stl_ast.specs.Blocks.{part_rank};
+ghost use Rattle.stl_list.specs.Sections.{
   byte_array,
   bytes_here,
+  declared_here,
   declared_in,
   even_end,
   is_declared_in,
@@ -103,11 +105,35 @@ pub(crate) fn bytes_here(
     Ok(Declarations::from_vec(items))
 }
 
+/// The place of a section among those of a block.
+fn rank(kind: PartKind) -> u8
+    ensures { result ≡ part_rank kind }
+{
+    kind as u8
+}
+
 /// Whether a parameter is declared in a section; a return value is in the head.
 fn is_declared_in(kind: PartKind, formal: &Formal) -> bool
     ensures { result ≡ is_declared_in kind formal.now }
 {
-    formal.section == kind && !is_return(formal)
+    rank(formal.section) == rank(kind) && !is_return(formal)
+}
+
+/// Adds a parameter, if it is of the section.
+fn add_declared(
+    alloc: Global,
+    items: &mut Vec<Declaration>,
+    line: u32,
+    kind: PartKind,
+    formal: &Formal,
+) -> Result<(), NoMemory>
+    ensures { IfOk result (λ _. items.new.items
+        ≡ items.old.items ++ declared_here line kind formal.now) }
+{
+    if is_declared_in(kind, formal) {
+        items.push(plain_declaration(alloc, line, formal)?)?;
+    }
+    Ok(())
 }
 
 /// The parameters of a section.
@@ -121,9 +147,7 @@ fn declared_in(
 {
     let mut items = Vec::new(alloc);
     for formal in formals {
-        if is_declared_in(kind, formal) {
-            items.push(plain_declaration(alloc, line, formal)?)?;
-        }
+        add_declared(alloc, &mut items, line, kind, formal)?;
     }
     Ok(Declarations::from_vec(items))
 }
@@ -211,7 +235,7 @@ fn add_bytes(
 }
 
 /// The sections of a code block with these parameters.
-#[tactic(auto, unfolding(crate::specs::Declared::sections))]
+#[tactic(auto, unfolding(crate::specs::Sections::sections))]
 pub(crate) fn sections(
     alloc: Global,
     line: u32,

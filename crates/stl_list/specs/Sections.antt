@@ -1,6 +1,6 @@
 -- Declarations and sections.
-use Rattle.std.specs.Prelude.{ℕ, ◌+◌, ◌-◌, ◌*◌, ◌/◌, pos, nat_lt, nat_eq, Bool, true, false, not, ◌&&◌, List, [], ◌∷◌, ◌++◌, codes, length, map, Option, Some, None, if◌then◌else◌, slice_get}
-use Rattle.std.specs.List.{filter}
+use Rattle.std.specs.Prelude.{ℕ, ◌+◌, ◌-◌, ◌*◌, ◌/◌, pos, nat_lt, nat_eq, ◌==◌, Bool, true, false, not, ◌&&◌, List, [], ◌∷◌, ◌++◌, codes, length, Option, Some, None, if◌then◌else◌, slice_get}
+use Rattle.std.specs.List.{flat_map}
 use Rattle.std.specs.Option.{option_map}
 use Rattle.plc_base.specs.Kinds.{is_function_block}
 use Rattle.plc_base.specs.Widths.{bit_count}
@@ -50,15 +50,19 @@ bytes_here line name count values =
 abbrev pub is_declared_in : PartKind → Formal → Bool
 is_declared_in kind f = nat_eq (part_rank f.section) (part_rank kind) && not (is_return f)
 
+-- a parameter, if it is of the section
+abbrev pub declared_here : (line : ℕ) → PartKind → Formal → List Declaration
+declared_here line kind f =
+    if is_declared_in kind f then plain_declaration line f ∷ [] else []
+
 -- the parameters of a section
 abbrev pub declared_in : (line : ℕ) → List Formal → PartKind → List Declaration
-declared_in line formals kind =
-    map (plain_declaration line) (filter (is_declared_in kind) formals)
+declared_in line formals kind = flat_map (declared_here line kind) formals
 
 -- a section; one without content is left out
 abbrev pub section : (line : ℕ) → PartKind → List Declaration → List Part
-section line kind [] = []
-section line kind items = record { line = line; kind = kind; items = items } ∷ []
+section line kind items =
+    if length items == 0 then [] else record { line = line; kind = kind; items = items } ∷ []
 
 -- the first even byte at or past the end of a parameter
 abbrev pub even_end : Param → ℕ
