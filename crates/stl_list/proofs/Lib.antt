@@ -2,3 +2,4 @@ pub mod RunLemmas
 pub mod OrderLemmas
 pub mod ChainLemmas
 pub mod DeclaredLemmas
+pub mod LengthLemmas

@@ -6,7 +6,7 @@ use Rattle.csv.specs.declared.writer.QuoteStyle.TheVariants as style
 use Rattle.csv.specs.declared.writer.WriterBuilder.{WriterBuilder}
 use Rattle.flat_code.specs.Programs.{NameEntry}
 use Rattle.stl_print.specs.Operands.{address}
-use Rattle.stl_print.specs.Pieces.{bytes_of}
+use Rattle.stl_print.specs.Pieces.{with_pieces}
 use Rattle.stl_print.specs.Words.{type_word}
 use Rattle.stl_print.specs.declared.gaps.Gap.TheVariants as gap
 use Rattle.stl_list.specs.Operands.{read_letters}
@@ -19,7 +19,7 @@ symbols_writer = with_style default_writer style.Always
 -- the address of a name, `MW 2` or `M 0.3`
 abbrev pub address_text : NameEntry → List ℕ
 address_text e =
-    bytes_of (address gap.Nothing (read_letters e.place.area) e.width e.place.byte e.place.bit)
+    with_pieces [] (address gap.Nothing (read_letters e.place.area) e.width e.place.byte e.place.bit)
 
 -- a name, its address, its type, and an empty comment
 abbrev pub fields_of : NameEntry → List (List ℕ)

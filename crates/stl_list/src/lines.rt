@@ -1,7 +1,7 @@
 //! The lines on which a listing prints its pieces.
-ghost use Rattle.std.specs.Prelude.{◌≡◌, IfOk, OnOk};
+ghost use Rattle.std.specs.Prelude.{◌≡◌, IfOk};
+ghost use Rattle.std.specs.List.Sorted.{IsPermutation};
 ghost use Rattle.std.specs.Ordering.{is_lt};
-ghost use Rattle.stl_codegen.specs.Order.{sorted};
 ghost use Rattle.stl_list.specs.CodeBlocks.{in_lines};
 ghost use Rattle.stl_list.specs.Lines.{first_line, last_line, line_at, line_behind, lines_from, stands_before};
 
@@ -63,11 +63,13 @@ fn order_of(a: &CodeBlock, b: &CodeBlock) -> Ordering
         .then(last_line(a).cmp(&last_line(b)))
 }
 
-/// Puts code blocks in the order in which a listing has them: by their first lines, then by their
-/// last, then in the image's order. On an error they stay as they stood.
-pub(crate) fn sort_by_lines(blocks: &mut Vec<CodeBlock>) -> Result<(), NoMemory>
-    ensures { OnOk result (blocks.new.items ≡ sorted stands_before blocks.old.items) }
+/// Code blocks in the order in which a listing has them: by their first lines, then by their last, then
+/// in the image's order.
+pub(crate) fn in_lines(blocks: Vec<CodeBlock>) -> Result<Vec<CodeBlock>, NoMemory>
+    ensures sorted { IfOk result (λ v. v.items ≡ in_lines blocks.items) }
+    ensures same { IfOk result (λ v. IsPermutation blocks.items v.items) }
 {
+    let mut blocks = blocks;
     blocks.sort_by(|a: &CodeBlock, b: &CodeBlock| order_of(a, b))?;
-    Ok(())
+    Ok(blocks)
 }

@@ -2,6 +2,7 @@ ghost use Rattle.std.specs.Prelude.{◌≡◌, ◌<◌, ◌≤◌, ◌⊎◌, na
 ghost use Rattle.std.specs.List.{All, list_any};
 ghost use Rattle.std.specs.Option.{IfNone};
 ghost use Rattle.image_file.specs.Writing.{BlockFits, DataFits};
+ghost use Rattle.stl_list.specs.CodeBlocks.{in_lines as sorted_by_lines};
 ghost use Rattle.stl_list.specs.Joined.{chains_of};
 ghost use Rattle.stl_list.specs.Listing.{
   blocks_by as blocks_from,
@@ -15,7 +16,7 @@ ghost use Rattle.stl_list.specs.Symbols.{listed_names as text_of_names};
 use crate::chains::Chains;
 use crate::code_blocks::add_code_blocks;
 use crate::data_blocks::add_data_blocks;
-use crate::lines::{last_line, sort_by_lines};
+use crate::lines::{in_lines, last_line};
 use crate::signatures::{Signature, signatures};
 use crate::symbols::listed_names;
 use flat_code::{CodeBlock, DataBlock, Program};
@@ -59,27 +60,43 @@ fn signatures_of(alloc: Global, blocks: &[CodeBlock]) -> Result<Vec<Signature>, 
     signatures(alloc, &chains, blocks)
 }
 
+/// The tree of the source of these blocks.
+fn tree_by(
+    alloc: Global,
+    code_blocks: Vec<CodeBlock>,
+    data_blocks: &[DataBlock],
+) -> Result<Tree, NoMemory>
+    requires few { length code_blocks.items < 65536 }
+    requires code { All BlockFits code_blocks.items }
+    requires data { All DataFits data_blocks.now }
+    ensures { IfOk result (λ t. t.blocks ≡ blocks_from
+        (signatures_in (chains_of code_blocks.items) code_blocks.items)
+        (sorted_by_lines code_blocks.items) data_blocks.now) }
+{
+    let signatures = signatures_of(alloc, code_blocks.as_slice())?;
+    let code_blocks = in_lines(code_blocks)?;
+    let blocks = blocks_by(
+        alloc,
+        signatures.as_slice(),
+        code_blocks.as_slice(),
+        data_blocks,
+    )?;
+    Ok(Tree {
+        blocks: Sequence::from_vec(blocks),
+    })
+}
+
 /// The tree of the source of a program.
 #[tactic(auto, unfolding(crate::specs::Listing::listed_tree))]
 fn listed_tree(alloc: Global, program: Program) -> Result<Tree, NoMemory>
     ensures { IfOk result (λ t. t ≡ tree_of program) }
 {
     let Program {
-        mut code_blocks,
+        code_blocks,
         data_blocks,
         ..
     } = program;
-    let signatures = signatures_of(alloc, code_blocks.as_slice())?;
-    sort_by_lines(&mut code_blocks)?;
-    let blocks = blocks_by(
-        alloc,
-        signatures.as_slice(),
-        code_blocks.as_slice(),
-        data_blocks.as_slice(),
-    )?;
-    Ok(Tree {
-        blocks: Sequence::from_vec(blocks),
-    })
+    tree_by(alloc, code_blocks, data_blocks.as_slice())
 }
 
 fn listed_source(alloc: Global, program: Program) -> Result<Vec<u8>, NoMemory>
