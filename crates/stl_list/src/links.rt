@@ -101,8 +101,32 @@ fn passed_parameter(op: &Op) -> Option<(u8, u8)>
     }
 }
 
-/// Adds what the ops before a call of a block say. `first` is the first parameter of the function
-/// that calls, `other` that of the block.
+/// Adds that a parameter is passed to a block. `first` is the first parameter of the function that
+/// calls, `other` that of the block.
+fn add_joined_one(
+    links: &mut Vec<Link>,
+    first: usize,
+    other: usize,
+    passed: Option<(u8, u8)>,
+) -> Result<(), NoMemory>
+    requires first { first < 2 ^ 32 }
+    requires other { other < 2 ^ 32 }
+    ensures { IfOk result (λ _. links.new.items
+        ≡ links.old.items ++ joined_link first other passed) }
+{
+    match passed {
+        None => Ok(()),
+        Some((index, own)) => {
+            links.push(Link::Joins {
+                own: first + own as usize,
+                other: other + index as usize,
+            })?;
+            Ok(())
+        }
+    }
+}
+
+/// Adds what the ops before a call of a block say.
 fn add_joined(
     links: &mut Vec<Link>,
     first: usize,
@@ -115,12 +139,7 @@ fn add_joined(
         ≡ links.old.items ++ joined_links first other before.now) }
 {
     for op in before {
-        if let Some((index, own)) = passed_parameter(op) {
-            links.push(Link::Joins {
-                own: first + own as usize,
-                other: other + index as usize,
-            })?;
-        }
+        add_joined_one(links, first, other, passed_parameter(op))?;
     }
     Ok(())
 }
@@ -144,6 +163,23 @@ fn add_typed(
     Ok(())
 }
 
+/// Adds that a parameter is passed to a system function.
+fn add_system_one(
+    links: &mut Vec<Link>,
+    formals: &[Formal],
+    first: usize,
+    passed: Option<(u8, u8)>,
+) -> Result<(), NoMemory>
+    requires { first < 2 ^ 32 }
+    ensures { IfOk result (λ _. links.new.items
+        ≡ links.old.items ++ system_link formals.now first passed) }
+{
+    match passed {
+        None => Ok(()),
+        Some((index, own)) => add_typed(links, formals, index, first + own as usize),
+    }
+}
+
 /// Adds what the ops before a call of a system function say.
 fn add_system(
     links: &mut Vec<Link>,
@@ -156,9 +192,7 @@ fn add_system(
         ≡ links.old.items ++ system_links formals.now first before.now) }
 {
     for op in before {
-        if let Some((index, own)) = passed_parameter(op) {
-            add_typed(links, formals, index, first + own as usize)?;
-        }
+        add_system_one(links, formals, first, passed_parameter(op))?;
     }
     Ok(())
 }

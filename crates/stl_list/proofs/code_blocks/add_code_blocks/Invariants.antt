@@ -1,4 +1,4 @@
-use Rattle.std.proofs.Common.{drop, ◌≡◌, ◌×◌}
+use Rattle.std.proofs.Common.{drop, ◌≡◌}
 use Rattle.stl_codegen.proofs.AppendLemmas.{Between}
 use Rattle.stl_list.specs.CodeBlocks.{line_reached, listed_blocks}
 use Rattle.stl_list.proofs.code_blocks.add_code_blocks.Given as goal

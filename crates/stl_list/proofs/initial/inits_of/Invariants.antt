@@ -1,4 +1,4 @@
-use Rattle.std.proofs.Common.{[], drop, ◌×◌, ◌≤◌, ◌<◌}
+use Rattle.std.proofs.Common.{[], drop, ◌≤◌, ◌<◌}
 use Rattle.stl_codegen.proofs.AppendLemmas.{Between}
 use Rattle.stl_list.specs.Initial.{inits_from}
 use Rattle.stl_list.proofs.initial.inits_of.Given as goal

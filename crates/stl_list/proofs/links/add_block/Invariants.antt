@@ -1,4 +1,4 @@
-use Rattle.std.proofs.Common.{◌-◌, ◌≤◌, ◌×◌, drop, take}
+use Rattle.std.proofs.Common.{◌-◌, ◌≤◌, drop, take}
 use Rattle.std.specs.List.{flat_map}
 use Rattle.stl_codegen.proofs.AppendLemmas.{Between}
 use Rattle.stl_list.specs.Joined.{block_links, run_links}

@@ -1,4 +1,4 @@
-use Rattle.std.proofs.Common.{[], drop, ◌×◌, ◌≤◌, ◌*◌}
+use Rattle.std.proofs.Common.{[], drop, ◌≤◌, ◌*◌}
 use Rattle.stl_codegen.proofs.AppendLemmas.{Between}
 use Rattle.stl_list.specs.Signatures.{signatures_from}
 use Rattle.stl_list.proofs.signatures.signatures.Given as goal

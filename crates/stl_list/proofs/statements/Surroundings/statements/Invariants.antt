@@ -1,4 +1,4 @@
-use Rattle.std.proofs.Common.{[], ◌-◌, ◌≤◌, ◌×◌, drop, take}
+use Rattle.std.proofs.Common.{[], ◌-◌, ◌≤◌, drop, take}
 use Rattle.stl_codegen.proofs.AppendLemmas.{Between}
 use Rattle.stl_list.specs.Runs.{runs, runs_from}
 use Rattle.stl_list.specs.Statements.{statements_from}
