@@ -1,12 +1,12 @@
 -- The offsets of statements: they rise, and are found by a binary search.
-use Rattle.std.proofs.Common.{◌≡◌, ℕ, zero, suc, ◌+◌, ◌-◌, ◌≤◌, ◌<◌, eqb, ltb, Bool, true, false, List, [], ◌∷◌, ◌++◌, length, take, drop, get_or, refl, sym, ap, subst, ◌∙◌, append_assoc, length-append, length-drop, arith}
+use Rattle.std.proofs.Common.{◌≡◌, ℕ, zero, suc, ◌+◌, ◌-◌, ◌≤◌, ◌<◌, eqb, ltb, cond, Bool, true, false, List, [], ◌∷◌, ◌++◌, length, drop, get_or, refl, sym, ap, subst, ◌∙◌, append_assoc, length-append, arith}
 use Rattle.std.specs.List.{AllByRecursion, position_or_len}
 use Rattle.std.specs.List.Sorted.{IsBinarySearchResult, IsStrictlySortedBy}
 use Rattle.std.specs.Ordering.{nat_cmp}
 use Rattle.std.specs.Prelude.{Result, Ok, Err}
 use Rattle.std.specs.declared.cmp.Ordering.TheVariants.{Less}
 use Rattle.std.proofs.lemmas.Bool.Decides.{nat_tests}
-use Rattle.std.proofs.lemmas.List.{append-nil, drop_more, get_or-drop, take_more}
+use Rattle.std.proofs.lemmas.List.{append-nil, drop_more}
 use Rattle.std.proofs.lemmas.List.Sorted.{searched}
 use Rattle.std.proofs.lemmas.Map.Keys.{below_from_sorted}
 use Rattle.flat_code.specs.Codes.{code_bytes, size}
@@ -112,7 +112,7 @@ pub record Reaches (noted : List ℕ) (at : ℕ) (begins : Bool) (left ops : Lis
 
 pub reaches_none : (noted : List ℕ) (ops : List OpData) → noted ≡ [] → Reaches noted 0 true ops ops
 unfolding starts
-reaches_none noted ops is = record { listed = ap (λ (z : List ℕ). z ++ starts_from 0 true ops) is; place = refl }
+reaches_none noted ops is = record { listed = ap (λ (z : List ℕ). z ++ starts_from 0 true ops) is; place = omega arith }
 
 -- the bytes of the ops that are left, behind one op more
 bytes_behind : (at after : ℕ) (op : OpData) (rest : List OpData) (whole : ℕ) → after ≡ at + size op → at + length (code_bytes (op ∷ rest)) ≡ whole → after + length (code_bytes rest) ≡ whole
@@ -150,24 +150,20 @@ reaches_end noted at begins left ops over h =
 
 -- ---- statements
 
--- a statement of which the ops from a place on were passed ends at an op
-pub run_ends : (ops : List OpData) (from place : ℕ) (op : OpData) → from ≤ place → place < length ops → op ≡ get_or ops place op → op.last ≡ true
-    → runs_from (take (place - from) (drop from ops)) (drop place ops)
-    ≡ record { before = take (place - from) (drop from ops); op = op } ∷ runs_from (take (place + 1 - (place + 1)) (drop (place + 1) ops)) (drop (place + 1) ops)
-run_ends ops from place op le lt is last =
-    let parted : drop place ops ≡ op ∷ drop (place + 1) ops = drop_more ops place op lt ∙ ap (λ (y : OpData). y ∷ drop (place + 1) ops) (sym is) in
-    let none : place + 1 - (place + 1) ≡ 0 = omega arith in
-    rw parted (rw last (rw none refl))
+-- a statement ends at an op
+pub run_ends : (before : List OpData) (op : OpData) (rest : List OpData) → op.last ≡ true
+    → runs_from before (op ∷ rest) ≡ record { before = before; op = op } ∷ runs_from [] rest
+run_ends before op rest last = by_test op.last last
+  where
+    by_test : (b : Bool) → b ≡ true → cond b (record { before = before; op = op } ∷ runs_from [] rest) (runs_from (before ++ op ∷ []) rest) ≡ record { before = before; op = op } ∷ runs_from [] rest
+    by_test true e = refl
+    by_test false e = absurd cc
 
 -- or goes on behind it
-pub run_goes : (ops : List OpData) (from place : ℕ) (op : OpData) → from ≤ place → place < length ops → op ≡ get_or ops place op → op.last ≡ false
-    → runs_from (take (place - from) (drop from ops)) (drop place ops) ≡ runs_from (take (place + 1 - from) (drop from ops)) (drop (place + 1) ops)
-run_goes ops from place op le lt is last =
-    let parted : drop place ops ≡ op ∷ drop (place + 1) ops = drop_more ops place op lt ∙ ap (λ (y : OpData). y ∷ drop (place + 1) ops) (sym is) in
-    let here : get_or (drop from ops) (place - from) op ≡ op = get_or-drop ops from (place - from) op ∙ ap (λ (k : ℕ). get_or ops k op) (omega arith) ∙ sym is in
-    let one : place + 1 - from ≡ (place - from) + 1 = omega arith in
-    let longer : take (place + 1 - from) (drop from ops) ≡ take (place - from) (drop from ops) ++ op ∷ [] =
-    ap (λ (k : ℕ). take k (drop from ops)) one
-    ∙ take_more (drop from ops) (place - from) op (omega (arith, length-drop ops from))
-    ∙ ap (λ (y : OpData). take (place - from) (drop from ops) ++ y ∷ []) here in
-    rw longer (rw parted (rw last refl))
+pub run_goes : (before : List OpData) (op : OpData) (rest : List OpData) → op.last ≡ false
+    → runs_from before (op ∷ rest) ≡ runs_from (before ++ op ∷ []) rest
+run_goes before op rest last = by_test op.last last
+  where
+    by_test : (b : Bool) → b ≡ false → cond b (record { before = before; op = op } ∷ runs_from [] rest) (runs_from (before ++ op ∷ []) rest) ≡ runs_from (before ++ op ∷ []) rest
+    by_test true e = absurd cc
+    by_test false e = refl

@@ -92,10 +92,14 @@ run_links blocks first before (flat.Called kind number instance) =
     call_links blocks (called_id kind number) first before
 run_links blocks first before _ = []
 
--- the links of the statements of a block
+-- the links of statements
+abbrev pub links_of_runs : List CodeBlock → (first : ℕ) → List Run → List Link
+links_of_runs blocks first rs =
+    flat_map (λ r. run_links blocks first r.before r.op.operand) rs
+
+-- those of the statements of a block
 abbrev pub block_links : List CodeBlock → (first : ℕ) → List OpData → List Link
-block_links blocks first ops =
-    flat_map (λ r. run_links blocks first r.before r.op.operand) (runs ops)
+block_links blocks first ops = links_of_runs blocks first (runs ops)
 
 -- the links of the statements of blocks, of which the first has its parameters from a number on
 abbrev pub links_from : List CodeBlock → (first : ℕ) → List CodeBlock → List Link

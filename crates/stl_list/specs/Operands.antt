@@ -110,8 +110,12 @@ abbrev pub direct_operand : (opened : Option ℕ) → (writes : Bool) → Area �
 direct_operand opened writes a width byte bit =
     operand.Direct (option_map data_block_name opened) (letters_of writes a) width byte bit
 
--- the operand of an op that names no parameter, no label and no constant; USEDB and PASS, which only
--- prepare, have none
+-- a condition of the status word; USEDB and PASS, which only prepare, have no operand
+abbrev pub condition_operand : FlatOperand → Operand
+condition_operand (flat.OfStatus condition) = operand.OfStatus (flag_of condition)
+condition_operand _ = operand.Nothing
+
+-- the operand of an op that names no parameter, no label and no constant
 unfoldable pub plain_operand : (opened : Option ℕ) → Operation → FlatOperand → Operand
 plain_operand opened o (flat.Direct a width byte bit) =
     direct_operand opened (writes o) a width byte bit
@@ -122,14 +126,13 @@ plain_operand opened o (flat.ByRegister a width register bits) =
 plain_operand opened o (flat.Numbered kind number) = timer_or_counter kind number
 plain_operand opened o (flat.NumberedBy kind from byte) =
     operand.NumberBy (numbered_by kind) (read_letters from) byte
-plain_operand opened o (flat.OfStatus condition) = operand.OfStatus (flag_of condition)
 plain_operand opened o (flat.Called kind number instance) =
     operand.Called (block.Number (called_id kind number)) (instance_name instance)
 plain_operand opened o (flat.OpenBlock register number) =
     operand.OpenBlock (register == 2) (data_block_name number)
 plain_operand opened o (flat.OpenBy register from byte) =
     operand.NumberBy (register_of register) (read_letters from) byte
-plain_operand opened o _ = operand.Nothing
+plain_operand opened o other = condition_operand other
 
 -- the operand of an op. `formals` are the parameters of its block, `starts` the offsets of the
 -- statements, `opened` is the data block that the statement opens first

@@ -94,10 +94,13 @@ fn add_actual(
     ensures { IfOk result (λ _. actuals.new.items ≡ actuals.old.items
         ++ actual_for line formals.now (slice_get called.now index) passed) }
 {
-    if let Some(formal) = called.get(index as usize) {
-        actuals.push(actual(alloc, line, formals, formal, passed)?)?;
+    match called.get(index as usize) {
+        None => Ok(()),
+        Some(formal) => {
+            actuals.push(actual(alloc, line, formals, formal, passed)?)?;
+            Ok(())
+        }
     }
-    Ok(())
 }
 
 /// Adds the actual parameter that an op before the call passes.

@@ -138,6 +138,28 @@ fn listed_data(
     }
 }
 
+/// A data block on a line.
+fn listed_block(
+    alloc: Global,
+    signatures: &[Signature],
+    line: u32,
+    block: &DataBlock,
+) -> Result<Block, NoMemory>
+    requires { DataFits block.now }
+    ensures { IfOk result (λ b. b ≡ listed_data signatures.now line block.now.number
+        block.now.bytes block.now.instance_of) }
+{
+    let bytes = block.bytes.as_slice();
+    listed_data(
+        alloc,
+        signatures,
+        line,
+        block.number,
+        bytes,
+        block.instance_of,
+    )
+}
+
 /// Adds the data blocks, which all stand on one line.
 pub(crate) fn add_data_blocks(
     alloc: Global,
@@ -151,9 +173,7 @@ pub(crate) fn add_data_blocks(
         ≡ listed.old.items ++ listed_data_blocks signatures.now line blocks.now) }
 {
     for block in blocks {
-        let bytes = block.bytes.as_slice();
-        let number = block.number;
-        listed.push(listed_data(alloc, signatures, line, number, bytes, block.instance_of)?)?;
+        listed.push(listed_block(alloc, signatures, line, block)?)?;
     }
     Ok(())
 }

@@ -1,11 +1,13 @@
 //! The first bytes of data blocks as initial values.
-ghost use Rattle.std.specs.Prelude.{◌≡◌, ◌<◌, ◌≤◌, ◌++◌, IfOk};
+ghost use Rattle.std.specs.Prelude.{◌≡◌, ◌<◌, ◌==◌, ◌++◌, ◌∷◌, List, ℕ, IfOk};
+ghost use Rattle.std.specs.List.{list_all};
 ghost use Rattle.stl_list.specs.Initial.{
   byte_at,
   byte_here,
   byte_setting,
   byte_settings,
   init,
+  inits_from,
   inits_of,
   parameter_here,
   parameter_setting,
@@ -38,27 +40,63 @@ fn init(value: u8, count: u16) -> Init
     }
 }
 
+/// So many bytes of one value.
+#[derive(Clone, Copy)]
+struct EqualBytes {
+    value: u8,
+    count: u16,
+}
+
+/// What the bytes are with one more: where it goes on with no more equal ones, those before it are
+/// added.
+fn with_next(inits: &mut Vec<Init>, equal: &EqualBytes, next: u8) -> Result<EqualBytes, NoMemory>
+    ensures { IfOk result (λ e. (rest : List ℕ)
+        → inits.new.items ++ inits_from e.value e.count rest
+        ≡ inits.old.items ++ inits_from equal.now.value equal.now.count (next ∷ rest)) }
+{
+    if next == equal.value && equal.count < MOST_EQUAL {
+        return Ok(EqualBytes {
+            value: next,
+            count: equal.count + 1,
+        });
+    }
+    inits.push(init(equal.value, equal.count))?;
+    Ok(EqualBytes {
+        value: next,
+        count: 1,
+    })
+}
+
+/// The runs of a byte and those behind it.
+fn inits_behind(alloc: Global, first: u8, bytes: &[u8]) -> Result<Vec<Init>, NoMemory>
+    ensures { IfOk result (λ v. v.items ≡ inits_from first 1 bytes.now) }
+{
+    let mut inits = Vec::new(alloc);
+    let mut equal = EqualBytes {
+        value: first,
+        count: 1,
+    };
+    for next in bytes {
+        equal = with_next(&mut inits, &equal, *next)?;
+    }
+    inits.push(init(equal.value, equal.count))?;
+    Ok(inits)
+}
+
 /// The runs of equal bytes.
 fn inits_of(alloc: Global, bytes: &[u8]) -> Result<Vec<Init>, NoMemory>
     ensures { IfOk result (λ v. v.items ≡ inits_of bytes.now) }
 {
-    let mut inits = Vec::new(alloc);
-    let [value, rest @ ..] = bytes else {
-        return Ok(inits);
-    };
-    let mut value = *value;
-    let mut count = 1_u16;
-    for next in rest {
-        if *next == value && count < MOST_EQUAL {
-            count += 1;
-        } else {
-            inits.push(init(value, count))?;
-            value = *next;
-            count = 1;
-        }
+    match bytes {
+        [] => Ok(Vec::new(alloc)),
+        [first, rest @ ..] => inits_behind(alloc, *first, rest),
     }
-    inits.push(init(value, count))?;
-    Ok(inits)
+}
+
+fn are_zero(bytes: &[u8]) -> bool
+    ensures { result ≡ list_all (λ b. b == 0) bytes.now }
+{
+    bytes.iter().all(|byte: &u8| *byte == 0)
 }
 
 /// The initial values of a data block; bytes that are all 0 need none.
@@ -66,7 +104,7 @@ fn inits_of(alloc: Global, bytes: &[u8]) -> Result<Vec<Init>, NoMemory>
 pub(crate) fn values_of(alloc: Global, bytes: &[u8]) -> Result<Vec<Init>, NoMemory>
     ensures { IfOk result (λ v. v.items ≡ values_of bytes.now) }
 {
-    if bytes.iter().all(|byte: &u8| *byte == 0) {
+    if are_zero(bytes) {
         Ok(Vec::new(alloc))
     } else {
         inits_of(alloc, bytes)

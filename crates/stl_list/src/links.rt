@@ -1,5 +1,7 @@
 //! Which parameters calls pass on to which.
-ghost use Rattle.std.specs.Prelude.{◌≡◌, ◌<◌, ◌^◌, ◌++◌, length, slice_get, IfOk};
+ghost use Rattle.std.specs.Prelude.{◌≡◌, ◌<◌, ◌^◌, ◌++◌, ◌∷◌, List, length, slice_get, IfOk};
+ghost use Rattle.flat_code.specs.Ops.{OpData};
+ghost use Rattle.stl_list.specs.Runs.{runs_from};
 ghost use Rattle.plc_base.specs.Kinds.{is_same_block};
 ghost use Rattle.stl_list.specs.Joined.{
   block_links,
@@ -10,6 +12,7 @@ ghost use Rattle.stl_list.specs.Joined.{
   joined_link,
   joined_links,
   links,
+  links_of_runs,
   passed_parameter,
   run_links,
   system_link,
@@ -18,6 +21,7 @@ ghost use Rattle.stl_list.specs.Joined.{
   typed_link,
 };
 
+use crate::runs::is_last;
 use flat_code::{CodeBlock, Op, Operand, Passed, kind_of_code};
 use plc_base::{BlockId, BlockKind, NoMemory};
 use std::alloc::Global;
@@ -154,13 +158,16 @@ fn add_typed(
     ensures { IfOk result (λ _. links.new.items
         ≡ links.old.items ++ typed_link own (slice_get formals.now index)) }
 {
-    if let Some(formal) = formals.get(index as usize) {
-        links.push(Link::Has {
-            own,
-            kind: formal.kind,
-        })?;
+    match formals.get(index as usize) {
+        None => Ok(()),
+        Some(formal) => {
+            links.push(Link::Has {
+                own,
+                kind: formal.kind,
+            })?;
+            Ok(())
+        }
     }
-    Ok(())
 }
 
 /// Adds that a parameter is passed to a system function.
@@ -246,6 +253,32 @@ fn add_run(
     }
 }
 
+/// Goes on to an op. `before` are those of its statement before it; the links of the statement are
+/// added with the last one.
+fn add_op(
+    alloc: Global,
+    links: &mut Vec<Link>,
+    blocks: &[CodeBlock],
+    first: usize,
+    before: &mut Vec<Op>,
+    op: &Op,
+) -> Result<(), NoMemory>
+    requires first { first < 2 ^ 32 }
+    requires blocks { length blocks.now < 65536 }
+    ensures { IfOk result (λ _. (rest : List OpData)
+        → links.new.items ++ links_of_runs blocks.now first (runs_from before.new.items rest)
+        ≡ links.old.items ++ links_of_runs blocks.now first
+        (runs_from before.old.items (op.now ∷ rest))) }
+{
+    if is_last(op) {
+        add_run(alloc, links, blocks, first, before.as_slice(), op)?;
+        before.clear();
+        return Ok(());
+    }
+    before.push(*op)?;
+    Ok(())
+}
+
 /// Adds the links of the statements of a block.
 fn add_block(
     alloc: Global,
@@ -259,13 +292,9 @@ fn add_block(
     ensures { IfOk result (λ _. links.new.items
         ≡ links.old.items ++ block_links blocks.now first ops.now) }
 {
-    let mut from = 0;
-    for place in 0..ops.len() {
-        let op = &ops[place];
-        if op.last {
-            add_run(alloc, links, blocks, first, &ops[from..place], op)?;
-            from = place + 1;
-        }
+    let mut before = Vec::new(alloc);
+    for op in ops {
+        add_op(alloc, links, blocks, first, &mut before, op)?;
     }
     Ok(())
 }

@@ -6,6 +6,7 @@ ghost use Rattle.std.specs.Ordering.{nat_cmp};
 ghost use Rattle.stl_list.specs.Labels.{label_of};
 ghost use Rattle.stl_list.specs.Runs.{number_at};
 ghost use Rattle.stl_list.specs.Operands.{
+  condition_operand,
   data_block_name,
   direct_operand,
   implied_operand,
@@ -233,6 +234,19 @@ fn target(alloc: Global, starts: &[u32], offset: u32) -> Result<Operand, NoMemor
     })
 }
 
+/// A condition of the status word.
+#[tactic(auto, unfolding(flat_code::specs::Ops::is_op))]
+fn condition_operand(op: &Op) -> Operand
+    ensures { result ≡ condition_operand op.now.operand }
+{
+    match op.operand {
+        FlatOperand::OfStatus { condition } => Operand::OfStatus {
+            flag: flag_of(condition),
+        },
+        _ => Operand::Nothing,
+    }
+}
+
 /// The operand of an op that names no parameter, no label and no constant.
 #[tactic(auto, unfolding(crate::specs::Operands::plain_operand))]
 fn plain_operand(opened: Option<u16>, op: &Op) -> Operand
@@ -273,9 +287,6 @@ fn plain_operand(opened: Option<u16>, op: &Op) -> Operand
             from: read_letters(from),
             byte,
         },
-        FlatOperand::OfStatus { condition } => Operand::OfStatus {
-            flag: flag_of(condition),
-        },
         FlatOperand::Called {
             kind,
             number,
@@ -299,7 +310,7 @@ fn plain_operand(opened: Option<u16>, op: &Op) -> Operand
             from: read_letters(from),
             byte,
         },
-        _ => Operand::Nothing,
+        _ => condition_operand(op),
     }
 }
 

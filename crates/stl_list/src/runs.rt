@@ -9,6 +9,13 @@ use flat_code::{Op, Operand};
 use plc_base::NoMemory;
 use std::alloc::Global;
 
+/// Whether an op is the last one of its statement.
+pub(crate) fn is_last(op: &Op) -> bool
+    ensures { result ≡ op.now.last }
+{
+    op.last
+}
+
 /// Notes an offset where a statement begins there.
 fn note_start(starts: &mut Vec<u32>, at: u32, begins: bool) -> Result<(), NoMemory>
     ensures { IfOk result (λ _. starts.new.items ≡ starts.old.items ++ start_here at begins) }

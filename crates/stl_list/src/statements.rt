@@ -8,7 +8,7 @@ use crate::labels::label_of;
 use crate::lines::line_at;
 use crate::mnemonics::mnemonic_of;
 use crate::operands::{opened_by, operand_by};
-use crate::runs::{starts, targets};
+use crate::runs::{is_last, starts, targets};
 use crate::signatures::{Signature, formals_of};
 use flat_code::{CodeBlock, Op};
 use plc_base::NoMemory;
@@ -77,10 +77,11 @@ fn add_label(
 }
 
 impl<'a> Surroundings<'a> {
-    ghost use Rattle.std.specs.Prelude.{◌≡◌, ◌++◌, IfOk};
+    ghost use Rattle.std.specs.Prelude.{◌≡◌, ◌+◌, ◌<◌, ◌≤◌, ◌^◌, ◌++◌, ◌∷◌, List, IfOk};
+    ghost use Rattle.flat_code.specs.Ops.{OpData};
     ghost use Rattle.stl_list.specs.Lines.{line_at};
     ghost use Rattle.stl_list.specs.Statements.{label_at, statement, statement_at, statements_from};
-    ghost use Rattle.stl_list.specs.Runs.{runs};
+    ghost use Rattle.stl_list.specs.Runs.{runs, runs_from};
 
     fn line_at(&self, n: usize) -> u32
         ensures { result ≡ line_at self.now.lines n }
@@ -132,6 +133,7 @@ impl<'a> Surroundings<'a> {
         before: &[Op],
         op: &Op,
     ) -> Result<(), NoMemory>
+        requires { n + 1 < 2 ^ 64 }
         ensures { IfOk result (λ _. statements.new.items ≡ statements.old.items
             ++ statement_at self.now n (record { before = before.now; op = op.now })) }
     {
@@ -144,20 +146,41 @@ impl<'a> Surroundings<'a> {
         }
     }
 
+    /// Goes on to an op, and gives the number of the statement behind it. `before` are the ops of its
+    /// statement before it; the statement is added with its last op.
+    fn add_op(
+        &self,
+        alloc: Global,
+        statements: &mut Vec<Statement>,
+        n: usize,
+        before: &mut Vec<Op>,
+        op: &Op,
+    ) -> Result<usize, NoMemory>
+        requires { n + 1 < 2 ^ 64 }
+        ensures value { IfOk result (λ m. (rest : List OpData)
+            → statements.new.items ++ statements_from self.now m (runs_from before.new.items rest)
+            ≡ statements.old.items ++ statements_from self.now n
+            (runs_from before.old.items (op.now ∷ rest))) }
+        ensures next { IfOk result (λ m. m ≤ n + 1) }
+    {
+        if is_last(op) {
+            self.add_statement(alloc, statements, n, before.as_slice(), op)?;
+            before.clear();
+            return Ok(n + 1);
+        }
+        before.push(*op)?;
+        Ok(n)
+    }
+
     /// The statements of ops.
     fn statements(&self, alloc: Global, ops: &[Op]) -> Result<Vec<Statement>, NoMemory>
         ensures { IfOk result (λ v. v.items ≡ statements_from self.now 0 (runs ops.now)) }
     {
         let mut statements = Vec::new(alloc);
-        let mut from = 0;
+        let mut before = Vec::new(alloc);
         let mut n = 0;
-        for place in 0..ops.len() {
-            let op = &ops[place];
-            if op.last {
-                self.add_statement(alloc, &mut statements, n, &ops[from..place], op)?;
-                from = place + 1;
-                n += 1;
-            }
+        for op in ops {
+            n = self.add_op(alloc, &mut statements, n, &mut before, op)?;
         }
         Ok(statements)
     }

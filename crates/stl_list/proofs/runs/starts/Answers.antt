@@ -12,14 +12,14 @@ pub overflow_add-at : goal.overflow_add-at
 overflow_add-at c =
     let op = c.op-item.result in
     let room = room_left c.loop-op.starts.items c.loop-op.at c.loop-op.begins op c.args.ops.now c.loop-op.op-index c.loop-op-test.true c.op-item.is c.loop-op.invariant in
-    omega (arith, room, c.size.ensures.size, c.requires)
+    omega (arith, room, c.size-at.ensures.size, c.requires)
 
 pub loop-op-preserved : goal.loop-op-preserved
 loop-op-preserved c =
     let op = c.op-item.result in
-    let after : c.loop-op.at + c.size.result ≡ c.loop-op.at + size op = omega (arith, c.size.ensures.size) in
-    subst (λ (b : Bool). Reaches c.note_start.new.starts.items (c.loop-op.at + c.size.result) b (drop (c.loop-op.op-index + 1) c.args.ops.now) c.args.ops.now) (sym (ap (λ (o : OpData). o.last) c.op.view_is))
-    (reaches_next c.loop-op.starts.items _ c.loop-op.at (c.loop-op.at + c.size.result) c.loop-op.begins op c.args.ops.now c.loop-op.op-index c.loop-op-test.true c.op-item.is c.in_ok-note_start.ensures after c.loop-op.invariant)
+    let after : c.loop-op.at + c.size-at.result ≡ c.loop-op.at + size op = omega (arith, c.size-at.ensures.size) in
+    subst (λ (b : Bool). Reaches c.note_start.new.starts.items (c.loop-op.at + c.size-at.result) b (drop (c.loop-op.op-index + 1) c.args.ops.now) c.args.ops.now) (sym (ap (λ (o : OpData). o.last) c.op.view_is))
+    (reaches_next c.loop-op.starts.items _ c.loop-op.at (c.loop-op.at + c.size-at.result) c.loop-op.begins op c.args.ops.now c.loop-op.op-index c.loop-op-test.true c.op-item.is c.in_ok-note_start.ensures after c.loop-op.invariant)
 
 pub returns : goal.returns
 returns c =
