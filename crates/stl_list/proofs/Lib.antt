@@ -1,7 +1,0 @@
-pub mod RunLemmas
-pub mod OrderLemmas
-pub mod ChainLemmas
-pub mod RangeLemmas
-pub mod InitialLemmas
-pub mod DeclaredLemmas
-pub mod LengthLemmas
