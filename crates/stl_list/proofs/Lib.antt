@@ -1,0 +1,7 @@
+pub mod RunLemmas
+pub mod OrderLemmas
+pub mod ChainLemmas
+pub mod RangeLemmas
+pub mod InitialLemmas
+pub mod DeclaredLemmas
+pub mod LengthLemmas

@@ -1,0 +1,202 @@
+-- Which parameters a chain of passings joins to an INT or a TIME of a system function. A parameter is
+-- a number here: those of all code blocks are counted in the image's order.
+use Rattle.std.specs.Prelude.{ℕ, zero, suc, ◌+◌, ◌==◌, Bool, true, false, List, [], ◌∷◌, ◌++◌, length, map, replicate, Option, Some, None, if◌then◌else◌, slice_get, slice_set}
+use Rattle.std.specs.List.{flat_map, fold, range_with_len}
+use Rattle.std.specs.Option.{unwrap_or, option_map}
+use Rattle.plc_base.specs.Kinds.{is_same_block, is_system_function}
+use Rattle.plc_base.specs.declared.blocks.BlockId.{BlockId}
+use Rattle.plc_base.specs.declared.blocks.BlockKind.{BlockKind}
+use Rattle.plc_base.specs.declared.blocks.BlockKind.TheVariants as kinds
+use Rattle.plc_base.specs.declared.places.Width.{Width}
+use Rattle.flat_code.specs.Forms.{kind_of_code}
+use Rattle.flat_code.specs.Ops.{OpData}
+use Rattle.flat_code.specs.Programs.{CodeBlock}
+use Rattle.flat_code.specs.declared.operands.Operand.{Operand}
+use Rattle.flat_code.specs.declared.operands.Operand.TheVariants as flat
+use Rattle.flat_code.specs.declared.operands.Passed.{Passed}
+use Rattle.flat_code.specs.declared.operands.Passed.TheVariants as passed
+use Rattle.stl_ast.specs.declared.declarations.Simple.{Simple}
+use Rattle.stl_ast.specs.declared.declarations.Simple.TheVariants as simple
+use Rattle.stl_types.specs.Parameters.{system_formals}
+use Rattle.stl_types.specs.declared.parameters.Formal.{Formal}
+use Rattle.stl_list.specs.declared.links.Link.{Link}
+use Rattle.stl_list.specs.declared.links.Link.TheVariants.{Joins, Has}
+use Rattle.stl_list.specs.Parameters.{plain_kind}
+use Rattle.stl_list.specs.Runs.{Run, runs}
+
+-- ---- blocks that are called
+
+-- the kind of a block that is called, by its number in an op; a function where none has the number
+abbrev pub called_kind : ℕ → BlockKind
+called_kind kind = unwrap_or (kind_of_code kind) kinds.Fc
+
+-- the block that an op calls
+abbrev pub called_id : (kind number : ℕ) → BlockId
+called_id kind number = record { kind = called_kind kind; number = number }
+
+-- the parameters of a system function; none where there is no such function
+abbrev pub system_parameters : ℕ → List Formal
+system_parameters number = unwrap_or (system_formals number) []
+
+-- the number of the first parameter of a block; past all parameters where there is no such block
+abbrev pub first_of : List CodeBlock → BlockId → ℕ
+first_of [] id = 0
+first_of (b ∷ bs) id = if is_same_block b.id id then 0 else length b.params + first_of bs id
+
+-- ---- passings
+
+-- the parameter of the function that calls which is passed, with the index of the one that it is passed for
+abbrev pub passed_own : (index : ℕ) → Passed → Option (ℕ × ℕ)
+passed_own index (passed.Parameter own width) = Some (index, own)
+passed_own index _ = None
+
+-- the same of an op before a call
+abbrev pub passed_parameter : Operand → Option (ℕ × ℕ)
+passed_parameter (flat.Pass index actual) = passed_own index actual
+passed_parameter _ = None
+
+-- a parameter that is passed to a block, whose first parameter has a number as the own first one has
+abbrev pub joined_link : (first other : ℕ) → Option (ℕ × ℕ) → List Link
+joined_link first other None = []
+joined_link first other (Some p) = Joins (first + p.1) (other + p.0) ∷ []
+
+-- a parameter that is passed for one of a system function
+abbrev pub typed_link : (own : ℕ) → Option Formal → List Link
+typed_link own None = []
+typed_link own (Some f) = Has own f.kind ∷ []
+
+-- the same by its index among the parameters of the system function
+abbrev pub system_link : List Formal → (first : ℕ) → Option (ℕ × ℕ) → List Link
+system_link formals first None = []
+system_link formals first (Some p) = typed_link (first + p.1) (slice_get formals p.0)
+
+-- what the ops before a call of a block say
+abbrev pub joined_links : (first other : ℕ) → List OpData → List Link
+joined_links first other before =
+    flat_map (λ op. joined_link first other (passed_parameter op.operand)) before
+
+-- and before a call of a system function
+abbrev pub system_links : List Formal → (first : ℕ) → List OpData → List Link
+system_links formals first before =
+    flat_map (λ op. system_link formals first (passed_parameter op.operand)) before
+
+-- before a call of either
+abbrev pub call_links : List CodeBlock → BlockId → (first : ℕ) → List OpData → List Link
+call_links blocks id first before =
+    if is_system_function id.kind then system_links (system_parameters id.number) first before
+    else joined_links first (first_of blocks id) before
+
+-- the links of a statement, by the operand of its last op
+abbrev pub run_links : List CodeBlock → (first : ℕ) → List OpData → Operand → List Link
+run_links blocks first before (flat.Called kind number instance) =
+    call_links blocks (called_id kind number) first before
+run_links blocks first before _ = []
+
+-- the links of statements
+abbrev pub links_of_runs : List CodeBlock → (first : ℕ) → List Run → List Link
+links_of_runs blocks first rs =
+    flat_map (λ r. run_links blocks first r.before r.op.operand) rs
+
+-- those of the statements of a block
+abbrev pub block_links : List CodeBlock → (first : ℕ) → List OpData → List Link
+block_links blocks first ops = links_of_runs blocks first (runs ops)
+
+-- the links of the statements of blocks, of which the first has its parameters from a number on
+abbrev pub links_from : List CodeBlock → (first : ℕ) → List CodeBlock → List Link
+links_from blocks first [] = []
+links_from blocks first (b ∷ bs) =
+    block_links blocks first b.code ++ links_from blocks (first + length b.params) bs
+
+-- the links of a program
+unfoldable pub links : List CodeBlock → List Link
+links blocks = links_from blocks 0 blocks
+
+-- how many parameters blocks have
+abbrev pub parameter_count : List CodeBlock → ℕ
+parameter_count [] = 0
+parameter_count (b ∷ bs) = length b.params + parameter_count bs
+
+-- ---- chains
+
+-- a label, if it is this one, gives way to another
+abbrev pub replaced : (from to label : ℕ) → ℕ
+replaced from to label = if label == from then to else label
+
+-- all that have one label get another
+abbrev pub relabelled : Option ℕ → Option ℕ → List ℕ → List ℕ
+relabelled (Some from) (Some to) labels = map (replaced from to) labels
+relabelled _ _ labels = labels
+
+-- the labels of parameters after a link: two that are joined have the same label, and so have all that
+-- were joined to one of them before
+abbrev pub relinked : List ℕ → Link → List ℕ
+relinked labels (Joins own other) =
+    relabelled (slice_get labels own) (slice_get labels other) labels
+relinked labels (Has own kind) = labels
+
+-- parameters that a chain of passings joins have the same label, and no others have
+unfoldable pub labels_of : (count : ℕ) → List Link → List ℕ
+labels_of count links = fold relinked (range_with_len 0 count) links
+
+-- the types that a chain hands on
+abbrev pub is_int : Simple → Bool
+is_int simple.Int = true
+is_int _ = false
+
+-- TIME
+abbrev pub is_time : Simple → Bool
+is_time simple.Time = true
+is_time _ = false
+
+-- a label is marked
+abbrev pub set_label : List Bool → Option ℕ → List Bool
+set_label marks None = marks
+set_label marks (Some label) = slice_set marks label true
+
+-- the marks of labels after a link to a parameter of a type that is meant
+abbrev pub marked : (Simple → Bool) → (labels : List ℕ) → List Bool → Link → List Bool
+marked is_meant labels marks (Joins own other) = marks
+marked is_meant labels marks (Has own kind) =
+    if is_meant kind then set_label marks (slice_get labels own) else marks
+
+-- which labels a chain joins to a type that is meant
+unfoldable pub marks_of : (Simple → Bool) → (labels : List ℕ) → List Link → List Bool
+marks_of is_meant labels links =
+    fold (marked is_meant labels) (replicate (length labels) false) links
+
+-- ---- types
+
+-- the labels of all parameters, and which labels are INT or TIME
+pub record Chains : Type 0 where
+  pub labels : List ℕ
+  pub ints : List Bool
+  pub times : List Bool
+
+-- with the labels of these links
+abbrev pub chains_by : (labels : List ℕ) → List Link → Chains
+chains_by labels links = record {
+  labels = labels;
+  ints = marks_of is_int labels links;
+  times = marks_of is_time labels links;
+}
+
+-- the chains of a program
+unfoldable pub chains_of : List CodeBlock → Chains
+chains_of blocks = chains_by (labels_of (parameter_count blocks) (links blocks)) (links blocks)
+
+-- the mark of a label
+abbrev pub mark_at : List Bool → Option ℕ → Bool
+mark_at marks None = false
+mark_at marks (Some label) = unwrap_or (slice_get marks label) false
+
+-- the type of a parameter: INT or TIME where a chain joins it to one, else by its width
+abbrev pub kind_by : (int time : Bool) → Width → Simple
+kind_by true time width = simple.Int
+kind_by false true width = simple.Time
+kind_by false false width = plain_kind width
+
+-- the type of the parameter of a number
+unfoldable pub kind_at : Chains → (parameter : ℕ) → Width → Simple
+kind_at c parameter width =
+    kind_by (mark_at c.ints (slice_get c.labels parameter))
+    (mark_at c.times (slice_get c.labels parameter)) width

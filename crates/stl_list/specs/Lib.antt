@@ -1,0 +1,17 @@
+pub mod Mnemonics
+pub mod Parameters
+pub mod Constants
+pub mod Runs
+pub mod Labels
+pub mod Joined
+pub mod Signatures
+pub mod Operands
+pub mod Actuals
+pub mod Statements
+pub mod Lines
+pub mod Sections
+pub mod CodeBlocks
+pub mod Initial
+pub mod DataBlocks
+pub mod Symbols
+pub mod Listing

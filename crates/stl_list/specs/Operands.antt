@@ -1,0 +1,151 @@
+-- The operand of a statement by that of its op.
+use Rattle.std.specs.Prelude.{ℕ, ◌==◌, Bool, true, false, List, [], ◌∷◌, codes, Option, Some, None, if◌then◌else◌, slice_get}
+use Rattle.std.specs.Option.{option_map}
+use Rattle.plc_base.specs.declared.blocks.BlockKind.TheVariants as kinds
+use Rattle.plc_base.specs.declared.places.Area.{Area}
+use Rattle.plc_base.specs.declared.places.Area.TheVariants as area
+use Rattle.plc_base.specs.declared.places.Width.{Width}
+use Rattle.flat_code.specs.Kinds.{flag_of}
+use Rattle.flat_code.specs.Operations.{operation_of}
+use Rattle.flat_code.specs.Ops.{OpData}
+use Rattle.flat_code.specs.declared.operands.Operand.{Operand as FlatOperand}
+use Rattle.flat_code.specs.declared.operands.Operand.TheVariants as flat
+use Rattle.flat_code.specs.declared.operations.Operation.{Operation}
+use Rattle.flat_code.specs.declared.operations.Operation.TheVariants as operation
+use Rattle.flat_code.specs.declared.operations.PointerOperation.TheVariants as pointers
+use Rattle.stl_ast.specs.declared.names.BlockName.{BlockName}
+use Rattle.stl_ast.specs.declared.names.BlockName.TheVariants as block
+use Rattle.stl_ast.specs.declared.operands.Letters.{Letters}
+use Rattle.stl_ast.specs.declared.operands.Letters.TheVariants as letters
+use Rattle.stl_ast.specs.declared.operands.Numbered.{Numbered}
+use Rattle.stl_ast.specs.declared.operands.Numbered.TheVariants as numbered
+use Rattle.stl_ast.specs.declared.operands.Operand.{Operand}
+use Rattle.stl_ast.specs.declared.operands.Operand.TheVariants as operand
+use Rattle.stl_ast.specs.declared.operands.PathHead.TheVariants as head
+use Rattle.stl_types.specs.declared.parameters.Formal.{Formal}
+use Rattle.stl_list.specs.Constants.{instruction_constant}
+use Rattle.stl_list.specs.Joined.{called_id}
+use Rattle.stl_list.specs.Labels.{label_of}
+use Rattle.stl_list.specs.Parameters.{parameter_name}
+use Rattle.stl_list.specs.Runs.{Run, number_at}
+
+-- the letters of an area; those of peripherals say which way they are used
+abbrev pub letters_of : (writes : Bool) → Area → Letters
+letters_of writes area.I = letters.I
+letters_of writes area.Q = letters.Q
+letters_of writes area.M = letters.M
+letters_of writes area.Db = letters.Db
+letters_of writes area.Di = letters.Di
+letters_of writes area.L = letters.L
+letters_of writes area.P = if writes then letters.Pq else letters.Pi
+
+-- the letters of an area that isn't peripherals, or that is only read
+abbrev pub read_letters : Area → Letters
+read_letters a = letters_of false a
+
+-- the instructions that write their operand
+abbrev pub writes : Operation → Bool
+writes operation.Transfer = true
+writes operation.Assign = true
+writes operation.Set = true
+writes operation.Reset = true
+writes (operation.Edge rising) = true
+writes (operation.Pointer pointers.Tar1) = true
+writes (operation.Pointer pointers.Tar2) = true
+writes _ = false
+
+-- a data block by its number
+abbrev pub data_block_name : ℕ → BlockName
+data_block_name number = block.Number (record { kind = kinds.Db; number = number })
+
+-- the data block that USEDB names, if an op is one
+abbrev pub used_by : FlatOperand → Option ℕ
+used_by (flat.UseDb number) = Some number
+used_by _ = None
+
+-- the data block that a statement opens first, which its first op names
+abbrev pub opened_by : List OpData → Option ℕ
+opened_by [] = None
+opened_by (op ∷ ops) = used_by op.operand
+
+-- the name of the parameter of an index
+abbrev pub name_at : List Formal → ℕ → List ℕ
+name_at formals index = name_or index (slice_get formals index)
+  where
+    name_or : ℕ → Option Formal → List ℕ
+    name_or index None = parameter_name index
+    name_or index (Some f) = f.name
+
+-- a parameter of the function itself
+abbrev pub own_parameter : List Formal → ℕ → Operand
+own_parameter formals index = operand.Named (head.Local (name_at formals index)) []
+
+-- what an instruction without operand in the code has in a source: STW and AR2 stand in the operation
+abbrev pub implied_operand : Operation → Operand
+implied_operand operation.LoadStatus = operand.Other (codes "STW")
+implied_operand operation.TransferStatus = operand.Other (codes "STW")
+implied_operand (operation.Pointer pointers.Lar1Ar2) = operand.Other (codes "AR2")
+implied_operand (operation.Pointer pointers.Tar1Ar2) = operand.Other (codes "AR2")
+implied_operand _ = operand.Nothing
+
+-- a timer, of kind 1, or a counter by its number
+abbrev pub timer_or_counter : (kind number : ℕ) → Operand
+timer_or_counter kind number = if kind == 1 then operand.Timer number else operand.Counter number
+
+-- what a number in memory is one of
+abbrev pub numbered_by : (kind : ℕ) → Numbered
+numbered_by kind = if kind == 1 then numbered.Timer else numbered.Counter
+
+-- the register of a data block, 1 DB or 2 DI, whose number stands in memory
+abbrev pub register_of : ℕ → Numbered
+register_of register = if register == 1 then numbered.Db else numbered.Di
+
+-- 0 is no instance
+abbrev pub instance_name : ℕ → Option BlockName
+instance_name instance = if instance == 0 then None else Some (data_block_name instance)
+
+-- a fixed place, in the data block that the statement opens first, if it does
+abbrev pub direct_operand : (opened : Option ℕ) → (writes : Bool) → Area → Width → (byte bit : ℕ)
+    → Operand
+direct_operand opened writes a width byte bit =
+    operand.Direct (option_map data_block_name opened) (letters_of writes a) width byte bit
+
+-- a condition of the status word; USEDB and PASS, which only prepare, have no operand
+abbrev pub condition_operand : FlatOperand → Operand
+condition_operand (flat.OfStatus condition) = operand.OfStatus (flag_of condition)
+condition_operand _ = operand.Nothing
+
+-- the operand of an op that names no parameter, no label and no constant
+unfoldable pub plain_operand : (opened : Option ℕ) → Operation → FlatOperand → Operand
+plain_operand opened o (flat.Direct a width byte bit) =
+    direct_operand opened (writes o) a width byte bit
+plain_operand opened o (flat.ByMemory a width from byte) =
+    operand.ByMemory (read_letters a) width (read_letters from) byte
+plain_operand opened o (flat.ByRegister a width register bits) =
+    operand.ByRegister (option_map read_letters a) width register bits
+plain_operand opened o (flat.Numbered kind number) = timer_or_counter kind number
+plain_operand opened o (flat.NumberedBy kind from byte) =
+    operand.NumberBy (numbered_by kind) (read_letters from) byte
+plain_operand opened o (flat.Called kind number instance) =
+    operand.Called (block.Number (called_id kind number)) (instance_name instance)
+plain_operand opened o (flat.OpenBlock register number) =
+    operand.OpenBlock (register == 2) (data_block_name number)
+plain_operand opened o (flat.OpenBy register from byte) =
+    operand.NumberBy (register_of register) (read_letters from) byte
+plain_operand opened o other = condition_operand other
+
+-- the operand of an op. `formals` are the parameters of its block, `starts` the offsets of the
+-- statements, `opened` is the data block that the statement opens first
+unfoldable pub operand_by : List Formal → (starts : List ℕ) → (opened : Option ℕ) → Operation → FlatOperand
+    → Operand
+operand_by formals starts opened o flat.Nothing = implied_operand o
+operand_by formals starts opened o (flat.Literal value) = instruction_constant o value
+operand_by formals starts opened o (flat.Parameter index width) = own_parameter formals index
+operand_by formals starts opened o (flat.Jump kind target) =
+    operand.Label (label_of (number_at starts target))
+operand_by formals starts opened o other = plain_operand opened o other
+
+-- the operand of a statement
+abbrev pub operand_of : List Formal → (starts : List ℕ) → Run → Operand
+operand_of formals starts r =
+    operand_by formals starts (opened_by r.before) (operation_of r.op.code) r.op.operand

@@ -1,0 +1,43 @@
+-- The parameters of a code block as a source declares them: their names, sections and types.
+use Rattle.std.specs.Prelude.{ℕ, suc, ◌+◌, ◌==◌, Bool, true, false, ◌&&◌, ◌||◌, List, [], ◌∷◌, ◌++◌, codes, decimal, Option, Some, None, if◌then◌else◌, slice_get}
+use Rattle.std.specs.Str.{bytes_eq}
+use Rattle.plc_base.specs.declared.places.Width.{Width}
+use Rattle.plc_base.specs.declared.places.Width.TheVariants as width
+use Rattle.flat_code.specs.declared.image_fields.TheConstants.{SECTION_IN, SECTION_OUT, SECTION_IN_OUT}
+use Rattle.flat_code.specs.declared.programs.Param.{Param}
+use Rattle.stl_ast.specs.declared.blocks.PartKind.{PartKind}
+use Rattle.stl_ast.specs.declared.blocks.PartKind.TheVariants as part
+use Rattle.stl_ast.specs.declared.declarations.Simple.{Simple}
+use Rattle.stl_ast.specs.declared.declarations.Simple.TheVariants as simple
+use Rattle.stl_types.specs.Parameters.{formal}
+use Rattle.stl_types.specs.declared.parameters.Formal.{Formal}
+
+-- the name of the parameter of an index
+abbrev pub parameter_name : ℕ → List ℕ
+parameter_name index = codes "p" ++ decimal index
+
+-- the name of the return value
+abbrev pub return_name : List ℕ
+return_name = codes "RET_VAL"
+
+-- whether a parameter is the return value of its function: no other has its name
+abbrev pub is_return : Formal → Bool
+is_return f = bytes_eq f.name return_name
+
+-- the type that a width has by itself
+abbrev pub plain_kind : Width → Simple
+plain_kind width.Bit = simple.Bool
+plain_kind width.Byte = simple.Byte
+plain_kind width.Word = simple.Word
+plain_kind width.Dword = simple.Dword
+
+-- the section by its number in an image: 1 IN, 2 OUT, 3 IN_OUT
+abbrev pub section_of : ℕ → PartKind
+section_of section =
+    if section == SECTION_IN then part.Input
+    else if section == SECTION_OUT then part.Output
+    else part.InOut
+
+-- in a function an OUT behind an IN_OUT is the return value, since the others stand by their sections
+abbrev pub name_of : (returns : Bool) → (index : ℕ) → List ℕ
+name_of returns index = if returns then return_name else parameter_name index

@@ -1,0 +1,51 @@
+-- The statements of a code block: its ops up to each end mark.
+use Rattle.std.specs.Prelude.{ℕ, ◌+◌, ◌==◌, Bool, true, false, List, [], ◌∷◌, ◌++◌, length, replicate, if◌then◌else◌, slice_set}
+use Rattle.std.specs.List.{fold, position_or_len}
+use Rattle.flat_code.specs.Codes.{size}
+use Rattle.flat_code.specs.Ops.{OpData}
+use Rattle.flat_code.specs.declared.operands.Operand.{Operand}
+use Rattle.flat_code.specs.declared.operands.Operand.TheVariants as flat
+
+-- a statement: the ops that prepare it, USEDB or PASS, and the op that does it
+pub record Run : Type 0 where
+  pub before : List OpData
+  pub op : OpData
+
+-- the statements of ops, of which these stand in front in the first
+abbrev pub runs_from : (before : List OpData) → List OpData → List Run
+runs_from before [] = []
+runs_from before (op ∷ ops) =
+    if op.last then record { before = before; op = op } ∷ runs_from [] ops
+    else runs_from (before ++ op ∷ []) ops
+
+-- the statements of the code of a block
+unfoldable pub runs : List OpData → List Run
+runs ops = runs_from [] ops
+
+-- one offset, where a statement begins there
+abbrev pub start_here : (at : ℕ) → (begins : Bool) → List ℕ
+start_here at begins = if begins then at ∷ [] else []
+
+-- the offsets of statements, of ops that begin at an offset; `begins`: whether a statement begins
+-- with the first of them
+abbrev pub starts_from : (at : ℕ) → (begins : Bool) → List OpData → List ℕ
+starts_from at begins [] = []
+starts_from at begins (op ∷ ops) = start_here at begins ++ starts_from (at + size op) op.last ops
+
+-- the offsets at which the statements of a block begin
+unfoldable pub starts : List OpData → List ℕ
+starts ops = starts_from 0 true ops
+
+-- the number of the statement that begins at an offset, from 0; where none does, how many there are
+unfoldable pub number_at : (starts : List ℕ) → (offset : ℕ) → ℕ
+number_at starts offset = position_or_len (λ start. start == offset) starts
+
+-- the statement at which an op goes on is marked, if it is a jump
+abbrev pub marked_by : (starts : List ℕ) → List Bool → Operand → List Bool
+marked_by starts marks (flat.Jump kind target) = slice_set marks (number_at starts target) true
+marked_by starts marks _ = marks
+
+-- of each statement whether a jump leads to it
+unfoldable pub targets : (starts : List ℕ) → List OpData → List Bool
+targets starts ops =
+    fold (λ marks op. marked_by starts marks op.operand) (replicate (length starts) false) ops

@@ -1,0 +1,106 @@
+-- Declarations and sections.
+use Rattle.std.specs.Prelude.{ℕ, ◌+◌, ◌-◌, ◌*◌, ◌/◌, pos, nat_lt, nat_eq, ◌==◌, Bool, true, false, not, ◌&&◌, List, [], ◌∷◌, ◌++◌, codes, length, Option, Some, None, if◌then◌else◌, slice_get}
+use Rattle.std.specs.List.{flat_map}
+use Rattle.std.specs.Option.{option_map}
+use Rattle.plc_base.specs.Kinds.{is_function_block}
+use Rattle.plc_base.specs.Widths.{bit_count}
+use Rattle.flat_code.specs.Programs.{CodeBlock}
+use Rattle.flat_code.specs.declared.programs.Param.{Param}
+use Rattle.stl_ast.specs.Blocks.{part_rank}
+use Rattle.stl_ast.specs.declared.blocks.Part.{Part}
+use Rattle.stl_ast.specs.declared.blocks.PartKind.{PartKind}
+use Rattle.stl_ast.specs.declared.blocks.PartKind.TheVariants as part
+use Rattle.stl_ast.specs.declared.declarations.Declaration.{Declaration}
+use Rattle.stl_ast.specs.declared.declarations.ElementType.TheVariants as element
+use Rattle.stl_ast.specs.declared.declarations.Init.{Init}
+use Rattle.stl_ast.specs.declared.declarations.Simple.{Simple}
+use Rattle.stl_ast.specs.declared.declarations.Simple.TheVariants as simple
+use Rattle.stl_types.specs.declared.parameters.Formal.{Formal}
+use Rattle.stl_list.specs.Parameters.{is_return}
+
+-- a parameter, `name : type;`
+abbrev pub plain_declaration : (line : ℕ) → Formal → Declaration
+plain_declaration line f = record {
+  line = line;
+  name = f.name;
+  level = 0;
+  of = record { arrays = []; of = element.Plain f.kind };
+  init = [];
+}
+
+-- so many bytes, `name : ARRAY [0..count - 1] OF BYTE := values;`
+abbrev pub byte_array : (line : ℕ) → (name : List ℕ) → (count : ℕ) → List Init → Declaration
+byte_array line name count values = record {
+  line = line;
+  name = name;
+  level = 0;
+  of = record {
+    arrays = record { low = pos 0; high = pos (count - 1) } ∷ [];
+    of = element.Plain simple.Byte;
+  };
+  init = values;
+}
+
+-- so many bytes; none are left out
+abbrev pub bytes_here : (line : ℕ) → (name : List ℕ) → (count : ℕ) → List Init → List Declaration
+bytes_here line name count values =
+    if count == 0 then [] else byte_array line name count values ∷ []
+
+-- a parameter is declared in its section, but a return value in the head
+abbrev pub is_declared_in : PartKind → Formal → Bool
+is_declared_in kind f = nat_eq (part_rank f.section) (part_rank kind) && not (is_return f)
+
+-- a parameter, if it is of the section
+abbrev pub declared_here : (line : ℕ) → PartKind → Formal → List Declaration
+declared_here line kind f =
+    if is_declared_in kind f then plain_declaration line f ∷ [] else []
+
+-- the parameters of a section
+abbrev pub declared_in : (line : ℕ) → List Formal → PartKind → List Declaration
+declared_in line formals kind = flat_map (declared_here line kind) formals
+
+-- a section; one without content is left out
+abbrev pub section : (line : ℕ) → PartKind → List Declaration → List Part
+section line kind items =
+    if length items == 0 then [] else record { line = line; kind = kind; items = items } ∷ []
+
+-- the first even byte at or past the end of a parameter
+abbrev pub even_end : Param → ℕ
+even_end p = (8 * p.byte + p.bit + bit_count p.width + 15) / 16 * 2
+
+-- where VAR begins: behind the last parameter, or at 0
+abbrev pub static_start : List Param → ℕ
+static_start params = end_or_0 (slice_get params (length params - 1))
+  where
+    end_or_0 : Option Param → ℕ
+    end_or_0 None = 0
+    end_or_0 (Some p) = even_end p
+
+-- how many bytes VAR has, up to the end of an instance
+abbrev pub static_len : (instance_len : ℕ) → List Param → ℕ
+static_len instance_len params = instance_len - static_start params
+
+-- the names of what VAR, VAR_TEMP and a data block hold
+abbrev pub static_name : List ℕ
+static_name = codes "s"
+
+-- in VAR_TEMP
+abbrev pub temporary_name : List ℕ
+temporary_name = codes "t"
+
+-- in a data block
+abbrev pub data_name : List ℕ
+data_name = codes "x"
+
+-- how many bytes VAR has: a function block alone has it
+abbrev pub static_bytes : CodeBlock → ℕ
+static_bytes b = if is_function_block b.id.kind then static_len b.instance_len b.params else 0
+
+-- the sections of a code block with these parameters
+unfoldable pub sections : (line : ℕ) → List Formal → CodeBlock → List Part
+sections line formals b =
+    section line part.Input (declared_in line formals part.Input)
+    ++ section line part.Output (declared_in line formals part.Output)
+    ++ section line part.InOut (declared_in line formals part.InOut)
+    ++ section line part.Static (bytes_here line static_name (static_bytes b) [])
+    ++ section line part.Temp (bytes_here line temporary_name b.local_len [])

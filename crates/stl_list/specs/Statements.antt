@@ -1,0 +1,79 @@
+-- The statements of a code block.
+use Rattle.std.specs.Prelude.{ℕ, suc, ◌==◌, Bool, true, false, List, [], ◌∷◌, ◌++◌, length, Option, Some, None, if◌then◌else◌, slice_get}
+use Rattle.std.specs.Option.{unwrap_or}
+use Rattle.flat_code.specs.Programs.{CodeBlock}
+use Rattle.stl_ast.specs.declared.mnemonics.Mnemonic.TheVariants as code
+use Rattle.stl_ast.specs.declared.operands.Operand.TheVariants as operand
+use Rattle.stl_ast.specs.declared.statements.Statement.{Statement}
+use Rattle.stl_types.specs.declared.parameters.Formal.{Formal}
+use Rattle.stl_list.specs.Actuals.{actuals_by}
+use Rattle.stl_list.specs.Labels.{label_of}
+use Rattle.stl_list.specs.Lines.{line_at}
+use Rattle.stl_list.specs.Mnemonics.{mnemonic_of}
+use Rattle.stl_list.specs.Operands.{operand_of}
+use Rattle.stl_list.specs.Runs.{Run, runs, starts, targets}
+use Rattle.stl_list.specs.Signatures.{Signature, formals_of}
+
+-- what the statements of a block refer to: the blocks of the program, the block's own parameters, the
+-- lines on which its statements stand, their offsets, and of each whether a jump leads to it
+pub record Surroundings : Type 0 where
+  pub signatures : List Signature
+  pub formals : List Formal
+  pub lines : List ℕ
+  pub starts : List ℕ
+  pub targets : List Bool
+
+-- those of a block whose statements stand on these lines
+abbrev pub surroundings : List Signature → (lines : List ℕ) → CodeBlock → Surroundings
+surroundings signatures lines b = record {
+  signatures = signatures;
+  formals = formals_of signatures b.id;
+  lines = lines;
+  starts = starts b.code;
+  targets = targets (starts b.code) b.code;
+}
+
+-- a statement has a label where a jump leads to it
+abbrev pub label_at : (targets : List Bool) → (n : ℕ) → Option (List ℕ)
+label_at targets n = if unwrap_or (slice_get targets n) false then Some (label_of n) else None
+
+-- the statement of a number
+abbrev pub statement : Surroundings → (n : ℕ) → Run → Statement
+statement s n r = record {
+  line = line_at s.lines n;
+  code = mnemonic_of r.op;
+  label = label_at s.targets n;
+  operand = operand_of s.formals s.starts r;
+  actuals = actuals_by s.signatures (line_at s.lines n) s.formals r.before r.op.operand;
+}
+
+-- a label alone, with nothing behind its colon
+abbrev pub label_alone : (line : ℕ) → List ℕ → Statement
+label_alone line label = record {
+  line = line;
+  code = code.Empty;
+  label = Some label;
+  operand = operand.Nothing;
+  actuals = [];
+}
+
+-- the last statement is the END clause, before which its label stands, where a jump leads to it
+abbrev pub label_of_end : (line : ℕ) → Option (List ℕ) → List Statement
+label_of_end line None = []
+label_of_end line (Some label) = label_alone line label ∷ []
+
+-- what a statement adds to the body; there are as many statements as lines
+unfoldable pub statement_at : Surroundings → (n : ℕ) → Run → List Statement
+statement_at s n r =
+    if suc n == length s.lines then label_of_end (line_at s.lines n) (label_at s.targets n)
+    else statement s n r ∷ []
+
+-- statements from a number on
+abbrev pub statements_from : Surroundings → (n : ℕ) → List Run → List Statement
+statements_from s n [] = []
+statements_from s n (r ∷ rs) = statement_at s n r ++ statements_from s (suc n) rs
+
+-- the body of a block whose statements stand on these lines
+unfoldable pub body_of : List Signature → (lines : List ℕ) → CodeBlock → List Statement
+body_of signatures lines b =
+    statements_from (surroundings signatures lines b) 0 (runs b.code)

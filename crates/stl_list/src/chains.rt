@@ -1,0 +1,260 @@
+//! Which parameters a chain of passings joins to an INT or a TIME of a system function.
+ghost use Rattle.std.specs.Prelude.{◌≡◌, ◌<◌, false, length, map, unwrap_or, IfOk, slice_get};
+ghost use Rattle.std.specs.List.{range_with_len};
+ghost use Rattle.stl_list.specs.Joined.{
+  chains_by,
+  chains_of,
+  is_int,
+  is_time,
+  labels_of,
+  mark_at,
+  marked,
+  marks_of,
+  parameter_count,
+  relinked,
+  replaced,
+  set_label,
+};
+
+use crate::links::{Link, links};
+use crate::parameters::plain_kind;
+use flat_code::CodeBlock;
+use plc_base::{NoMemory, Width};
+use std::alloc::Global;
+use std::marker::Model;
+use stl_ast::Simple;
+
+/// How many parameters blocks have.
+fn parameter_count(blocks: &[CodeBlock]) -> usize
+    requires { length blocks.now < 65536 }
+    ensures { result ≡ parameter_count blocks.now }
+{
+    let mut count = 0;
+    for block in blocks {
+        count += block.params.len();
+    }
+    count
+}
+
+fn replaced(from: usize, to: usize, label: usize) -> usize
+    ensures { result ≡ replaced from to label }
+{
+    if label == from { to } else { label }
+}
+
+/// Gives all that have one label another.
+fn relabel(labels: &mut [usize], from: usize, to: usize)
+    ensures { labels.new ≡ map (replaced from to) labels.old }
+{
+    for label in labels.iter_mut() {
+        *label = replaced(from, to, *label);
+    }
+}
+
+fn label_at(labels: &[usize], parameter: usize) -> Option<usize>
+    ensures { result ≡ slice_get labels.now parameter }
+{
+    labels.get(parameter).copied()
+}
+
+/// Joins two parameters, and all that are joined to one of them.
+#[tactic(auto, using(crate::proofs::ChainLemmas::replaced_by_itself))]
+fn join(labels: &mut [usize], own: usize, other: usize)
+    ensures { labels.new ≡ relinked labels.old (Link.Joins own other) }
+{
+    let Some(from) = label_at(labels, own) else {
+        return;
+    };
+    let Some(to) = label_at(labels, other) else {
+        return;
+    };
+    if from != to {
+        relabel(labels, from, to);
+    }
+}
+
+fn relink(labels: &mut [usize], link: Link)
+    ensures { labels.new ≡ relinked labels.old link }
+{
+    match link {
+        Link::Joins { own, other } => join(labels, own, other),
+        Link::Has { .. } => {}
+    }
+}
+
+/// A label for each of so many parameters.
+fn first_labels(alloc: Global, count: usize) -> Result<Vec<usize>, NoMemory>
+    ensures { IfOk result (λ v. v.items ≡ range_with_len 0 count) }
+{
+    let mut labels = Vec::with_capacity(alloc, count)?;
+    for number in 0..count {
+        labels.push(number)?;
+    }
+    Ok(labels)
+}
+
+/// Labels of so many parameters: those that a chain of passings joins have the same.
+#[tactic(auto, unfolding(crate::specs::Joined::labels_of))]
+fn labels_of(alloc: Global, count: usize, links: &[Link]) -> Result<Vec<usize>, NoMemory>
+    ensures { IfOk result (λ v. v.items ≡ labels_of count links.now) }
+{
+    let mut labels = first_labels(alloc, count)?;
+    for link in links {
+        relink(&mut labels, *link);
+    }
+    Ok(labels)
+}
+
+fn is_int(kind: Simple) -> bool
+    ensures { result ≡ is_int kind }
+{
+    matches!(kind, Simple::Int)
+}
+
+fn is_time(kind: Simple) -> bool
+    ensures { result ≡ is_time kind }
+{
+    matches!(kind, Simple::Time)
+}
+
+/// Marks the label of a parameter.
+fn mark_label(marks: &mut [bool], labels: &[usize], own: usize)
+    ensures { marks.new ≡ set_label marks.old (slice_get labels.now own) }
+{
+    if let Some(label) = label_at(labels, own) {
+        if label < marks.len() {
+            marks[label] = true;
+        }
+    }
+}
+
+/// Marks the label of a parameter that is passed for an INT of a system function.
+fn mark_int(marks: &mut [bool], labels: &[usize], link: Link)
+    ensures { marks.new ≡ marked is_int labels.now marks.old link }
+{
+    match link {
+        Link::Joins { .. } => {}
+        Link::Has { own, kind } => {
+            if is_int(kind) {
+                mark_label(marks, labels, own);
+            }
+        }
+    }
+}
+
+/// The same for a TIME.
+fn mark_time(marks: &mut [bool], labels: &[usize], link: Link)
+    ensures { marks.new ≡ marked is_time labels.now marks.old link }
+{
+    match link {
+        Link::Joins { .. } => {}
+        Link::Has { own, kind } => {
+            if is_time(kind) {
+                mark_label(marks, labels, own);
+            }
+        }
+    }
+}
+
+/// The labels that a chain joins to INT.
+#[tactic(auto, unfolding(crate::specs::Joined::marks_of))]
+fn int_marks(alloc: Global, labels: &[usize], links: &[Link]) -> Result<Vec<bool>, NoMemory>
+    ensures { IfOk result (λ v. v.items ≡ marks_of is_int labels.now links.now) }
+{
+    let mut marks = vec![in alloc; false; labels.len()]?;
+    for link in links {
+        mark_int(&mut marks, labels, *link);
+    }
+    Ok(marks)
+}
+
+/// The labels that a chain joins to TIME.
+#[tactic(auto, unfolding(crate::specs::Joined::marks_of))]
+fn time_marks(alloc: Global, labels: &[usize], links: &[Link]) -> Result<Vec<bool>, NoMemory>
+    ensures { IfOk result (λ v. v.items ≡ marks_of is_time labels.now links.now) }
+{
+    let mut marks = vec![in alloc; false; labels.len()]?;
+    for link in links {
+        mark_time(&mut marks, labels, *link);
+    }
+    Ok(marks)
+}
+
+/// The labels of all parameters, and which labels are INT or TIME.
+#[derive(Drop)]
+pub(crate) struct Chains {
+    labels: Vec<usize>,
+    ints: Vec<bool>,
+    times: Vec<bool>,
+}
+
+impl Model for Chains {
+    ghost use Rattle.stl_list.specs.Joined.{Chains as ChainsData};
+
+    ghost Value = { ChainsData };
+
+    ghost view = { λ c. record {
+      labels = c.labels.items;
+      ints = c.ints.items;
+      times = c.times.items;
+    } };
+}
+
+fn is_marked(marks: &[bool], label: usize) -> bool
+    ensures { result ≡ unwrap_or (slice_get marks.now label) false }
+{
+    marks.get(label).copied().unwrap_or(false)
+}
+
+fn mark_at(marks: &[bool], label: Option<usize>) -> bool
+    ensures { result ≡ mark_at marks.now label }
+{
+    match label {
+        None => false,
+        Some(label) => is_marked(marks, label),
+    }
+}
+
+/// The chains of these links.
+fn chains_by(alloc: Global, count: usize, links: &[Link]) -> Result<Chains, NoMemory>
+    ensures { IfOk result (λ c. c ≡ chains_by (labels_of count links.now) links.now) }
+{
+    let labels = labels_of(alloc, count, links)?;
+    let ints = int_marks(alloc, labels.as_slice(), links)?;
+    let times = time_marks(alloc, labels.as_slice(), links)?;
+    Ok(Chains {
+        labels,
+        ints,
+        times,
+    })
+}
+
+impl Chains {
+    ghost use Rattle.std.specs.Prelude.{◌≡◌, ◌<◌, length, IfOk};
+    ghost use Rattle.stl_list.specs.Joined.{chains_of, kind_at};
+
+    /// The chains of a program.
+    #[tactic(auto, unfolding(crate::specs::Joined::chains_of))]
+    pub(crate) fn of(alloc: Global, blocks: &[CodeBlock]) -> Result<Chains, NoMemory>
+        requires { length blocks.now < 65536 }
+        ensures { IfOk result (λ c. c ≡ chains_of blocks.now) }
+    {
+        let links = links(alloc, blocks)?;
+        chains_by(alloc, parameter_count(blocks), links.as_slice())
+    }
+
+    /// The type of the parameter of a number.
+    #[tactic(auto, unfolding(crate::specs::Joined::kind_at))]
+    pub(crate) fn kind_at(&self, parameter: usize, width: Width) -> Simple
+        ensures { result ≡ kind_at self.now parameter width }
+    {
+        let label = label_at(self.labels.as_slice(), parameter);
+        if mark_at(self.ints.as_slice(), label) {
+            Simple::Int
+        } else if mark_at(self.times.as_slice(), label) {
+            Simple::Time
+        } else {
+            plain_kind(width)
+        }
+    }
+}
