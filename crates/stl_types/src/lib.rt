@@ -32,4 +32,5 @@ pub use checking::{Checked, check};
 pub use forms::OperandRule;
 pub use parameters::{Callee, Formal};
 pub use scopes::Scope;
+pub use system_functions::system_formals;
 pub use views::{Register, Resolution, ResolvedOperand, Side};

@@ -108,7 +108,7 @@ pub(crate) fn is_known(number: u16) -> bool
 
 /// The parameters of one of the nine system functions, in their order.
 #[tactic(auto, unfolding(crate::specs::Parameters::system_formals))]
-pub(crate) fn system_formals(alloc: Global, number: u16) -> Result<Option<Vec<Formal>>, AllocError>
+pub fn system_formals(alloc: Global, number: u16) -> Result<Option<Vec<Formal>>, AllocError>
     ensures { IfOk result (λ found. option_map (λ v. v.items) found ≡ system_formals number) }
 {
     match number {
