@@ -1,0 +1,5 @@
+-- Lemmas on the tokens of printed trees.
+pub mod Fronts
+pub mod Hashed
+pub mod Marks
+pub mod Numerals
