@@ -3,3 +3,5 @@ pub mod Fronts
 pub mod Hashed
 pub mod Marks
 pub mod Numerals
+pub mod Operands
+pub mod Pieces

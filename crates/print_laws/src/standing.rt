@@ -1,6 +1,8 @@
-ghost use Rattle.print_laws.specs.Standing.{DoMarksStand};
+ghost use Rattle.print_laws.specs.Standing.{ArePrintedTokens, DoTokensStand};
 
-/// Marks stand.
+/// The tokens of a printable tree stand where they are printed, each with the gap before it, and the
+/// text of the tree has just these tokens.
 pub fn law_of_printed_tokens()
-    ensures marks { DoMarksStand }
+    ensures stand { DoTokensStand }
+    ensures tokens { ArePrintedTokens }
 {}

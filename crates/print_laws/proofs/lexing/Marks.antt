@@ -165,7 +165,7 @@ signs : list_all is_sign sign_words ≡ true
 unfolding sign_words marks mark_text is_word_byte is_word_start
 signs = refl
 
-among : (test : List ℕ → Bool) (known : List ℕ) (table : List (List ℕ)) → list_all test table ≡ true → list_any (bytes_eq known) table ≡ true → test known ≡ true
+pub among : (test : List ℕ → Bool) (known : List ℕ) (table : List (List ℕ)) → list_all test table ≡ true → list_any (bytes_eq known) table ≡ true → test known ≡ true
 among test known [] all e = absurd (false≢true e)
 among test known (entry ∷ table) all e =
     let parts = and_parts (test entry) (list_all test table) all in

@@ -120,7 +120,7 @@ behind_known known body some ends none =
 -- ---- numbers with a sign
 
 -- a text that begins with a digit begins with no sign
-front_plain : (text more : List ℕ) → list_all is_ascii_digit text ≡ true → 0 < length text → (is_negative (text ++ more) ≡ false) × (behind_sign (text ++ more) ≡ text ++ more)
+pub front_plain : (text more : List ℕ) → list_all is_ascii_digit text ≡ true → 0 < length text → (is_negative (text ++ more) ≡ false) × (behind_sign (text ++ more) ≡ text ++ more)
 unfolding is_negative behind_sign is_sign
 front_plain [] more e some = absurd (omega (arith, some))
 front_plain (b ∷ s) more e some =
