@@ -1,5 +1,5 @@
 -- The text of a printable tree is cut into the tokens that were printed.
-use Rattle.std.specs.Prelude.{◌≡◌, ◌<◌, ◌*◌, ℕ, true, false, List, [], ◌∷◌, codes, Option, Some, None}
+use Rattle.std.specs.Prelude.{◌≡◌, ◌<◌, ◌*◌, ℕ, true, false, List, codes, Option, Some, None}
 use Rattle.std.specs.List.{AllByRecursion}
 use Rattle.stl_ast.specs.Declarations.{AreBounds, IsCount}
 use Rattle.stl_ast.specs.Literals.{IsDecimal, IsLong}

@@ -35,7 +35,7 @@ is_alone k known =
     is_apart k known Based && (is_apart k known NumberLiteral && (is_apart k known TimeLiteral
     && (is_apart k known Mark && (is_apart k known SignWord && is_apart k known Title))))
 
-record Apart_ (k : TokenKind) (known : List ℕ) : Type 0 where
+record IsApartFrom (k : TokenKind) (known : List ℕ) : Type 0 where
   based : is_apart k known Based ≡ true
   number : is_apart k known NumberLiteral ≡ true
   time : is_apart k known TimeLiteral ≡ true
@@ -43,7 +43,7 @@ record Apart_ (k : TokenKind) (known : List ℕ) : Type 0 where
   sign : is_apart k known SignWord ≡ true
   title : is_apart k known Title ≡ true
 
-apart_parts : (k : TokenKind) (known : List ℕ) → is_alone k known ≡ true → Apart_ k known
+apart_parts : (k : TokenKind) (known : List ℕ) → is_alone k known ≡ true → IsApartFrom k known
 apart_parts k known e =
     let a = and_parts (is_apart k known Based) (is_apart k known NumberLiteral && (is_apart k known TimeLiteral && (is_apart k known Mark && (is_apart k known SignWord && is_apart k known Title)))) e in
     let b = and_parts (is_apart k known NumberLiteral) (is_apart k known TimeLiteral && (is_apart k known Mark && (is_apart k known SignWord && is_apart k known Title))) a.1 in
@@ -66,7 +66,7 @@ hash_longest k b known rest n start short alone fits own = record { fits = fits;
   text : List ℕ
   text = b ∷ (known ++ rest)
 
-  parts : Apart_ k (b ∷ known)
+  parts : IsApartFrom k (b ∷ known)
   parts = apart_parts k (b ∷ known) alone
 
   other : (c : ℕ) → is_word_start c ≡ false → b ≡ c → ⊥

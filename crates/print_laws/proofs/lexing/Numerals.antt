@@ -114,6 +114,7 @@ behind_known known body some ends none =
     later k low high =
         ap no_hash (get_or-append_right known body (length known) k 0 refl low)
         ∙ AllPass-from_list_all no_hash body none (k - length known) 0 (omega (arith, low, high, length-append known body))
+
     last : no_hash (get_or (known ++ body) (length known - 1) 0) ≡ false
     last = ap no_hash (get_or_append_left known body 0 (length known - 1) (omega (arith, some))) ∙ not_from_true (get_or known (length known - 1) 0 == hash) ends
 

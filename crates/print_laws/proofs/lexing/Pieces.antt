@@ -1,11 +1,11 @@
 -- Pieces one in front of others that stand: which kind may stand before which bytes.
-use Rattle.std.proofs.Common.{◌≡◌, ℕ, zero, suc, ◌+◌, ◌/◌, ◌%◌, ◌<◌, ◌≤◌, ◌^◌, Bool, true, false, not, ◌&&◌, ◌||◌, List, [], ◌∷◌, ◌++◌, length, take, replicate, decimal, None, Some, refl, sym, ◌∙◌, ap, subst, arith, inl, inr}
+use Rattle.std.proofs.Common.{◌≡◌, ℕ, zero, suc, ◌/◌, ◌%◌, ◌<◌, ◌≤◌, ◌^◌, Bool, true, false, not, ◌&&◌, ◌||◌, List, [], ◌∷◌, ◌++◌, length, replicate, decimal, None, refl, sym, ◌∙◌, ap, subst, arith, inl, inr}
 use Rattle.std.specs.Prelude.{◌==◌, codes, ℤ, pos, negsuc}
 use Rattle.std.specs.Fmt.{signed_decimal}
 use Rattle.std.specs.List.{list_all, list_any}
 use Rattle.std.specs.Char.{is_ascii_digit, to_ascii_lowercase}
 use Rattle.std.specs.Str.{bytes_eq}
-use Rattle.std.proofs.lemmas.Bool.{and_cases, and_left, and_parts, and_right, and_from, false≢true, false_from_ne_true, not-true, not_from_false, or_cases}
+use Rattle.std.proofs.lemmas.Bool.{and_cases, and_left, and_parts, and_right, and_from, false≢true, false_from_ne_true, not-true}
 use Rattle.std.proofs.lemmas.Bool.Decides.{nat_tests}
 use Rattle.std.proofs.lemmas.List.{append-nil, length-append}
 use Rattle.stl_ast.specs.Literals.{IsDecimal, IsLong}
@@ -30,10 +30,10 @@ use Rattle.stl_print.specs.Pieces.{local, mark, number, signed_number, token, wo
 use Rattle.stl_print.specs.declared.gaps.Gap.{Gap}
 use Rattle.stl_print.specs.declared.gaps.Gap.TheVariants as gap
 use Rattle.print_laws.specs.Standing.{IsName}
-use Rattle.print_laws.proofs.lexing.Fronts.{all_allowed, allows, any_byte, begins_fronts, fronts, other_front}
+use Rattle.print_laws.proofs.lexing.Fronts.{allows, any_byte, begins_fronts, fronts, other_front}
 use Rattle.print_laws.proofs.lexing.Hashed as hashed
 use Rattle.print_laws.proofs.lexing.Marks.{among, mark_form, mark_stands, no_word, sign_word_stands, stops_word}
-use Rattle.print_laws.proofs.lexing.Numerals.{all_weaker, based_right, both_pass, digits_plain, digits_words, front_plain, hex_digit, hex_word, is_hex, long_right, number_is, number_right, numeral, time_right}
+use Rattle.print_laws.proofs.lexing.Numerals.{all_weaker, based_right, both_pass, digits_words, front_plain, hex_digit, hex_word, is_hex, long_right, number_is, number_right, numeral, time_right}
 
 -- ---- what may follow
 
@@ -402,8 +402,7 @@ hex_digits : (count n : ℕ) → (list_all is_hex (digits 16 count n) ≡ true) 
 unfolding digits
 hex_digits zero n = (refl, refl)
 hex_digits (suc count) n =
-    let more = hex_digits count (n / 16) in
-    (
+    let more = hex_digits count (n / 16) in (
       both_pass is_hex (digits 16 count (n / 16)) (digit (n % 16) ∷ []) more.0 (and_from (is_hex (digit (n % 16))) true (hex_digit (n % 16) (omega arith)) refl),
       omega (arith, more.1, length-append (digits 16 count (n / 16)) (digit (n % 16) ∷ [])),
     )
