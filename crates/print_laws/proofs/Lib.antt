@@ -1,1 +1,1 @@
-mod lexing
+pub mod lexing
