@@ -1,0 +1,4 @@
+mod BlockLemmas
+mod NameLemmas
+mod OperandLemmas
+mod StatementLemmas
