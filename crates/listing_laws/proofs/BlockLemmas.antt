@@ -38,15 +38,15 @@ AreBytes bytes = AllByRecursion (λ b. b < 256) bytes
 -- ---- declarations and sections
 
 static_is : IsName static_name
-unfolding begins_with is_word_byte is_word_start
+unfolding is_word_byte is_word_start
 static_is = (refl, refl)
 
 temporary_is : IsName temporary_name
-unfolding begins_with is_word_byte is_word_start
+unfolding is_word_byte is_word_start
 temporary_is = (refl, refl)
 
 data_is : IsName data_name
-unfolding begins_with is_word_byte is_word_start
+unfolding is_word_byte is_word_start
 data_is = (refl, refl)
 
 bytes_printable : (line : ℕ) (name : List ℕ) (count : ℕ) (values : List Init) → IsName name → count ≤ 65536 → AllByRecursion IsPrintableInit values → AllByRecursion IsPrintableDeclaration (bytes_here line name count values)

@@ -41,11 +41,11 @@ all_joined P Q f (x ∷ xs) h (one, more) = all_append Q (f x) (flat_map f xs) (
 -- ---- names
 
 pub parameter_is : (index : ℕ) → index < 2 ^ 64 → IsName (parameter_name index)
-unfolding begins_with is_word_byte is_word_start
+unfolding is_word_byte is_word_start
 parameter_is index h = (digits_words (decimal index) (numeral index h).digits, refl)
 
 pub return_is : IsName return_name
-unfolding begins_with is_word_byte is_word_start
+unfolding is_word_byte is_word_start
 return_is = (refl, refl)
 
 label_digit : (n : ℕ) → is_word_byte (digit (n % 36)) ≡ true
@@ -58,11 +58,11 @@ digits_all n =
     (and_from (is_word_byte (digit (n / 36 % 36))) _ (label_digit (n / 36)) (and_from (is_word_byte (digit (n % 36))) _ (label_digit n) refl))
 
 low_label : (n : ℕ) → IsName (95 ∷ three_digits n)
-unfolding begins_with is_word_start
+unfolding is_word_start
 low_label n = (digits_all n, refl)
 
 high_label : (n : ℕ) → IsName (90 ∷ three_digits n)
-unfolding begins_with is_word_start
+unfolding is_word_start
 high_label n = (digits_all n, refl)
 
 pub label_is : (n : ℕ) → IsName (label_of n)
@@ -78,19 +78,19 @@ abbrev AreKnown : Option (List Formal) → Type 0
 AreKnown o = AreFormals (unwrap_or o [])
 
 ob_nr_name : IsName ob_nr.name
-unfolding begins_with is_word_byte is_word_start
+unfolding is_word_byte is_word_start
 ob_nr_name = (refl, refl)
 
 mode_name : IsName mode.name
-unfolding begins_with is_word_byte is_word_start
+unfolding is_word_byte is_word_start
 mode_name = (refl, refl)
 
 dtime_name : IsName dtime.name
-unfolding begins_with is_word_byte is_word_start
+unfolding is_word_byte is_word_start
 dtime_name = (refl, refl)
 
 sign_name : IsName sign.name
-unfolding begins_with is_word_byte is_word_start
+unfolding is_word_byte is_word_start
 sign_name = (refl, refl)
 
 -- the parameters of a system function, by the row of its number
@@ -155,7 +155,7 @@ typed_printable simple.Time bits h = signed_long bits h
 typed_printable _ bits h = tt
 
 open_name : (which : ℕ) → IsName (open_block_name which)
-unfolding begins_with is_word_byte is_word_start
+unfolding is_word_byte is_word_start
 open_name which =
     either_way IsName (which == 0) _ _ (refl, refl)
     (either_way IsName (which == 1) _ _ (refl, refl)

@@ -73,7 +73,7 @@ timer_is : (kind number : ℕ) → number ≤ 65535 → IsPrintableOperand (time
 timer_is kind number h = either_way IsPrintableOperand (kind == 1) (operand.Timer number) (operand.Counter number) h h
 
 implied_is : (o : Operation) → IsPrintableOperand (implied_operand o)
-unfolding begins_with is_word_byte is_word_start
+unfolding is_word_byte is_word_start
 implied_is operation.LoadStatus = (refl, refl)
 implied_is operation.TransferStatus = (refl, refl)
 implied_is (operation.Pointer pointers.Lar1Ar2) = (refl, refl)

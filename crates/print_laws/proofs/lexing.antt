@@ -8,3 +8,4 @@ pub mod Operands
 pub mod Pieces
 pub mod Statements
 pub mod Trees
+pub mod Words

@@ -1,6 +1,7 @@
 -- The text of a printable tree is cut into the tokens that were printed.
 use Rattle.std.specs.Prelude.{◌≡◌, ◌<◌, ◌*◌, ℕ, true, false, List, codes, Option, Some, None}
 use Rattle.std.specs.List.{AllByRecursion}
+use Rattle.std.specs.Str.{str_eq_ignore_ascii_case}
 use Rattle.stl_ast.specs.Declarations.{AreBounds, IsCount}
 use Rattle.stl_ast.specs.Literals.{IsDecimal, IsLong}
 use Rattle.stl_ast.specs.Operands.{IsNumber}
@@ -25,16 +26,16 @@ use Rattle.stl_ast.specs.declared.operands.PathHead.{PathHead}
 use Rattle.stl_ast.specs.declared.operands.PathHead.TheVariants as head
 use Rattle.stl_ast.specs.declared.statements.Actual.{Actual}
 use Rattle.stl_ast.specs.declared.statements.Statement.{Statement}
-use Rattle.stl_lexer.specs.Forms.{begins_with, is_word}
+use Rattle.stl_lexer.specs.Forms.{is_word}
 use Rattle.stl_lexer.specs.Pieces.{AreStanding, Show, tokens_of}
 use Rattle.stl_lexer.specs.Tokens.{AreTokens}
 use Rattle.stl_print.specs.Trees.{end_of, pieces, printed}
 
 -- ---- printable trees: no quoted names, and numbers that a source can write
 
--- a name: a word, and none with which a title begins
+-- a name: a word, but not the one that begins a title
 abbrev pub IsName : List ℕ → Type 0
-IsName name = (is_word name ≡ true) × (begins_with (codes "TITLE") name ≡ false)
+IsName name = (is_word name ≡ true) × (str_eq_ignore_ascii_case (codes "TITLE") name ≡ false)
 
 -- a block by its number
 abbrev pub IsNumberedBlock : BlockName → Type 0

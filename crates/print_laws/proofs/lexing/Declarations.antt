@@ -14,7 +14,6 @@ use Rattle.stl_ast.specs.declared.declarations.Simple.TheVariants as simple
 use Rattle.stl_ast.specs.declared.literals.Literal.{Literal}
 use Rattle.stl_lexer.specs.declared.marks.Mark.TheVariants as mark_of
 use Rattle.stl_lexer.specs.Bytes.{is_word_byte, is_word_start}
-use Rattle.stl_lexer.specs.Forms.{begins_with}
 use Rattle.stl_lexer.specs.Pieces.{Piece}
 use Rattle.stl_print.specs.Declarations.{array_pieces, behind_type, declaration_pieces, element_pieces, further_inits, init_pieces, inits_pieces, setting_pieces, value_pieces}
 use Rattle.stl_print.specs.Literals.{literal_pieces}
@@ -39,7 +38,7 @@ bounds_rest b ps end (low, high) r =
     signed_rest gap.Nothing b.low (mark gap.Nothing mark_of.DotDot ∷ (signed_number gap.Nothing b.high ++ (mark gap.Nothing mark_of.CloseBracket ∷ ps))) end low dots
 
 array_rest : (b : Bounds) (ps : List Piece) (end : List ℕ) → AreBounds b → Rest true ps end → Rest true (array_pieces b ++ ps) end
-unfolding array_pieces begins_with is_word_byte is_word_start
+unfolding array_pieces is_word_byte is_word_start
 array_rest b ps end h r =
     let of_ = word gap.Blank (codes "OF") ∷ [] in
     let upper = mark gap.Nothing mark_of.CloseBracket ∷ of_ in
@@ -58,12 +57,12 @@ arrays_rest (b ∷ arrays) ps end (one, more) r =
     joined true (array_pieces b) (flat_map array_pieces arrays) ps end (array_rest b (flat_map array_pieces arrays ++ ps) end one (arrays_rest arrays ps end more r))
 
 pub type_name : (k : Simple) → IsName (type_word k)
-unfolding type_word begins_with is_word_byte is_word_start
+unfolding type_word is_word_byte is_word_start
 type_name simple.Bool = (refl, refl)
 type_name _ = (refl, refl)
 
 element_rest : (g : Gap) (e : ElementType) (ps : List Piece) (end : List ℕ) → IsPrintableElement e → Rest true ps end → Rest (opens g) (element_pieces g e ++ ps) end
-unfolding element_pieces begins_with is_word_byte is_word_start
+unfolding element_pieces is_word_byte is_word_start
 element_rest g (element.Plain k) ps end h r = word_rest g (type_word k) ps end (type_name k) r
 element_rest g element.Structure ps end h r = word_rest g (codes "STRUCT") ps end (refl, refl) r
 element_rest g (element.Udt name) ps end h r = block_rest g name ps end h r

@@ -3,7 +3,7 @@ use Rattle.std.proofs.Common.{◌≡◌, ℕ, zero, suc, ◌≤◌, Bool, true, 
 use Rattle.std.specs.Prelude.{◌==◌}
 use Rattle.std.specs.List.{list_all, list_any, prefix_len}
 use Rattle.std.specs.Char.{to_ascii_lowercase}
-use Rattle.std.specs.Str.{bytes_eq}
+use Rattle.std.specs.Str.{bytes_eq, str_eq_ignore_ascii_case}
 use Rattle.std.proofs.lemmas.Bool.{and_parts, and_from, eqb-true, eq-eqb, false≢true, not-true, or_cases, or_left, or_right}
 use Rattle.std.proofs.lemmas.Bool.Decides.{nat_tests}
 use Rattle.std.proofs.lemmas.List.{length-drop, length-take-le}
@@ -32,6 +32,20 @@ begins_fronts (c ∷ e) (b ∷ s) = ap (λ x. to_ascii_lowercase c == to_ascii_l
 pub fronts_self : (e : List ℕ) → fronts e e ≡ true
 fronts_self [] = refl
 fronts_self (c ∷ e) = and_from (to_ascii_lowercase c == to_ascii_lowercase c) (fronts e e) (eq-eqb (to_ascii_lowercase c) (to_ascii_lowercase c) refl) (fronts_self e)
+
+pub fronts_within : (e s : List ℕ) → fronts e s ≡ true → length e ≤ length s
+fronts_within [] s h = omega arith
+fronts_within (c ∷ e) [] h = absurd (false≢true h)
+fronts_within (c ∷ e) (b ∷ s) h = omega (arith, fronts_within e s (and_parts (to_ascii_lowercase c == to_ascii_lowercase b) (fronts e s) h).1)
+
+-- an entry that a text as long begins with is the text, but for case
+pub fronts_whole : (e s : List ℕ) → fronts e s ≡ true → length e ≡ length s → str_eq_ignore_ascii_case e s ≡ true
+fronts_whole [] [] h same = refl
+fronts_whole [] (b ∷ s) h same = absurd (omega (arith, same))
+fronts_whole (c ∷ e) [] h same = absurd (false≢true h)
+fronts_whole (c ∷ e) (b ∷ s) h same =
+    let parts = and_parts (to_ascii_lowercase c == to_ascii_lowercase b) (fronts e s) h in
+    and_from (to_ascii_lowercase c == to_ascii_lowercase b) (str_eq_ignore_ascii_case e s) parts.0 (fronts_whole e s parts.1 (omega (arith, same)))
 
 -- a text is empty, or its first byte passes, in lower case
 abbrev pub allows : (ℕ → Bool) → List ℕ → Bool
@@ -149,7 +163,7 @@ IsBound tail test text m n =
     → is_tail tail (drop (length entry) (take m text)) (drop m text) ≡ true → m ≤ n
 
 -- the front of a text begins with what it begins with
-fronts_take : (entry : List ℕ) (m : ℕ) (text : List ℕ) → fronts entry (take m text) ≡ true → fronts entry text ≡ true
+pub fronts_take : (entry : List ℕ) (m : ℕ) (text : List ℕ) → fronts entry (take m text) ≡ true → fronts entry text ≡ true
 fronts_take [] m text e = refl
 fronts_take (c ∷ entry) zero text e = absurd (false≢true e)
 fronts_take (c ∷ entry) (suc m) [] e = absurd (false≢true e)

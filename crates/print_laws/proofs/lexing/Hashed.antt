@@ -97,7 +97,7 @@ hash_longest k b known rest n start short alone fits own = record { fits = fits;
 
 -- ---- the run behind a prefix
 
-stops_run : (after : List ℕ) → stops after ≡ true → prefix_len is_word_byte after ≡ 0
+pub stops_run : (after : List ℕ) → stops after ≡ true → prefix_len is_word_byte after ≡ 0
 stops_run [] e = refl
 stops_run (b ∷ s) e = rw (not-true (is_word_byte b) (and_parts (not (is_word_byte b)) (not (b == hash)) e).0) refl
 

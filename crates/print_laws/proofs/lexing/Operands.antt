@@ -26,7 +26,7 @@ use Rattle.stl_ast.specs.declared.operands.PathHead.TheVariants as head
 use Rattle.stl_lexer.specs.declared.marks.Mark.{Mark}
 use Rattle.stl_lexer.specs.declared.marks.Mark.TheVariants as mark_of
 use Rattle.stl_lexer.specs.Bytes.{is_word_byte, is_word_start}
-use Rattle.stl_lexer.specs.Forms.{begins_with, sign_words}
+use Rattle.stl_lexer.specs.Forms.{sign_words}
 use Rattle.stl_lexer.specs.Pieces.{Piece, spelled}
 use Rattle.stl_print.specs.Literals.{literal_pieces}
 use Rattle.stl_print.specs.Names.{block_name, first_step, index, path_pieces, step_pieces, steps_pieces}
@@ -112,7 +112,7 @@ closing_rest s g m ps end e h r =
 -- ---- names of blocks, and paths
 
 block_letters_name : (k : BlockKind) → IsName (block_letters k)
-unfolding block_letters begins_with is_word_byte is_word_start
+unfolding block_letters is_word_byte is_word_start
 block_letters_name kinds.Ob = (refl, refl)
 block_letters_name _ = (refl, refl)
 
@@ -151,7 +151,7 @@ path_rest g (s ∷ steps) ps end (one, more) r =
 -- ---- constants
 
 truth_name : (value : Bool) → IsName (truth_word value)
-unfolding truth_word begins_with is_word_byte is_word_start
+unfolding truth_word is_word_byte is_word_start
 truth_name true = (refl, refl)
 truth_name false = (refl, refl)
 
@@ -173,22 +173,22 @@ literal_rest g (literal.Bytes bytes) ps end h r = absurd h
 -- ---- operands
 
 bit_name : (area : Letters) → IsName (address_letters area width.Bit)
-unfolding area_letters size_letter bit_letter width_letter begins_with is_word_byte is_word_start
+unfolding area_letters size_letter bit_letter width_letter is_word_byte is_word_start
 bit_name letters.I = (refl, refl)
 bit_name _ = (refl, refl)
 
 byte_name : (area : Letters) → IsName (address_letters area width.Byte)
-unfolding area_letters size_letter bit_letter width_letter begins_with is_word_byte is_word_start
+unfolding area_letters size_letter bit_letter width_letter is_word_byte is_word_start
 byte_name letters.I = (refl, refl)
 byte_name _ = (refl, refl)
 
 word_name : (area : Letters) → IsName (address_letters area width.Word)
-unfolding area_letters size_letter bit_letter width_letter begins_with is_word_byte is_word_start
+unfolding area_letters size_letter bit_letter width_letter is_word_byte is_word_start
 word_name letters.I = (refl, refl)
 word_name _ = (refl, refl)
 
 dword_name : (area : Letters) → IsName (address_letters area width.Dword)
-unfolding area_letters size_letter bit_letter width_letter begins_with is_word_byte is_word_start
+unfolding area_letters size_letter bit_letter width_letter is_word_byte is_word_start
 dword_name letters.I = (refl, refl)
 dword_name _ = (refl, refl)
 
@@ -199,7 +199,7 @@ address_name area width.Word = word_name area
 address_name area width.Dword = dword_name area
 
 numbered_name : (what : Numbered) → IsName (numbered_letters what)
-unfolding numbered_letters begins_with is_word_byte is_word_start
+unfolding numbered_letters is_word_byte is_word_start
 numbered_name numbers.Timer = (refl, refl)
 numbered_name _ = (refl, refl)
 
@@ -238,7 +238,7 @@ memory_rest from w byte ps end h r =
     (letters_rest gap.Nothing (address_letters from w) byte (mark gap.Nothing mark_of.CloseBracket ∷ ps) end (address_name from w) h (closing_rest true gap.Nothing mark_of.CloseBracket ps end refl refl r))
 
 register_name : (register : ℕ) → register ≤ 65535 → IsName (codes "AR" ++ decimal register)
-unfolding begins_with is_word_byte is_word_start
+unfolding is_word_byte is_word_start
 register_name register h = (digits_words (decimal register) (numeral register (omega (arith, h))).digits, refl)
 
 register_rest : (g : Gap) (register bits : ℕ) (ps : List Piece) (end : List ℕ) → register ≤ 65535 → bits < 8 * 65536 → Rest true ps end → Rest true (in_register g register bits ++ ps) end
@@ -256,7 +256,7 @@ width_rest : (g : Gap) (name : List ℕ) (register bits : ℕ) (ps : List Piece)
 width_rest g name register bits ps end is h k r = word_rest g name (in_register gap.Blank register bits ++ ps) end is (register_rest gap.Blank register bits ps end h k r)
 
 indirect_rest : (g : Gap) (area : Option Letters) (w : Width) (register bits : ℕ) (ps : List Piece) (end : List ℕ) → register ≤ 65535 → bits < 8 * 65536 → Rest true ps end → Rest (opens g) (by_register g area w register bits ++ ps) end
-unfolding by_register width_letter begins_with is_word_byte is_word_start
+unfolding by_register width_letter is_word_byte is_word_start
 indirect_rest g (Some area) w register bits ps end h k r = width_rest g (address_letters area w) register bits ps end (address_name area w) h k r
 indirect_rest g None width.Bit register bits ps end h k r = soft_as (opens g) (in_register g register bits ++ ps) end (register_rest g register bits ps end h k r)
 indirect_rest g None width.Byte register bits ps end h k r = width_rest g (codes "B") register bits ps end (refl, refl) h k r
@@ -276,7 +276,7 @@ pointer_rest g area byte bit ps end h k r =
     (pointed_rest area byte (mark gap.Nothing mark_of.Dot ∷ number gap.Nothing bit ∷ ps) end h (dot_number bit ps end k r))))
 
 opened_rest : (g : Gap) (di : Bool) (name : BlockName) (ps : List Piece) (end : List ℕ) → IsNumberedBlock name → Rest true ps end → Rest (opens g) (opened g di name ++ ps) end
-unfolding opened begins_with is_word_byte is_word_start
+unfolding opened is_word_byte is_word_start
 opened_rest g true (block.Number id) ps end h r = letters_rest g (codes "DI") id.number ps end (refl, refl) h r
 opened_rest g true (block.Quoted name) ps end h r = absurd h
 opened_rest g false name ps end h r = block_rest g name ps end h r
@@ -287,7 +287,7 @@ instance_rest None ps end h r = r
 instance_rest (Some name) ps end h r = closing_rest true gap.Nothing mark_of.Comma (block_name gap.Blank name ++ ps) end refl refl (block_rest gap.Blank name ps end h r)
 
 flag_rest : (g : Gap) (f : Flag) (ps : List Piece) (end : List ℕ) → Rest true ps end → Rest (opens g) (operand_pieces g (operand.OfStatus f) ++ ps) end
-unfolding operand_pieces flag_kind flag_text begins_with is_word_byte is_word_start sign_words
+unfolding operand_pieces flag_kind flag_text is_word_byte is_word_start sign_words
 flag_rest g flag.Br ps end r = word_rest g (codes "BR") ps end (refl, refl) r
 flag_rest g flag.Ov ps end r = word_rest g (codes "OV") ps end (refl, refl) r
 flag_rest g flag.Os ps end r = word_rest g (codes "OS") ps end (refl, refl) r
@@ -300,7 +300,7 @@ flag_rest g flag.GeZero ps end r = sign_rest g (codes ">=0") ps end refl r
 flag_rest g flag.LeZero ps end r = sign_rest g (codes "<=0") ps end refl r
 
 pub operand_rest : (g : Gap) (o : Operand) (ps : List Piece) (end : List ℕ) → IsPrintableOperand o → Rest true ps end → Rest (opens g) (operand_pieces g o ++ ps) end
-unfolding operand_pieces begins_with is_word_byte is_word_start
+unfolding operand_pieces is_word_byte is_word_start
 operand_rest g operand.Nothing ps end h r = soft_as (opens g) ps end r
 operand_rest g (operand.Direct name area w byte bit) ps end (h, k, l) r = direct_rest g name area w byte bit ps end h k l r
 operand_rest g (operand.Timer n) ps end h r = letters_rest g (codes "T") n ps end (refl, refl) h r

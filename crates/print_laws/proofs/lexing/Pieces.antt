@@ -1,11 +1,11 @@
 -- Pieces one in front of others that stand: which kind may stand before which bytes.
-use Rattle.std.proofs.Common.{◌≡◌, ℕ, zero, suc, ◌/◌, ◌%◌, ◌<◌, ◌≤◌, ◌^◌, Bool, true, false, not, ◌&&◌, ◌||◌, List, [], ◌∷◌, ◌++◌, length, replicate, decimal, None, refl, sym, ◌∙◌, ap, subst, arith, inl, inr}
+use Rattle.std.proofs.Common.{◌≡◌, ℕ, zero, suc, ◌/◌, ◌%◌, ◌<◌, ◌≤◌, ◌^◌, Bool, true, false, not, ◌&&◌, ◌||◌, List, [], ◌∷◌, ◌++◌, length, replicate, decimal, None, refl, ◌∙◌, ap, subst, arith}
 use Rattle.std.specs.Prelude.{◌==◌, codes, ℤ, pos, negsuc}
 use Rattle.std.specs.Fmt.{signed_decimal}
 use Rattle.std.specs.List.{list_all, list_any}
 use Rattle.std.specs.Char.{is_ascii_digit, to_ascii_lowercase}
 use Rattle.std.specs.Str.{bytes_eq}
-use Rattle.std.proofs.lemmas.Bool.{and_cases, and_left, and_parts, and_right, and_from, false≢true, false_from_ne_true, not-true}
+use Rattle.std.proofs.lemmas.Bool.{and_parts, and_from, false≢true, not-true}
 use Rattle.std.proofs.lemmas.Bool.Decides.{nat_tests}
 use Rattle.std.proofs.lemmas.List.{append-nil, length-append}
 use Rattle.stl_ast.specs.Literals.{IsDecimal, IsLong}
@@ -14,7 +14,7 @@ use Rattle.stl_lexer.specs.declared.kinds.TokenKind.TheVariants as kind
 use Rattle.stl_lexer.specs.declared.marks.Mark.{Mark}
 use Rattle.stl_lexer.specs.declared.marks.Mark.TheVariants as mark_of
 use Rattle.stl_lexer.specs.Bytes.{blank, hash, in_source, is_separator, is_sign, is_word_byte, is_word_start, minus_sign, newline, opens_comment, slash}
-use Rattle.stl_lexer.specs.Forms.{begins_with, behind_sign, first_letter, has_form, is_word, sign_words}
+use Rattle.stl_lexer.specs.Forms.{behind_sign, first_letter, has_form, is_word, sign_words}
 use Rattle.stl_lexer.specs.Gap.{after_gap, is_comment_byte}
 use Rattle.stl_lexer.specs.Limits.{greatest_number}
 use Rattle.stl_lexer.specs.Longest.{IsLongest}
@@ -23,16 +23,17 @@ use Rattle.stl_lexer.specs.Pieces.{AreStanding, Piece, Stands, spelled, stops}
 use Rattle.stl_lexer.specs.Rules.{base_of, fault_of, most_digits, rule_of}
 use Rattle.stl_lexer.specs.Tokens.{is_minus}
 use Rattle.stl_lexer.proofs.PlainLemmas.{none_foreign, plain_mark, plain_number, plain_word}
-use Rattle.stl_lexer.proofs.StandLemmas.{number_stands, word_stands}
+use Rattle.stl_lexer.proofs.StandLemmas.{number_stands}
 use Rattle.stl_print.specs.Digits.{digit, digits}
 use Rattle.stl_print.specs.Gaps.{gap_text}
 use Rattle.stl_print.specs.Pieces.{local, mark, number, signed_number, token, word}
 use Rattle.stl_print.specs.declared.gaps.Gap.{Gap}
 use Rattle.stl_print.specs.declared.gaps.Gap.TheVariants as gap
 use Rattle.print_laws.specs.Standing.{IsName}
-use Rattle.print_laws.proofs.lexing.Fronts.{allows, any_byte, begins_fronts, fronts, other_front}
+use Rattle.print_laws.proofs.lexing.Fronts.{allows, any_byte}
 use Rattle.print_laws.proofs.lexing.Hashed as hashed
 use Rattle.print_laws.proofs.lexing.Marks.{among, mark_form, mark_stands, no_word, sign_word_stands, stops_word}
+use Rattle.print_laws.proofs.lexing.Words.{word_longest}
 use Rattle.print_laws.proofs.lexing.Numerals.{all_weaker, based_right, both_pass, digits_words, front_plain, hex_digit, hex_word, is_hex, long_right, number_is, number_right, numeral, time_right}
 
 -- ---- what may follow
@@ -150,28 +151,11 @@ word_ahead : (w after : List ℕ) → is_word w ≡ true → is_ahead (w ++ afte
 word_ahead [] after e = absurd (false≢true e)
 word_ahead (b ∷ w) after e = opening b (w ++ after) (start_opening b (and_parts (is_word_start b) (list_all is_word_byte w) e).0)
 
--- an entry of word bytes that a word doesn't begin with isn't there where the word ends
-no_entry : (entry w after : List ℕ) → list_all is_word_byte entry ≡ true → stops after ≡ true → fronts entry w ≡ false → fronts entry (w ++ after) ≡ false
-no_entry [] w after e stop f = absurd (false≢true (sym f))
-no_entry (c ∷ entry) [] [] e stop f = refl
-no_entry (c ∷ entry) [] (b ∷ after) e stop f =
-    let no_ = not-true (is_word_byte b) (and_parts (not (is_word_byte b)) (not (b == hash)) stop).0 in
-    false_from_ne_true (fronts (c ∷ entry) (b ∷ after)) (λ h. other_front (c ∷ entry) b after no_ (and_parts (is_word_byte c) (list_all is_word_byte entry) e).0 h)
-no_entry (c ∷ entry) (b ∷ w) after e stop f = elim (and_cases (to_ascii_lowercase c == to_ascii_lowercase b) (fronts entry w) f) [
-  | inl other ↦ and_left (to_ascii_lowercase c == to_ascii_lowercase b) (fronts entry (w ++ after)) other
-  | inr more ↦ and_right (to_ascii_lowercase c == to_ascii_lowercase b) (fronts entry (w ++ after)) (no_entry entry w after (and_parts (is_word_byte c) (list_all is_word_byte entry) e).1 stop more)
-]
-
-no_title : (w after : List ℕ) → stops after ≡ true → begins_with (codes "TITLE") w ≡ false → begins_with (codes "TITLE") (w ++ after) ≡ false
-unfolding is_word_byte is_word_start
-no_title w after stop e =
-    begins_fronts (codes "TITLE") (w ++ after) ∙ no_entry (codes "TITLE") w after refl stop (sym (begins_fronts (codes "TITLE") w) ∙ e)
-
 pub word_rest : (g : Gap) (w : List ℕ) (ps : List Piece) (end : List ℕ) → IsName w → Rest true ps end → Rest (opens g) (word g w ∷ ps) end
 unfolding has_form rule_of is_minus
 word_rest g w ps end (is, title) r =
     let stop = soft_stops (spelled ps end) (r.soft refl) in
-    before g kind.Word w ps end refl (word_ahead w (spelled ps end) is) (word_stands w (spelled ps end) is stop (no_title w (spelled ps end) stop title))
+    before g kind.Word w ps end refl (word_ahead w (spelled ps end) is) (word_longest w (spelled ps end) (is, title) stop)
     (no_fault kind.Word w false refl (plain_word w [] is)) (hard true ps end r)
 
 pub local_rest : (g : Gap) (w : List ℕ) (ps : List Piece) (end : List ℕ) → is_word w ≡ true → Rest true ps end → Rest (opens g) (local g w ∷ ps) end

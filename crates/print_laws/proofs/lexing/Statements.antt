@@ -10,7 +10,7 @@ use Rattle.stl_ast.specs.declared.statements.Actual.{Actual}
 use Rattle.stl_ast.specs.declared.statements.Statement.{Statement}
 use Rattle.stl_lexer.specs.declared.marks.Mark.TheVariants as mark_of
 use Rattle.stl_lexer.specs.Bytes.{is_word_byte, is_word_start}
-use Rattle.stl_lexer.specs.Forms.{begins_with, sign_words}
+use Rattle.stl_lexer.specs.Forms.{sign_words}
 use Rattle.stl_lexer.specs.Pieces.{Piece}
 use Rattle.stl_print.specs.Mnemonics.{spelling, spelling_pieces, spelling_text}
 use Rattle.stl_print.specs.Operands.{operand_pieces}
@@ -33,7 +33,7 @@ closing_word : (g : Gap) (ps : List Piece) (end : List ℕ) → Rest true ps end
 closing_word g ps end r = soft_as (opens g) (mark g mark_of.CloseParen ∷ ps) end (closing_rest true g mark_of.CloseParen ps end refl refl r)
 
 spelling_rest : (g : Gap) (m : Mnemonic) (ps : List Piece) (end : List ℕ) → Rest true ps end → Rest (opens g) (spelling_pieces g (spelling m) ++ ps) end
-unfolding spelling begins_with is_word_byte is_word_start sign_words
+unfolding spelling is_word_byte is_word_start sign_words
 spelling_rest g mnemonic.Empty ps end r = soft_as (opens g) (mark g mark_of.Semicolon ∷ ps) end (closing_rest true g mark_of.Semicolon ps end refl refl r)
 spelling_rest g mnemonic.AOpen ps end r = opening_rest g (codes "A") ps end (refl, refl) r
 spelling_rest g mnemonic.AnOpen ps end r = opening_rest g (codes "AN") ps end (refl, refl) r

@@ -20,7 +20,6 @@ use Rattle.stl_ast.specs.declared.declarations.TypeTree.{TypeTree}
 use Rattle.stl_ast.specs.declared.names.BlockName.{BlockName}
 use Rattle.stl_lexer.specs.declared.marks.Mark.TheVariants as mark_of
 use Rattle.stl_lexer.specs.Bytes.{is_separator, is_word_byte, is_word_start}
-use Rattle.stl_lexer.specs.Forms.{begins_with}
 use Rattle.stl_lexer.specs.Pieces.{Piece}
 use Rattle.stl_lexer.proofs.PieceLemmas.{pieces_read}
 use Rattle.stl_parser.specs.declared.clauses.Clause.{Clause}
@@ -51,22 +50,22 @@ IsPrintableClause (clause.Runs s) = IsPrintableStatement s
 IsPrintableClause _ = Unit {0}
 
 head_name : (k : BlockKind) → IsName (head_word k)
-unfolding head_word begins_with is_word_byte is_word_start
+unfolding head_word is_word_byte is_word_start
 head_name kinds.Ob = (refl, refl)
 head_name _ = (refl, refl)
 
 end_name : (k : BlockKind) → IsName (end_word k)
-unfolding end_word begins_with is_word_byte is_word_start
+unfolding end_word is_word_byte is_word_start
 end_name kinds.Ob = (refl, refl)
 end_name _ = (refl, refl)
 
 section_name : (p : PartKind) → IsName (section_word p)
-unfolding section_word begins_with is_word_byte is_word_start
+unfolding section_word is_word_byte is_word_start
 section_name parts.Input = (refl, refl)
 section_name _ = (refl, refl)
 
 result_name : (r : Option Simple) → IsName (result_word r)
-unfolding begins_with is_word_byte is_word_start
+unfolding is_word_byte is_word_start
 result_name None = (refl, refl)
 result_name (Some k) = type_name k
 
@@ -81,7 +80,7 @@ result_rest kinds.Sfc result ps end r = r
 result_rest kinds.Udt result ps end r = r
 
 clause_rest : (g : Gap) (c : Clause) (ps : List Piece) (end : List ℕ) → IsPrintableClause c → Rest true ps end → Rest (opens g) (clause_pieces g c ++ ps) end
-unfolding clause_pieces begins_with is_word_byte is_word_start
+unfolding clause_pieces is_word_byte is_word_start
 clause_rest g (clause.Head line k name result) ps end h r =
     word_rest g (head_word k) ((block_name gap.Blank name ++ result_pieces k result) ++ ps) end (head_name k)
     (joined true (block_name gap.Blank name) (result_pieces k result) ps end (block_rest gap.Blank name (result_pieces k result ++ ps) end h (result_rest k result ps end r)))
