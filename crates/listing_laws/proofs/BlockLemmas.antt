@@ -17,7 +17,6 @@ use Rattle.stl_ast.specs.declared.declarations.Declaration.{Declaration}
 use Rattle.stl_ast.specs.declared.declarations.Init.{Init}
 use Rattle.stl_codegen.specs.Order.{inserted, sorted}
 use Rattle.stl_lexer.specs.Bytes.{is_word_byte, is_word_start}
-use Rattle.stl_lexer.specs.Forms.{begins_with}
 use Rattle.stl_types.specs.declared.parameters.Formal.{Formal}
 use Rattle.stl_list.specs.CodeBlocks.{in_lines, line_reached, listed_block, listed_blocks}
 use Rattle.stl_list.specs.DataBlocks.{function_block, known_settings, listed_data, listed_data_blocks}

@@ -17,7 +17,6 @@ use Rattle.stl_ast.specs.Literals.{IsDecimal, IsLong}
 use Rattle.stl_ast.specs.declared.declarations.Simple.TheVariants as simple
 use Rattle.stl_ast.specs.declared.declarations.Simple.{Simple}
 use Rattle.stl_lexer.specs.Bytes.{is_word_byte, is_word_start}
-use Rattle.stl_lexer.specs.Forms.{begins_with}
 use Rattle.stl_types.specs.Parameters.{dtime, is_one_of, mode, ob_nr, returns, sign, system_formals}
 use Rattle.stl_types.specs.declared.parameters.Formal.{Formal}
 use Rattle.stl_list.specs.Constants.{instruction_constant, open_block_name, typed_constant}

@@ -16,7 +16,6 @@ use Rattle.plc_base.specs.declared.places.Area.{Area}
 use Rattle.plc_base.specs.declared.places.Width.{Width}
 use Rattle.stl_ast.specs.declared.operands.Operand.TheVariants as operand
 use Rattle.stl_lexer.specs.Bytes.{is_word_byte, is_word_start}
-use Rattle.stl_lexer.specs.Forms.{begins_with}
 use Rattle.stl_types.specs.declared.parameters.Formal.{Formal}
 use Rattle.stl_list.specs.Actuals.{passed_operand}
 use Rattle.stl_list.specs.Operands.{data_block_name, implied_operand, instance_name, name_at, opened_by, operand_by, own_parameter, plain_operand, timer_or_counter, used_by}
