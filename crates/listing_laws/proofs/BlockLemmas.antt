@@ -7,7 +7,7 @@ use Rattle.plc_base.proofs.ListLemmas.{all_append}
 use Rattle.plc_base.specs.Kinds.{is_function_block, is_same_block}
 use Rattle.plc_base.specs.declared.places.Width.TheVariants as width
 use Rattle.plc_base.specs.declared.places.Width.{Width}
-use Rattle.flat_code.specs.Programs.{CodeBlock, DataBlock}
+use Rattle.flat_code.specs.Programs.{CodeBlock, DataBlock, Program}
 use Rattle.flat_code.specs.declared.programs.Param.{Param}
 use Rattle.stl_ast.specs.Declarations.{IsCount}
 use Rattle.stl_ast.specs.Operands.{IsNumber}
@@ -26,10 +26,11 @@ use Rattle.stl_list.specs.Lines.{first_line, line_behind, lines_from, stands_bef
 use Rattle.stl_list.specs.Listing.{listed_tree}
 use Rattle.stl_list.specs.Sections.{byte_array, bytes_here, data_name, declared_here, declared_in, is_declared_in, plain_declaration, section, sections, static_bytes, static_len, static_name, static_start, temporary_name}
 use Rattle.stl_list.specs.Signatures.{Signature, formals_of, signatures}
-use Rattle.print_laws.specs.Standing.{IsName, IsPrintableBlock, IsPrintableDeclaration, IsPrintableInit, IsPrintablePart, IsPrintableSetting}
+use Rattle.print_laws.specs.Standing.{IsName, IsPrintable, IsPrintableBlock, IsPrintableDeclaration, IsPrintableInit, IsPrintablePart, IsPrintableSetting}
 use Rattle.listing_laws.proofs.NameLemmas.{AreFormals, AreSignatures, IsSignature, all_joined, all_signatures, block_named, either_way, typed_printable}
 use Rattle.listing_laws.proofs.StatementLemmas.{body_printable}
-use Rattle.listing_laws.specs.Ranges.{AreListedPrintable, IsInstanceOf, IsListedCode, IsListedData}
+use Rattle.listing_laws.proofs.RangeLemmas.{IsInstanceOf, IsListedCode, IsListedData, IsListed, program_listed}
+use Rattle.listing_laws.specs.Ranges.{AreListedPrintable}
 
 abbrev AreBytes : List ℕ → Type 0
 AreBytes bytes = AllByRecursion (λ b. b < 256) bytes
@@ -216,12 +217,15 @@ all_data ss line (d ∷ ds) known (one, more) =
 
 -- ---- listings
 
-pub listed_printable : AreListedPrintable
+listing_printable : (p : Program) → IsListed p → IsPrintable (listed_tree p)
 unfolding listed_tree in_lines
-listed_printable p h =
+listing_printable p h =
     let ss = signatures (chains_of p.code_blocks) p.code_blocks in
     let known = all_signatures (chains_of p.code_blocks) p.code_blocks h.code_blocks in
     let blocks = sorted stands_before p.code_blocks in
     all_append IsPrintableBlock (listed_blocks ss 1 blocks) (listed_data_blocks ss (line_reached 1 blocks) p.data_blocks)
     (blocks_printable ss 1 blocks known (all_sorted IsListedCode stands_before p.code_blocks h.code_blocks))
     (all_data ss (line_reached 1 blocks) p.data_blocks known h.data_blocks)
+
+pub listed_printable : AreListedPrintable
+listed_printable p is w = listing_printable p (program_listed p is w)

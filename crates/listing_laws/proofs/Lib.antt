@@ -1,4 +1,5 @@
 mod BlockLemmas
 mod NameLemmas
 mod OperandLemmas
+mod RangeLemmas
 mod StatementLemmas

@@ -26,7 +26,7 @@ use Rattle.stl_list.specs.Parameters.{parameter_name, return_name}
 use Rattle.stl_list.specs.Signatures.{Signature, called_formals, formals_from, formals_of, is_behind, signatures, signatures_from}
 use Rattle.print_laws.specs.Standing.{IsName, IsPrintableLiteral, IsPrintableOperand}
 use Rattle.print_laws.proofs.lexing.Numerals.{digits_words, numeral}
-use Rattle.listing_laws.specs.Ranges.{IsListedCode}
+use Rattle.listing_laws.proofs.RangeLemmas.{IsListedCode}
 
 -- what holds of both holds of either
 pub either_way : {A : Type 0} (P : A → Type 0) (b : Bool) (x y : A) → P x → P y → P (cond b x y)

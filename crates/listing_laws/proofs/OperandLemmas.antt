@@ -22,7 +22,8 @@ use Rattle.stl_list.specs.Operands.{data_block_name, implied_operand, instance_n
 use Rattle.stl_list.specs.Runs.{number_at}
 use Rattle.print_laws.specs.Standing.{IsName, IsNumberedOrNone, IsPrintableOperand}
 use Rattle.listing_laws.proofs.NameLemmas.{AreFormals, either_way, instruction_printable, label_is, parameter_is, typed_printable}
-use Rattle.listing_laws.specs.Ranges.{IsListedOp, IsWritten}
+use Rattle.listing_laws.proofs.RangeLemmas.{IsListedOp}
+use Rattle.listing_laws.specs.Ranges.{IsWritten}
 
 number_is : (n : ℕ) → nat_lt n 65536 ≡ true → n ≤ 65535
 number_is n e = omega (arith, ltb-true n 65536 e)

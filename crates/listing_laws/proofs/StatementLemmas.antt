@@ -23,7 +23,7 @@ use Rattle.stl_list.specs.Statements.{Surroundings, body_of, label_at, label_of_
 use Rattle.print_laws.specs.Standing.{IsName, IsPrintableActual, IsPrintableLabel, IsPrintableStatement}
 use Rattle.listing_laws.proofs.NameLemmas.{AreFormals, AreSignatures, all_joined, block_named, called_named, either_way, label_is}
 use Rattle.listing_laws.proofs.OperandLemmas.{named_at, opened_is, operand_is, passed_is}
-use Rattle.listing_laws.specs.Ranges.{IsListedOp}
+use Rattle.listing_laws.proofs.RangeLemmas.{IsListedOp}
 
 -- ---- runs
 
