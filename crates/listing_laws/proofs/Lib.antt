@@ -1,4 +1,5 @@
 mod BlockLemmas
+mod CompiledLemmas
 mod NameLemmas
 mod OperandLemmas
 mod RangeLemmas
