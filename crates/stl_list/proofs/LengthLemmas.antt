@@ -22,14 +22,16 @@ use Rattle.stl_lexer.specs.declared.kinds.TokenKind.TheVariants as kind
 use Rattle.stl_lexer.specs.declared.marks.Mark.TheVariants as mark_of
 use Rattle.stl_parser.specs.declared.clauses.Clause.{Clause}
 use Rattle.stl_parser.specs.declared.clauses.Clause.TheVariants as clause
-use Rattle.stl_print.specs.Clauses.{clause_pieces, line_of, pieces_from}
-use Rattle.stl_print.specs.Declarations.{declaration_pieces}
+use Rattle.stl_print.specs.Clauses.{clause_pieces, line_of, pieces_from, result_pieces}
+use Rattle.stl_print.specs.Declarations.{array_pieces, behind_type, declaration_pieces, element_pieces}
 use Rattle.stl_print.specs.Gaps.{clause_gap, gap_text, line_behind}
 use Rattle.stl_print.specs.Mnemonics.{Spelling, one, two, spelling, spelling_pieces}
+use Rattle.stl_print.specs.Names.{block_name}
 use Rattle.stl_print.specs.Operands.{operand_pieces}
 use Rattle.stl_print.specs.Pieces.{mark, token}
 use Rattle.stl_print.specs.Statements.{actuals_pieces, instruction_pieces, labelled_pieces, pieces_by_label, statement_pieces, unlabelled_pieces}
 use Rattle.stl_print.specs.Trees.{begin_clauses, block_clauses, declared_from, end_of, part_clauses, pieces, printed, structure_ends}
+use Rattle.stl_print.specs.Words.{end_word, head_word, section_word}
 use Rattle.stl_print.specs.declared.gaps.Gap.{Gap}
 use Rattle.stl_print.specs.declared.gaps.Gap.TheVariants as gap
 use Rattle.stl_list.specs.CodeBlocks.{in_lines, line_reached, listed_block, listed_blocks}
@@ -80,20 +82,26 @@ unfolding line_behind clause_gap
 gap_reaches reached line = by_tests (eqb reached 0) (ltb reached line) refl refl
   where
     by_tests : (a b : Bool) → eqb reached 0 ≡ a → ltb reached line ≡ b → max 1 (max reached line) ≤ max 1 reached + length (gap_text (cond a (gap.LineEnds (line - 1)) (cond b (gap.LineEnds (line - reached)) gap.Blank)))
-    by_tests true b e f = let none : reached ≡ 0 = grind (arith, nat_tests) in omega (arith, none, length-replicate (line - 1) 10)
-    by_tests false true e f = let less : reached < line = grind (arith, nat_tests) in omega (arith, less, length-replicate (line - reached) 10)
+    by_tests true b e f = let none : reached ≡ 0 = grind (arith, nat_tests) in omega (arith, none, length-replicate {A = ℕ} (line - 1) 10)
+    by_tests false true e f = let less : reached < line = grind (arith, nat_tests) in omega (arith, less, length-replicate {A = ℕ} (line - reached) 10)
     by_tests false false e f = let le : line ≤ reached = grind (arith, nat_tests) in omega (arith, le)
 
 stays : (reached n : ℕ) → line_behind reached 0 ≤ max 1 reached + n
 unfolding line_behind
 stays reached n = omega arith
 
+-- a clause whose first token is known reaches its line
+at_line : (reached line : ℕ) (k : TokenKind) (text : List ℕ) (ps : List Piece) → line_behind reached line ≤ max 1 reached + length (spelled (token (clause_gap reached line) k text ∷ ps) [])
+at_line reached line k text ps = omega (arith, gap_reaches reached line, gap_least (clause_gap reached line) k text ps)
+
 clause_reaches : (reached : ℕ) (c : Clause) → Prints c → line_behind reached (line_of c) ≤ max 1 reached + length (spelled (clause_pieces (clause_gap reached (line_of c)) c) [])
 unfolding Prints clause_pieces line_of declaration_pieces
-clause_reaches reached (clause.Head line k name result) h = omega (arith, gap_reaches reached line, gap_least (clause_gap reached line) _ _ _)
-clause_reaches reached (clause.Ends line k) h = omega (arith, gap_reaches reached line, gap_least (clause_gap reached line) _ _ [])
-clause_reaches reached (clause.Section line p) h = omega (arith, gap_reaches reached line, gap_least (clause_gap reached line) _ _ [])
-clause_reaches reached (clause.Declares d) h = omega (arith, gap_reaches reached d.line, gap_least (clause_gap reached d.line) _ d.name _)
+clause_reaches reached (clause.Head line k name result) h = at_line reached line kind.Word (head_word k) (block_name gap.Blank name ++ result_pieces k result)
+clause_reaches reached (clause.Ends line k) h = at_line reached line kind.Word (end_word k) []
+clause_reaches reached (clause.Section line p) h = at_line reached line kind.Word (section_word p) []
+clause_reaches reached (clause.Declares d) h =
+    at_line reached d.line kind.Word d.name
+    (mark gap.Blank mark_of.Colon ∷ (flat_map array_pieces d.of.arrays ++ (element_pieces gap.Blank d.of.of ++ behind_type d.of.of d.init)))
 clause_reaches reached (clause.Runs s) h = omega (arith, gap_reaches reached s.line, gap_of_statement (clause_gap reached s.line) s)
 clause_reaches reached (clause.Sets s) h = absurd h
 clause_reaches reached clause.EndSection h = stays reached _
