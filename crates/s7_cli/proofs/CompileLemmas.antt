@@ -267,9 +267,9 @@ none_by_fault none source symbols compiling.NoMemory p other refuses made = absu
 pub same_program : ImagesAreOfOne → (p q : Program) (one other : List ℕ) (same : Bool) → IsProgram p
     → IsProgram q → one ≡ image (Two Large) p → other ≡ image (Two Large) q
     → same ≡ bytes_eq one other → same ≡ true → p ≡ q
-same_program images p q one other same is_p is_q spelled again test yes =
+same_program images p q one other same is_p is_q spelled again test holds =
     (images (Two Large) (Two Large) p q is_p is_q
-    (sym spelled ∙ (bytes_eq-Decides one other).0 (sym test ∙ yes) ∙ again)).1
+    (sym spelled ∙ (bytes_eq-Decides one other).0 (sym test ∙ holds) ∙ again)).1
 
 pub same_images : (p q : Program) (one other : List ℕ) (same : Bool) → one ≡ image (Two Large) p
     → other ≡ image (Two Large) q → same ≡ bytes_eq one other → p ≡ q → same ≡ true

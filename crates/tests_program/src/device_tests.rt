@@ -115,7 +115,7 @@ fn are_told(
                 same(rt, what, files.writes.made, *writes);
             }
             Told::Image(image) => same(rt, what, files.files.get("image").unwrap_or(b""), *image),
-            Told::File(name, bytes) => same(rt, what, files.files.get(name).unwrap_or(b""), *bytes),
+            Told::File(name, bytes) => same(rt, what, files.files.get(*name).unwrap_or(b""), *bytes),
         }
     }
 }
