@@ -6,7 +6,7 @@ use plc_base::NoMemory;
 
 /// What stands before a token.
 #[derive(Clone, Copy)]
-pub(crate) enum Gap {
+pub enum Gap {
     Nothing,
     Blank,
     LineEnds { count: u32 },
