@@ -88,9 +88,9 @@ pub long-said : (p : Program) → (1048576 < length (listed_source p)) ⊎ (1048
 long-said p long = inl (long, refl)
 
 -- the texts are those of the program, and don't compile to it
-pub none-said : (p : Program) (source symbols : List ℕ) (yes : Bool) → IsShortListing p → source ≡ listed_source p
-    → symbols ≡ listed_names p.names → (CompilesTo English source symbols p → yes ≡ true) → yes ≡ false → ListedAnswer p no_listing
-none-said p source symbols yes short is are compiles no =
+pub none-said : (p : Program) (source symbols : List ℕ) (test : Bool) → IsShortListing p → source ≡ listed_source p
+    → symbols ≡ listed_names p.names → (CompilesTo English source symbols p → test ≡ true) → test ≡ false → ListedAnswer p no_listing
+none-said p source symbols test short is are compiles no =
     inr (inl (short, (λ has. true≢false (sym (compiles (subst (λ (s : List ℕ). CompilesTo English s symbols p) (sym is)
     (subst (λ (y : List ℕ). CompilesTo English (listed_source p) y p) (sym are) has))) ∙ no)), refl))
 
