@@ -53,6 +53,7 @@ pub fn write_output<F: Files, K: Sink>(
 }
 
 /// A text that is made the whole of an output file.
+#[derive(Clone, Copy)]
 pub struct Output<'a> {
     pub name: &'a str,
     pub bytes: &'a [u8],
