@@ -82,40 +82,13 @@ listing-refused V image l (Ok v) loads told = tt
 listing-refused V image l (Err failure) loads told =
     refused-more V V (ListedAnswer l.program) (ListSays image) failure (Err failure) refl (says-of image l loads) told
 
--- the length of both texts
-pub long-said : (p : Program) → (1048576 < length (listed_source p)) ⊎ (1048576 < length (listed_names p.names))
-    → ListedAnswer p (too_long Listing)
-long-said p long = inl (long, refl)
-
--- the texts are those of the program, and don't compile to it
-pub none-said : (p : Program) (source symbols : List ℕ) (test : Bool) → IsShortListing p → source ≡ listed_source p
-    → symbols ≡ listed_names p.names → (CompilesTo English source symbols p → test ≡ true) → test ≡ false → ListedAnswer p no_listing
-none-said p source symbols test short is are compiles no =
-    inr (inl (short, (λ has. true≢false (sym (compiles (subst (λ (s : List ℕ). CompilesTo English s symbols p) (sym is)
-    (subst (λ (y : List ℕ). CompilesTo English (listed_source p) y p) (sym are) has))) ∙ no)), refl))
-
-pub listing-is : (p : Program) (source symbols : List ℕ) → IsShortListing p → source ≡ listed_source p → symbols ≡ listed_names p.names
-    → CompilesTo English source symbols p → IsListing source symbols p
-listing-is p source symbols short is are compiles = record {
-  source_is = is;
-  symbols_are = are;
-  short = short;
-  compiles = subst (λ (y : List ℕ). CompilesTo English (listed_source p) y p) are
-      (subst (λ (s : List ℕ). CompilesTo English s symbols p) is compiles);
-}
-
 -- ---- what listings compile to
 
-has-listing : (source symbols : List ℕ) (p : Program) → IsListing source symbols p → CompilesTo English source symbols p
-has-listing source symbols p is =
-    subst (λ (y : List ℕ). CompilesTo English source y p) (sym is.symbols_are)
-    (subst (λ (s : List ℕ). CompilesTo English s (listed_names p.names) p) (sym is.source_is) is.compiles)
-
 pub give-programs : IsProgramUnique → ListingsGivePrograms
-give-programs one source symbols p q is compiles = one English source symbols q p compiles (has-listing source symbols p is)
+give-programs one p q has compiles = one English (listed_source p) (listed_names p.names) q p compiles has
 
 pub give-images : IsProgramUnique → ImagesAreOfOne → ListingsGiveImages
-give-images one images german image text names (english, translated, (kept, large, made)) l loads source symbols is bytes (again, also, compiles) =
+give-images one images german image source symbols (english, translated, (kept, large, made)) l loads has bytes (again, also, compiles) =
     again.spelled ∙ ap (λ t. image_of t again.program) also ∙ ap (image_of (Two Large)) (same ∙ sym listed)
     ∙ ap (λ t. image_of t kept.program) (sym large) ∙ sym kept.spelled
   where
@@ -125,4 +98,4 @@ give-images one images german image text names (english, translated, (kept, larg
         (sym kept.spelled ∙ loads.loadable.spelled)).1
 
     same : again.program ≡ l.program
-    same = one English source symbols again.program l.program compiles (has-listing source symbols l.program is)
+    same = one English (listed_source l.program) (listed_names l.program.names) again.program l.program compiles has

@@ -1,4 +1,4 @@
-ghost use Rattle.std.specs.Prelude.{◌≡◌, ◌≤◌, true, length, IfOk, IfErr};
+ghost use Rattle.std.specs.Prelude.{◌≡◌, ◌≢◌, ◌≤◌, false, true, length, IfOk, IfErr};
 ghost use Rattle.stl_ast.specs.Literals.{AreBytes};
 ghost use Rattle.stl_symbols.specs.Symbols.{symbols_limit};
 ghost use Rattle.flat_code.specs.Image.{IsProgram, image};
@@ -14,6 +14,7 @@ ghost use Rattle.sem_kept.specs.Meaning.{HasSymbolsIn, HasTokens, HasTree, IsSou
 ghost use Rattle.plc_base.specs.declared.refusals.SourceFault.TheVariants.{NoMemory};
 ghost use Rattle.sem_kept.specs.Stages.{InTurn};
 ghost use Rattle.stl_symbols.specs.declared.languages.Language.TheVariants.{English};
+ghost use Rattle.s7_cli.specs.declared.faults.CompileFault.TheVariants as compiling;
 ghost use Rattle.s7_cli.specs.Compiling.{
   AreRead,
   CompilesWith,
@@ -344,6 +345,16 @@ fn is_same_program(alloc: Global, program: &Program, loaded: &Loaded) -> Result<
     Ok(image.as_slice() == wanted.as_slice())
 }
 
+/// A source that is refused compiles to no program; want of memory tells nothing of it.
+fn no_program(fault: &CompileFault) -> Result<bool, NoMemory>
+    ensures { IfOk result (λ yes. (yes ≡ false) × (fault.now ≢ compiling.NoMemory)) }
+{
+    match fault {
+        CompileFault::NoMemory => Err(AllocError),
+        _ => Ok(false),
+    }
+}
+
 /// Whether a source of at most 1,048,576 bytes with its symbols file, which has at most as many, is
 /// accepted by the rules of `compiled` and compiles to this program, with these names. Fails where
 /// memory is wanting.
@@ -364,7 +375,6 @@ pub fn compiles_to(
     law_of_programs();
     match program_of(alloc, source, symbols) {
         Ok(program) => is_same_program(alloc, &program, loaded),
-        Err(CompileFault::NoMemory) => Err(AllocError),
-        Err(CompileFault::Symbols { .. } | CompileFault::Source { .. }) => Ok(false),
+        Err(fault) => no_program(&fault),
     }
 }

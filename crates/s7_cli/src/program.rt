@@ -69,7 +69,8 @@ fn with_image<F: Files, K: Sink>(
     files: &mut F,
     out: &mut K,
 ) -> Status
-    requires { takes_image asked ≡ true }
+    requires image { takes_image asked ≡ true }
+    requires limits { KeepsLimits (command_value asked) }
     ensures ends { let went = disk (F.shown files.old) (F.shown files.new) in
         let took = taking (K.shown out.old) (K.shown out.new) in
         Ended (Some (command_value asked.entry)) went took result.code }

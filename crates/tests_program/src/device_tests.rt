@@ -115,7 +115,12 @@ fn are_told(
                 same(rt, what, files.writes.made, *writes);
             }
             Told::Image(image) => same(rt, what, files.files.get("image").unwrap_or(b""), *image),
-            Told::File(name, bytes) => same(rt, what, files.files.get(*name).unwrap_or(b""), *bytes),
+            Told::File(name, bytes) => same(
+                rt,
+                what,
+                files.files.get(*name).unwrap_or(b""),
+                *bytes,
+            ),
         }
     }
 }
@@ -240,8 +245,20 @@ static CUT_OFF: [Row; 33] = [
     (UPGRADE, 1, 2, 6, &[Told::Text(b"O")]),
     (UPGRADE, 9, 2, 0, &[Told::Text(b"OK\n")]),
     // Both files stand before the first byte of `OK`.
-    (LIST, 1, 1, 6, &[Told::Text(b""), Told::File("text", LISTED)]),
-    (LIST, 1, 2, 6, &[Told::Text(b"O"), Told::File("text", LISTED)]),
+    (
+        LIST,
+        1,
+        1,
+        6,
+        &[Told::Text(b""), Told::File("text", LISTED)],
+    ),
+    (
+        LIST,
+        1,
+        2,
+        6,
+        &[Told::Text(b"O"), Told::File("text", LISTED)],
+    ),
     (BOUND, 1, 1, 6, &[Told::Text(b"")]),
     (BOUND, 1, 2, 6, &[Told::Text(b"O")]),
     // In the line of a chain; no certificate is written.

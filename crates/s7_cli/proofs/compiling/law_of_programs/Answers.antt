@@ -1,26 +1,8 @@
-use Rattle.std.proofs.Common.{rules, ◌≡◌, ◌≤◌, true, length, IfOk, IfErr, ℕ, ◌+◌, ◌-◌, ◌*◌, ◌<◌, ◌/◌, ◌%◌, Bool, false, nat_eq, nat_lt, List, [], ◌∷◌, ◌++◌, slice_index_or, slice_set, bit_and, bit_or, Fits, w8, w32, w64, Bor, MutBor}
-use Rattle.stl_ast.specs.Literals.{AreBytes}
-use Rattle.stl_symbols.specs.Symbols.{symbols_limit}
-use Rattle.flat_code.specs.Image.{IsProgram, image}
-use Rattle.flat_code.specs.declared.stamps.Stamp.TheVariants.{Two}
-use Rattle.plc_base.specs.declared.Profile.TheVariants.{Large}
-use Rattle.plc_base.specs.Least.{least}
-use Rattle.stl_lexer.specs.Limits.{source_limit}
-use Rattle.stl_types.specs.Table.{statement_refusals}
-use Rattle.block_layout.specs.Table.{layout_refusals}
-use Rattle.sem_kept.specs.Agreement.{AreFiles, IsRunnable, KeepsSource}
-use Rattle.sem_kept.specs.Compiles.{CompilesTo, IsProgramUnique}
-use Rattle.sem_kept.specs.Meaning.{HasSymbolsIn, HasTokens, HasTree, IsSound}
-use Rattle.plc_base.specs.declared.refusals.SourceFault.TheVariants.{NoMemory}
-use Rattle.sem_kept.specs.Stages.{InTurn}
-use Rattle.stl_symbols.specs.declared.languages.Language.TheVariants.{English}
-use Rattle.s7_cli.specs.Compiling.{AreRead, CompilesWith, Finds, HasProgram, HasProgramWith, IsCompiled, IsLaid, KeepsWith, Lays, RefusedHaveNone, RefusesBy, RefusesLaid, RefusesSymbols, RefusesWith}
+use Rattle.s7_cli.proofs.CompileLemmas.{one_program, refused_have_none}
 use Rattle.s7_cli.proofs.compiling.law_of_programs.Goals as goal
 
--- src/compiling.rt:324:1
 pub returns-clause-one : goal.returns-clause-one
-returns-clause-one c = ?
+returns-clause-one c = one_program c.law_of_tokens.ensures.one_list c.law_of_clauses.ensures.one_tree
 
--- src/compiling.rt:324:1
 pub returns-clause-refused : goal.returns-clause-refused
-returns-clause-refused c = ?
+returns-clause-refused c = refused_have_none c.law_of_sources.ensures.meaning_or_refusal
