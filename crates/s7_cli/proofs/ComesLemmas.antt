@@ -355,3 +355,13 @@ behind-two view c i j start middle now v w one two s came are first second read 
     (subst (λ (bytes : List ℕ). HasRead start now (inputs_of c) (view v ∷ bytes ∷ [])) (sym second)
     (subst (λ (inputs : List Input). HasRead start now inputs (view v ∷ view w ∷ [])) (sym are)
     (read-then start middle now (i ∷ []) (j ∷ []) (view v ∷ []) (view w ∷ []) (file-read view start middle i v read) (file-read view middle now j w then)))))
+
+-- of several, and then of one whose bytes are lent
+pub behind-more : {V W : Type 0} (views : V → List (List ℕ)) (view : W → List ℕ) (c : Command) (is : List Input) (j : Input) (start middle now : FilesAt)
+    (v : V) (w : W) (lent : List ℕ) (s : Taking) (came : Outcome) → inputs_of c ≡ is ++ j ∷ [] → lent ≡ view w → HasRead start middle is (views v)
+    → FileRead view (disk middle now) j (Ok w) → ComesOf c (views v ++ lent ∷ []) (disk now now) s came → Comes (Some c) (disk start now) s came
+behind-more views view c is j start middle now v w lent s came are same read then comes =
+    comes start
+    (subst (λ (bytes : List ℕ). HasRead start now (inputs_of c) (views v ++ bytes ∷ [])) (sym same)
+    (subst (λ (inputs : List Input). HasRead start now inputs (views v ++ view w ∷ [])) (sym are)
+    (read-then start middle now is (j ∷ []) (views v) (view w ∷ []) read (file-read view middle now j w then))))

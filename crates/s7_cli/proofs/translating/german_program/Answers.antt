@@ -47,6 +47,7 @@ program_with-requires-clause-read c = (
 )
 
 pub returns-clause-made : goal.returns-clause-made
+unfolding returns-clause-keeps
 returns-clause-made c =
     let given : List ℕ = symbols_of c.args.text.now in
     let kept = returns-clause-keeps c in (
