@@ -1,4 +1,4 @@
-use Rattle.std.proofs.Common.{◌++◌, ◌∙◌, List, [], ◌∷◌, Option, ap, sym}
+use Rattle.std.proofs.Common.{◌++◌, ◌∙◌, [], ◌∷◌, Option, ap, sym}
 use Rattle.std.proofs.lemmas.List.{append-nil}
 use Rattle.stl_ast.specs.declared.statements.Actual.{Actual}
 use Rattle.stl_types.specs.declared.parameters.Formal.{Formal}

@@ -1,4 +1,4 @@
-use Rattle.std.proofs.Common.{◌≡◌, ℕ, suc, ◌+◌, ◌++◌, ◌∙◌, List, [], ◌∷◌, add-one, ap, sym, append_assoc}
+use Rattle.std.proofs.Common.{ℕ, suc, ◌++◌, ◌∙◌, List, [], add-one, ap, sym, append_assoc}
 use Rattle.flat_code.specs.Ops.{OpData}
 use Rattle.stl_ast.specs.declared.statements.Statement.{Statement}
 use Rattle.stl_list.specs.Runs.{Run, runs_from}
