@@ -160,7 +160,7 @@ fn carry_out<R: Threads + Wait + Sync, F: Files, K: Sink, G: Gate + Sync>(
     out: &mut K,
     gate: &G,
 ) -> Status
-    requires { KeepsLimits (command_value asked) }
+    requires limits { KeepsLimits (command_value asked) }
     ensures ends { let went = disk (F.shown files.old) (F.shown files.new) in
         let took = taking (K.shown out.old) (K.shown out.new) in
         Ended (Some (command_value asked.entry)) went took result.code }

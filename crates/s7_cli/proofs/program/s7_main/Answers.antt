@@ -42,8 +42,8 @@ pub returns-in-Err-clause-table : goal.returns-in-Err-clause-table
 returns-in-Err-clause-table g c = c.end_command-in-Err.ensures.table _ _ _ (words-unread _ _ _)
 
 -- what was read is what the words ask for
-pub carry_out-requires : goal.carry_out-requires
-carry_out-requires g c κs within =
+pub carry_out-requires-clause-limits : goal.carry_out-requires-clause-limits
+carry_out-requires-clause-limits g c κs within =
     read-limits _ _ (sym (ap (option_map command_value) c.in-Ok-Some.field-0-is) ∙ c.in-Ok-Some.ensures)
 
 pub returns-in-Ok-Some-clause-ends : goal.returns-in-Ok-Some-clause-ends
