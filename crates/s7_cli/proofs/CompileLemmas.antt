@@ -1,12 +1,7 @@
 -- What the stages of compiling find, joined.
 use Rattle.std.proofs.Common.{◌≡◌, ◌≢◌, Bool, true, false, if◌then◌else◌, refl, sym, ap, ap₂, subst, ◌∙◌, ℕ, suc, ◌<◌, List, [], ◌∷◌, get_or, Option, Some, None, Result, Ok, Err, inl, inr, arith}
 use Rattle.std.specs.Option.{unwrap_or}
-use Rattle.std.specs.Prelude.{bytes_eq}
-use Rattle.std.proofs.lemmas.Slice.Eq.{bytes_eq-Decides}
-use Rattle.flat_code.specs.Image.{IsProgram, image}
 use Rattle.flat_code.specs.Programs.{Program}
-use Rattle.flat_code.specs.declared.stamps.Stamp.TheVariants.{Two}
-use Rattle.image_file.specs.Laws.{ImagesAreOfOne}
 use Rattle.plc_base.specs.declared.Profile.TheVariants.{Large}
 use Rattle.plc_base.specs.declared.refusals.Refusal.{Refusal}
 use Rattle.plc_base.specs.declared.refusals.SourceFault.{SourceFault}
@@ -261,17 +256,3 @@ none_by_fault none source symbols (compiling.Symbols refusal) p other refuses ma
 none_by_fault none source symbols (compiling.Source refusal) p other refuses made =
     none English source symbols (InSource refusal) p refuses made
 none_by_fault none source symbols compiling.NoMemory p other refuses made = absurd (other refl)
-
--- ---- programs with one image are the same
-
-pub same_program : ImagesAreOfOne → (p q : Program) (one other : List ℕ) (same : Bool) → IsProgram p
-    → IsProgram q → one ≡ image (Two Large) p → other ≡ image (Two Large) q
-    → same ≡ bytes_eq one other → same ≡ true → p ≡ q
-same_program images p q one other same is_p is_q spelled again test holds =
-    (images (Two Large) (Two Large) p q is_p is_q
-    (sym spelled ∙ (bytes_eq-Decides one other).0 (sym test ∙ holds) ∙ again)).1
-
-pub same_images : (p q : Program) (one other : List ℕ) (same : Bool) → one ≡ image (Two Large) p
-    → other ≡ image (Two Large) q → same ≡ bytes_eq one other → p ≡ q → same ≡ true
-same_images p q one other same spelled again test is =
-    test ∙ (bytes_eq-Decides one other).1 (spelled ∙ ap (image (Two Large)) is ∙ sym again)

@@ -1,5 +1,5 @@
 -- What `list` answers, and the texts of a listing.
-use Rattle.std.proofs.Common.{◌≡◌, ◌<◌, ◌≤◌, ◌⊎◌, inl, inr, refl, sym, ◌∙◌, ap, subst, ℕ, Bool, List, length, false, true, true≢false, Result, Ok, Err, arith}
+use Rattle.std.proofs.Common.{◌≡◌, inl, inr, refl, sym, ◌∙◌, ap, subst, ℕ, List, Result, Ok, Err, arith}
 use Rattle.flat_code.specs.Image.{image as image_of}
 use Rattle.flat_code.specs.Loading.{faults_of}
 use Rattle.flat_code.specs.Programs.{Program}
@@ -11,17 +11,17 @@ use Rattle.image_file.specs.Refusing.{IsRefusedBy}
 use Rattle.image_file.specs.declared.faults.LoadFault.{LoadFault}
 use Rattle.image_file.specs.declared.refusing.LoadError.{LoadError}
 use Rattle.image_file.specs.declared.refusing.LoadError.TheVariants as loading
-use Rattle.sem_kept.specs.Compiles.{CompilesTo, IsProgramUnique}
+use Rattle.sem_kept.specs.Compiles.{IsProgramUnique}
 use Rattle.stl_list.specs.Listing.{listed_source}
 use Rattle.stl_list.specs.Symbols.{listed_names}
 use Rattle.stl_symbols.specs.declared.languages.Language.TheVariants.{English}
 use Rattle.s7_cli.specs.declared.failures.File.TheVariants.{Listing}
 use Rattle.s7_cli.specs.declared.failures.Failure.{Failure}
-use Rattle.s7_cli.specs.Answer.{Answer, done, no_listing, too_long}
+use Rattle.s7_cli.specs.Answer.{Answer}
 use Rattle.s7_cli.specs.Faults.{failure_of_loading}
 use Rattle.s7_cli.specs.Inner.{RefusedBy}
 use Rattle.s7_cli.specs.Lines.{ok_line}
-use Rattle.s7_cli.specs.ListSays.{HasListing, IsListing, IsLongListing, IsShortListing, ListAnswer, ListedAnswer, ListSays}
+use Rattle.s7_cli.specs.ListSays.{IsLongListing, IsShortListing, ListAnswer, ListedAnswer, ListSays}
 use Rattle.s7_cli.specs.Listings.{ListingsGiveImages, ListingsGivePrograms}
 use Rattle.s7_cli.specs.Loads.{LoadsAs}
 use Rattle.s7_cli.proofs.LoadLemmas.{loads-one}

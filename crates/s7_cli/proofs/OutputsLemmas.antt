@@ -1,5 +1,5 @@
 -- A command that writes two output files, one behind the other, and then its text.
-use Rattle.std.proofs.Common.{◌≡◌, ◌≢◌, ◌⊎◌, inl, inr, refl, sym, ◌∙◌, ap, subst, ℕ, zero, suc, List, [], ◌∷◌, length, take, Some, Ok, Err, Contains, true, arith}
+use Rattle.std.proofs.Common.{◌≡◌, ◌≢◌, ◌⊎◌, inl, inr, refl, sym, ◌∙◌, ap, subst, ℕ, zero, suc, List, [], ◌∷◌, length, Some, Ok, Err, Contains, true, arith}
 use Rattle.plc_io.specs.Contents.{IsCutShort, SameElsewhere}
 use Rattle.plc_io.specs.Counts.{Rose, SameCounts}
 use Rattle.plc_io.specs.Moments.{FilesAt, SinkAt}
@@ -7,7 +7,7 @@ use Rattle.s7_cli.specs.declared.failures.Failure.{Failure}
 use Rattle.s7_cli.specs.declared.failures.Failure.TheVariants.{WordsRefused, ReadFault, TooLong, Refused, ImageRefused, NoListing, SaysNo, TooDeep, WriteFault, NoMemory}
 use Rattle.s7_cli.specs.Answer.{Outcome, done}
 use Rattle.s7_cli.specs.Command.{Command, inputs_of, outputs_of}
-use Rattle.s7_cli.specs.Ends.{Taking, taking, ChangesOutputs, WritesOutputs, HoldsFront, HoldsWhole, RoseAmong}
+use Rattle.s7_cli.specs.Ends.{Taking, taking, ChangesOutputs, HoldsFront, HoldsWhole, RoseAmong}
 use Rattle.s7_cli.specs.Inner.{AreOutputs, HasRead, FileWritten, TextWritten, Comes, Written}
 use Rattle.s7_cli.specs.Lines.{ok_line}
 use Rattle.s7_cli.specs.Reading.{HoldAll, disk}

@@ -1,4 +1,4 @@
-use Rattle.std.proofs.Common.{◌≡◌, ◌∙◌, sym, true, false, true≢false}
+use Rattle.std.proofs.Common.{◌∙◌, sym, true, false, true≢false}
 use Rattle.std.proofs.lemmas.Result.{IfOk-weaker}
 use Rattle.s7_cli.proofs.CompileLemmas.{none_by_fault}
 use Rattle.s7_cli.proofs.compiling.compiles_to.Goals as goal

@@ -1,4 +1,4 @@
-use Rattle.std.proofs.Common.{ap, inl, inr, refl, sym, subst, ◌∙◌, List, [], ◌∷◌, ℕ, Ok, Err}
+use Rattle.std.proofs.Common.{ap, inl, inr, refl, sym, ◌∙◌, List, [], ◌∷◌, ℕ, Ok, Err}
 use Rattle.std.proofs.lemmas.Result.{err_from_is_err_and}
 use Rattle.stl_list.specs.declared.listing.Listing.{Listing}
 use Rattle.s7_cli.specs.Answer.{Answer}
