@@ -50,6 +50,7 @@ IMAGES = [
     ("run image history", {"image": "S" * (IMAGE_BYTES + 1), "history": ""}, 8, "too long: image\n"),
     ("upgrade image upgraded", {}, *READ_FAULT),
     ("upgrade image upgraded", {"image": "S" * (IMAGE_BYTES + 1)}, 8, "too long: image\n"),
+    ("list image text names", {"image": "S" * (IMAGE_BYTES + 1)}, 8, "too long: image\n"),
 ]
 
 

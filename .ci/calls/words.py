@@ -22,6 +22,10 @@ COMMANDS = [
     ["upgrade"],
     ["upgrade", "image"],
     ["upgrade", "image", "upgraded", "more"],
+    ["list"],
+    ["list", "image"],
+    ["list", "image", "text"],
+    ["list", "image", "text", "names", "more"],
     ["english", "source"],
     ["english", "source", "text", "more"],
     ["german"],
@@ -78,6 +82,7 @@ OPTIONS_OF_OTHERS = [
     ["watch", "image", "stimuli", "vars", "ops", "--steps=5", "--symbols=none"],
     ["run", "image", "history", "--symbols", "none"],
     ["upgrade", "image", "upgraded", "--symbols", "none"],
+    ["list", "image", "text", "names", "--symbols", "none"],
     ["bound", "image", "certificate", "--symbols", "none"],
     ["recheck", "--symbols=none", "image", "certificate"],
     ["gen", "--symbols=none", "1"],
@@ -85,6 +90,7 @@ OPTIONS_OF_OTHERS = [
     ["--symbols", "none", "live", "image", "stimuli", "ops", "--steps", "5"],
     ["run", "image", "history", "--german"],
     ["--german", "upgrade", "image", "upgraded"],
+    ["list", "image", "--german", "text", "names"],
     ["bound", "--german", "image", "certificate"],
     ["recheck", "image", "certificate", "--german"],
     ["gen", "1", "--german"],
@@ -97,6 +103,7 @@ OPTIONS_OF_OTHERS = [
     ["compile", "source", "image", "--steps=5"],
     ["run", "--steps=5", "image", "history"],
     ["upgrade", "--steps=5", "image", "upgraded"],
+    ["list", "image", "text", "names", "--steps", "5"],
     ["bound", "image", "certificate", "--steps=5"],
     ["recheck", "image", "certificate", "--steps", "5"],
     ["gen", "1", "--steps", "5"],
@@ -177,12 +184,15 @@ MISSING_NAMES = [
     ["check", "source", "--symbols=a=b"],
 ]
 
-# The words of `live`, `watch`, `run`, `upgrade`, `bound` and `recheck` are taken, so the image is asked for, which isn't there.
+# The words of `live`, `watch`, `run`, `upgrade`, `list`, `bound` and `recheck` are taken, so the image is asked for, which isn't there.
 IMAGES = [
     ["run", "image", "history"],
     ["--", "run", "image", "history"],
     ["upgrade", "image", "upgraded"],
     ["--", "upgrade", "image", "image"],
+    ["list", "image", "text", "names"],
+    ["list", "image", "image", "names"],
+    ["--", "list", "image", "text", "--german"],
     ["bound", "image", "certificate"],
     ["recheck", "image", "certificate"],
     ["--", "recheck", "image", "image"],

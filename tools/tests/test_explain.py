@@ -87,6 +87,7 @@ class Explanations(ToolTest):
         self.expect_parts(["s7: src has 1,048,577 bytes, and its limit (script 3) is 1,048,576\n"], 8, "too long: script 3", "live", "i", "s", "a", "b", "src", "--steps", "1")
         self.write("image", b"\n" * 8388609)
         self.expect_parts(["s7: the translation of src would have more than 1,048,576 bytes\n"], 8, "too long: result", "english", "src", "out")
+        self.expect_parts(["s7: a text of the listing of image would have more than 1,048,576 bytes\n"], 8, "too long: list", "list", "image", "src", "sym")
         self.expect_parts(["s7: image has 8,388,609 bytes, and its limit (image) is 8,388,608\n"], 8, "too long: image", "run", "image", "hist")
 
     def test_words(self):
@@ -114,5 +115,5 @@ class Explanations(ToolTest):
         for number in numbers:
             self.assertIn(f"rule {number}, broken where: ", self.explained(2, f"source refused: line 1 rule {number}", "check", "nowhere"))
         self.assertEqual([code for code in range(100) if documents.fault(code)], list(range(1, 11)))
-        limits = {"source": 1048576, "result": 1048576, "symbols": 1048576, "image": 8388608, "history": 4194304, "stimuli": 4194304, "vars": 1048576, "script": 1048576, "certificate": 1048576}
+        limits = {"source": 1048576, "result": 1048576, "list": 1048576, "symbols": 1048576, "image": 8388608, "history": 4194304, "stimuli": 4194304, "vars": 1048576, "script": 1048576, "certificate": 1048576}
         self.assertEqual(documents.limits(), limits)

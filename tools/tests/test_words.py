@@ -47,6 +47,7 @@ class Words(unittest.TestCase):
             ("watch a b c d --steps 7", "image a, stimuli b, vars c, script 1 d"),
             ("watch a b c d e f --steps=7", "image a, stimuli b, vars c, script 1 d, script 2 e, script 3 f"),
             ("upgrade a b", "image a"),
+            ("list a b c", "image a"),
             ("bound a b", "image a"),
             ("recheck a b", "image a, certificate b"),
             ("gen 7", ""),
@@ -55,11 +56,12 @@ class Words(unittest.TestCase):
             told = ", ".join(f"{kind} {path}" for kind, path in read_call(words.split()).inputs().items())
             self.assertEqual(told, inputs, words)
 
-    def test_the_file_that_is_written(self):
+    def test_the_files_that_are_written(self):
         for command in ("compile", "english", "german", "upgrade", "bound"):
-            self.assertEqual(read_call([command, "a", "b"]).written_word(), (2, "", "b"))
+            self.assertEqual(read_call([command, "a", "b"]).written_words(), [(2, "", "b")])
+        self.assertEqual(read_call(["list", "a", "b", "c"]).written_words(), [(2, "", "b"), (3, "", "c")])
         for words in (["compile", "a"], ["go", "a", "b"], ["run", "a", "b"], ["recheck", "a", "b"], ["gen", "1"], []):
-            self.assertIsNone(read_call(words).written_word())
+            self.assertEqual(read_call(words).written_words(), [])
 
 
 if __name__ == "__main__":

@@ -100,6 +100,8 @@ def of_length(call, text):
     match = TOO_LONG.match(text)
     if match and match[1] == "result" and "source" in call.inputs():
         return [f"the translation of {call.inputs()['source']} would have more than {documents.limit('result'):,} bytes"]
+    if match and match[1] == "list" and "image" in call.inputs():
+        return [f"a text of the listing of {call.inputs()['image']} would have more than {documents.limit('list'):,} bytes"]
     path = call.inputs().get(match[1]) if match else None
     if not path:
         return []

@@ -3,7 +3,8 @@ from typing import NamedTuple, Optional
 
 OPTIONS = ("--symbols", "--steps")
 SCRIPTS = tuple(f"script {number}" for number in range(1, 5))
-# what the words behind a command are: files that it reads, one that it writes, or no file
+# what the words behind a command are: files that it reads, those that it writes, or no file
+WRITTEN = ("written", "also written")
 WORDS_BY_COMMAND = {
     "go": ("source", "history"),
     "check": ("source",),
@@ -15,6 +16,7 @@ WORDS_BY_COMMAND = {
     "live": ("image", "stimuli", *SCRIPTS),
     "watch": ("image", "stimuli", "vars", *SCRIPTS[:3]),
     "upgrade": ("image", "written"),
+    "list": ("image", *WRITTEN),
     "bound": ("image", "written"),
     "recheck": ("image", "certificate"),
 }
@@ -40,7 +42,7 @@ class Call(NamedTuple):
 
     def input_words(self):
         """The words of the input files by what they are, in the order in which the program reads them."""
-        found = [(kind, word) for kind, word in self.named().items() if kind not in (None, "written")]
+        found = [(kind, word) for kind, word in self.named().items() if kind is not None and kind not in WRITTEN]
         symbols = [("symbols", self.symbols)] if self.symbols else []
         return dict(found[:1] + symbols + found[1:])
 
@@ -48,9 +50,9 @@ class Call(NamedTuple):
         """The names of the input files."""
         return {kind: word.path for kind, word in self.input_words().items()}
 
-    def written_word(self):
-        """The word of the file that the command writes, or None."""
-        return self.named().get("written")
+    def written_words(self):
+        """The words of the files that the command writes."""
+        return [word for kind, word in self.named().items() if kind in WRITTEN]
 
 
 def question_of(words):

@@ -25,11 +25,11 @@ use Rattle.s7_cli.specs.declared.bound_command.Told.{Told}
 use Rattle.s7_cli.specs.declared.bound_command.Told.TheVariants as told
 use Rattle.s7_cli.specs.declared.failures.File.TheVariants.{Certificate}
 use Rattle.s7_cli.specs.declared.failures.Failure.{Failure}
-use Rattle.s7_cli.specs.declared.failures.Failure.TheVariants.{WordsRefused, ReadFault, TooLong, Refused, ImageRefused, SaysNo, TooDeep, WriteFault, NoMemory}
+use Rattle.s7_cli.specs.declared.failures.Failure.TheVariants.{WordsRefused, ReadFault, TooLong, Refused, ImageRefused, NoListing, SaysNo, TooDeep, WriteFault, NoMemory}
 use Rattle.s7_cli.specs.Answer.{Answer, Outcome, code_of, done, read_fault, refused, refused_image, says_no, too_deep, too_long}
 use Rattle.s7_cli.specs.BoundSays.{BoundAnswer, BoundSays, CheckedAnswer, HeldAnswer, RecheckAnswer, RecheckSays, StacksSuffice, image_bounded}
 use Rattle.s7_cli.specs.BoundTexts.{IsChainLine, IsHeld, IsToldOf, TellsOf}
-use Rattle.s7_cli.specs.Command.{Command, Go, Check, Compile, Translate, Run, Gen, Live, Watch, Upgrade, Bound, Recheck, Input, inputs_of}
+use Rattle.s7_cli.specs.Command.{Command, Go, Check, Compile, Translate, Run, Gen, Live, Watch, Upgrade, ListImage, Bound, Recheck, Input, inputs_of}
 use Rattle.s7_cli.specs.Ends.{Taking, Answers, IsCut}
 use Rattle.s7_cli.specs.Faults.{failure_of_certificate, failure_of_loading}
 use Rattle.s7_cli.specs.Inner.{Comes, HasRead, RefusedBy, TextWritten}
@@ -183,6 +183,7 @@ stacks-suffice keep (Gen n) d a said zero = λ name held l is told there loads. 
 stacks-suffice keep (Live i s o n) d a said zero = λ name held l is told there loads. absurd (no_name (Live i s o n) name refl is)
 stacks-suffice keep (Watch i s v o n) d a said zero = λ name held l is told there loads. absurd (no_name (Watch i s v o n) name refl is)
 stacks-suffice keep (Upgrade i u) d a said zero = λ name held l is told there loads. absurd (no_name (Upgrade i u) name refl is)
+stacks-suffice keep (ListImage i s y) d a said zero = λ name held l is told there loads. absurd (no_name (ListImage i s y) name refl is)
 
 -- ---- an image that isn't loaded, and a certificate that isn't read
 
@@ -290,6 +291,7 @@ deep-fails img cert start now s image l chain ReadFault read loads deep took = a
 deep-fails img cert start now s image l chain (TooLong file) read loads deep took = absurd took
 deep-fails img cert start now s image l chain (Refused file refusal) read loads deep took = absurd took
 deep-fails img cert start now s image l chain (ImageRefused fault) read loads deep took = absurd took
+deep-fails img cert start now s image l chain NoListing read loads deep took = absurd took
 deep-fails img cert start now s image l chain SaysNo read loads deep took = absurd took
 deep-fails img cert start now s image l chain TooDeep read loads deep took = absurd took
 

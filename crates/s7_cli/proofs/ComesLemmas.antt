@@ -5,8 +5,8 @@ use Rattle.plc_io.specs.Counts.{Rose, SameCounts, NeverFell}
 use Rattle.plc_io.specs.FileCalls.{Unchanged}
 use Rattle.plc_io.specs.Moments.{FilesAt, SinkAt}
 use Rattle.s7_cli.specs.declared.failures.Failure.{Failure}
-use Rattle.s7_cli.specs.declared.failures.Failure.TheVariants.{WordsRefused, ReadFault, TooLong, Refused, ImageRefused, SaysNo, TooDeep, WriteFault, NoMemory}
-use Rattle.s7_cli.specs.Answer.{Answer, Outcome, done, refused, refused_image, says_no, read_fault, too_long}
+use Rattle.s7_cli.specs.declared.failures.Failure.TheVariants.{WordsRefused, ReadFault, TooLong, Refused, ImageRefused, NoListing, SaysNo, TooDeep, WriteFault, NoMemory}
+use Rattle.s7_cli.specs.Answer.{Answer, Outcome, done, refused, refused_image, no_listing, says_no, read_fault, too_long}
 use Rattle.s7_cli.specs.Command.{Command, Input, inputs_of, outputs_of}
 use Rattle.s7_cli.specs.Ends.{Taking, taking, Answers, ChangesOutputs, WritesOutputs}
 use Rattle.s7_cli.specs.Inner.{OnlyReads, FileRead, HasRead, StopsAmong, AllRead, RefusedBy, TextWritten, Comes, ComesOf}
@@ -135,6 +135,7 @@ file-fails view views d i more NoMemory only = only
 file-fails view views d i more WordsRefused read = absurd read
 file-fails view views d i more (Refused file refusal) read = absurd read
 file-fails view views d i more (ImageRefused fault) read = absurd read
+file-fails view views d i more NoListing read = absurd read
 file-fails view views d i more SaysNo read = absurd read
 file-fails view views d i more TooDeep read = absurd read
 file-fails view views d i more WriteFault read = absurd read
@@ -166,6 +167,7 @@ fails-then view views start middle now is js contents NoMemory first only = sinc
 fails-then view views start middle now is js contents WordsRefused first read = absurd read
 fails-then view views start middle now is js contents (Refused file refusal) first read = absurd read
 fails-then view views start middle now is js contents (ImageRefused fault) first read = absurd read
+fails-then view views start middle now is js contents NoListing first read = absurd read
 fails-then view views start middle now is js contents SaysNo first read = absurd read
 fails-then view views start middle now is js contents TooDeep first read = absurd read
 fails-then view views start middle now is js contents WriteFault first read = absurd read
@@ -205,6 +207,7 @@ not-read view c start now at is rest NoMemory are only = wanting (Some c) (disk 
 not-read view c start now at is rest WordsRefused are read = absurd read
 not-read view c start now at is rest (Refused file refusal) are read = absurd read
 not-read view c start now at is rest (ImageRefused fault) are read = absurd read
+not-read view c start now at is rest NoListing are read = absurd read
 not-read view c start now at is rest SaysNo are read = absurd read
 not-read view c start now at is rest TooDeep are read = absurd read
 not-read view c start now at is rest WriteFault are read = absurd read
@@ -233,6 +236,14 @@ refuses V c start now at contents (ImageRefused fault) read said = record {
   line = (refused_image fault).text;
   has_line = refl;
   answers = reads-all (disk start now) (inputs_of c) contents (Says c) (refused_image fault) read.hold said;
+  sink = refl;
+  counts = read.same.reads;
+  only_reads = only-reads start now read.same;
+}
+refuses V c start now at contents NoListing read said = record {
+  line = no_listing.text;
+  has_line = refl;
+  answers = reads-all (disk start now) (inputs_of c) contents (Says c) no_listing read.hold said;
   sink = refl;
   counts = read.same.reads;
   only_reads = only-reads start now read.same;
@@ -311,6 +322,7 @@ writes c start now s text (Err ReadFault) same none answers took = absurd took
 writes c start now s text (Err (TooLong file)) same none answers took = absurd took
 writes c start now s text (Err (Refused file refusal)) same none answers took = absurd took
 writes c start now s text (Err (ImageRefused fault)) same none answers took = absurd took
+writes c start now s text (Err NoListing) same none answers took = absurd took
 writes c start now s text (Err SaysNo) same none answers took = absurd took
 writes c start now s text (Err TooDeep) same none answers took = absurd took
 
@@ -343,3 +355,13 @@ behind-two view c i j start middle now v w one two s came are first second read 
     (subst (λ (bytes : List ℕ). HasRead start now (inputs_of c) (view v ∷ bytes ∷ [])) (sym second)
     (subst (λ (inputs : List Input). HasRead start now inputs (view v ∷ view w ∷ [])) (sym are)
     (read-then start middle now (i ∷ []) (j ∷ []) (view v ∷ []) (view w ∷ []) (file-read view start middle i v read) (file-read view middle now j w then)))))
+
+-- of several, and then of one whose bytes are lent
+pub behind-more : {V W : Type 0} (views : V → List (List ℕ)) (view : W → List ℕ) (c : Command) (is : List Input) (j : Input) (start middle now : FilesAt)
+    (v : V) (w : W) (lent : List ℕ) (s : Taking) (came : Outcome) → inputs_of c ≡ is ++ j ∷ [] → lent ≡ view w → HasRead start middle is (views v)
+    → FileRead view (disk middle now) j (Ok w) → ComesOf c (views v ++ lent ∷ []) (disk now now) s came → Comes (Some c) (disk start now) s came
+behind-more views view c is j start middle now v w lent s came are same read then comes =
+    comes start
+    (subst (λ (bytes : List ℕ). HasRead start now (inputs_of c) (views v ++ bytes ∷ [])) (sym same)
+    (subst (λ (inputs : List Input). HasRead start now inputs (views v ++ view w ∷ [])) (sym are)
+    (read-then start middle now is (j ∷ []) (views v) (view w ∷ []) read (file-read view middle now j w then))))

@@ -1,6 +1,7 @@
 -- What the stages of compiling find, joined.
-use Rattle.std.proofs.Common.{◌≡◌, Bool, true, false, if◌then◌else◌, refl, sym, ap, subst, ◌∙◌, ℕ, suc, ◌<◌, List, [], ◌∷◌, get_or, Option, Some, None, Ok, Err, inl, inr, arith}
+use Rattle.std.proofs.Common.{◌≡◌, ◌≢◌, Bool, true, false, if◌then◌else◌, refl, sym, ap, ap₂, subst, ◌∙◌, ℕ, suc, ◌<◌, List, [], ◌∷◌, get_or, Option, Some, None, Result, Ok, Err, inl, inr, arith}
 use Rattle.std.specs.Option.{unwrap_or}
+use Rattle.flat_code.specs.Programs.{Program}
 use Rattle.plc_base.specs.declared.Profile.TheVariants.{Large}
 use Rattle.plc_base.specs.declared.refusals.Refusal.{Refusal}
 use Rattle.plc_base.specs.declared.refusals.SourceFault.{SourceFault}
@@ -9,8 +10,8 @@ use Rattle.sem_kept.specs.Accepted.{program_in}
 use Rattle.stl_ast.specs.Literals.{AreBytes}
 use Rattle.stl_ast.specs.declared.blocks.Tree.{Tree}
 use Rattle.stl_lexer.specs.declared.kinds.Token.{Token}
-use Rattle.stl_lexer.specs.Tokens.{AreTokens, IsRefused as AreNoTokens}
-use Rattle.stl_parser.specs.Source.{IsRefusedBy as IsRefusedTree}
+use Rattle.stl_lexer.specs.Tokens.{AreTokens, AreTokensUnique, IsRefused as AreNoTokens}
+use Rattle.stl_parser.specs.Source.{IsTreeUnique, IsRefusedBy as IsRefusedTree}
 use Rattle.plc_base.specs.Least.{least, lesser, is_before}
 use Rattle.stl_symbols.specs.Symbol.{Symbol}
 use Rattle.plc_base.proofs.LeastLemmas.{least-append}
@@ -20,13 +21,15 @@ use Rattle.block_layout.specs.declared.blocks.BlockLayout.{BlockLayout}
 use Rattle.stl_types.specs.Table.{statement_refusals, Checks}
 use Rattle.stl_codegen.specs.Generated.{program_of}
 use Rattle.sem_kept.specs.Agreement.{AreFiles, KeepsSourceIn, ProgramsRun}
+use Rattle.sem_kept.specs.Compiles.{CompilesTo, IsProgramUnique}
 use Rattle.sem_kept.specs.Stages.{InTurn}
-use Rattle.sem_kept.specs.Meaning.{HasSymbolsIn, HasTokens, HasTree, refusals_of, sound_by, IsSound, IsJudgedWith, IsJudgedIn}
+use Rattle.sem_kept.specs.Meaning.{HasSymbolsIn, HasTokens, HasTree, refusals_of, sound_by, IsSound, IsJudgedWith, IsJudgedIn, ExcludesRefusal, InSource, InSymbols, MeansCodeIn, code_in}
 use Rattle.stl_symbols.specs.declared.languages.Language.{Language}
+use Rattle.stl_symbols.specs.declared.languages.Language.TheVariants.{English}
 use Rattle.s7_cli.specs.declared.compiling.LaidSource.{LaidSource}
 use Rattle.s7_cli.specs.declared.faults.CompileFault.{CompileFault}
 use Rattle.s7_cli.specs.declared.faults.CompileFault.TheVariants as compiling
-use Rattle.s7_cli.specs.Compiling.{Finds, HasProgramWith, IsLaid, IsRefusedBy, KeepsWith, RefusesIn, RefusesLaid, RefusesSymbols, RefusesWith, fault_in_symbols, fault_in_source}
+use Rattle.s7_cli.specs.Compiling.{CompilesWith, Finds, HasProgramWith, IsLaid, IsRefusedBy, KeepsWith, RefusedHaveNone, RefusesBy, RefusesIn, RefusesLaid, RefusesSymbols, RefusesWith, fault_in_symbols, fault_in_source}
 
 -- the lesser of a refusal and another is one
 one_of : (before : Bool) (r s : Refusal)
@@ -179,17 +182,77 @@ has_program law source list laid are is there = λ language symbols files has. (
       (same_symbols language symbols list laid.symbols are has) is there,
 )
 
--- and it is the one that is generated
+-- the one that is generated
+generated : (source : List ℕ) (laid : LaidSource) (checked : Tree) → IsLaid source laid
+    → checked ≡ laid.tree
+    → program_of checked laid.symbols laid.layouts ≡ program_in laid.symbols laid.tree
+generated source laid checked is same =
+    ap (λ (t : Tree). program_of t laid.symbols laid.layouts) same
+    ∙ ap (λ (z : List BlockLayout). program_of laid.tree laid.symbols z) is.layout
+
 pub generated_runs : ProgramsRun → (source : List ℕ) (list : List Symbol) (laid : LaidSource)
     (checked : Tree)
     → laid.symbols ≡ list → IsLaid source laid → checked ≡ laid.tree
     → least (statement_refusals laid.tree laid.symbols laid.layouts) ≡ None
     → KeepsWith source list (program_of checked laid.symbols laid.layouts)
 generated_runs law source list laid checked are is same there = λ language symbols files has.
-    subst (KeepsSourceIn language Large source symbols) (sym generated)
+    subst (KeepsSourceIn language Large source symbols) (sym (generated source laid checked is same))
     (accepted_runs law language source symbols laid files
     (same_symbols language symbols list laid.symbols are has) is there)
+
+-- ---- the program to which a source compiles
+
+pub generated_compiles : (source : List ℕ) (list : List Symbol) (laid : LaidSource) (checked : Tree)
+    → laid.symbols ≡ list → IsLaid source laid → checked ≡ laid.tree
+    → least (statement_refusals laid.tree laid.symbols laid.layouts) ≡ None
+    → CompilesWith source list (program_of checked laid.symbols laid.layouts)
+generated_compiles source list laid checked are is same there = λ language symbols has. record {
+  list = laid.symbols;
+  tokens = is.parsed.0;
+  tree = laid.tree;
+  named = same_symbols language symbols list laid.symbols are has;
+  lexed = is.parsed.1;
+  parsed = is.parsed.2;
+  right = sound_both laid.symbols laid.tree laid.layouts is.right is.layout there;
+  program = sym (generated source laid checked is same);
+}
+
+pub one_program : AreTokensUnique → IsTreeUnique → IsProgramUnique
+one_program one_list one_tree language source symbols p q a b =
+    sym a.program ∙ ap₂ program_in lists trees ∙ b.program
   where
-    generated : program_of checked laid.symbols laid.layouts ≡ program_in laid.symbols laid.tree
-    generated = ap (λ (t : Tree). program_of t laid.symbols laid.layouts) same
-        ∙ ap (λ (z : List BlockLayout). program_of laid.tree laid.symbols z) is.layout
+    lists : a.list ≡ b.list
+    lists = let e : ◌≡◌ {A = Result (List Symbol) Refusal} (Ok a.list) (Ok b.list) = a.named ∙ sym b.named in cc
+
+    tokens : a.tokens ≡ b.tokens
+    tokens = one_list source a.tokens b.tokens a.lexed b.lexed
+
+    trees : a.tree ≡ b.tree
+    trees = one_tree source a.tokens a.tree b.tree a.parsed
+        (subst (λ (ts : List Token). HasTree source ts (Ok b.tree)) (sym tokens) b.parsed)
+
+-- it means a code
+means : (language : Language) (source symbols : List ℕ) (p : Program)
+    → (a : CompilesTo language source symbols p)
+    → MeansCodeIn language source symbols (code_in a.list a.tree)
+unfolding IsJudgedIn
+means language source symbols p a = (
+  a.list,
+  a.named,
+  (a.tokens, a.lexed, (a.tree, a.parsed, (a.tree, ap (sound_by a.tree) (sym a.right), refl))),
+)
+
+pub refused_have_none : ExcludesRefusal → RefusedHaveNone
+refused_have_none excludes language source symbols refused p is made =
+    excludes language source symbols (code_in made.list made.tree) refused
+    (means language source symbols p made) is
+
+-- a fault of compiling, but want of memory, is a refusal
+pub none_by_fault : RefusedHaveNone → (source symbols : List ℕ) (fault : CompileFault) (p : Program)
+    → fault ≢ compiling.NoMemory → RefusesBy source symbols fault
+    → CompilesTo English source symbols p → ⊥
+none_by_fault none source symbols (compiling.Symbols refusal) p other refuses made =
+    none English source symbols (InSymbols refusal) p refuses made
+none_by_fault none source symbols (compiling.Source refusal) p other refuses made =
+    none English source symbols (InSource refusal) p refuses made
+none_by_fault none source symbols compiling.NoMemory p other refuses made = absurd (other refl)

@@ -3,7 +3,7 @@ use Rattle.std.proofs.Common.{◌≡◌, inl, inr, sym, subst, ℕ, List, take, 
 use Rattle.plc_io.specs.Moments.{SinkAt}
 use Rattle.plc_io.specs.Taken.{Took}
 use Rattle.s7_cli.specs.declared.failures.Failure.{Failure}
-use Rattle.s7_cli.specs.declared.failures.Failure.TheVariants.{WordsRefused, ReadFault, TooLong, Refused, ImageRefused, SaysNo, TooDeep, WriteFault, NoMemory}
+use Rattle.s7_cli.specs.declared.failures.Failure.TheVariants.{WordsRefused, ReadFault, TooLong, Refused, ImageRefused, NoListing, SaysNo, TooDeep, WriteFault, NoMemory}
 use Rattle.s7_cli.specs.Command.{Command}
 use Rattle.s7_cli.specs.Ends.{taking, IsCut, IsSaid, IsWriteFault, IsNoMemory, Ends}
 use Rattle.s7_cli.specs.Inner.{Fails, TextWritten, Comes, LineWritten}
@@ -63,6 +63,7 @@ ended-so c d a b z failure (Refused file refusal) fails (is, took) =
     said c d a b z (Refused file refusal) (as-told c d a b z failure (Refused file refusal) fails is took)
 ended-so c d a b z failure (ImageRefused fault) fails (is, took) =
     said c d a b z (ImageRefused fault) (as-told c d a b z failure (ImageRefused fault) fails is took)
+ended-so c d a b z failure NoListing fails (is, took) = said c d a b z NoListing (as-told c d a b z failure NoListing fails is took)
 ended-so c d a b z failure SaysNo fails (is, took) = said c d a b z SaysNo (as-told c d a b z failure SaysNo fails is took)
 ended-so c d a b z failure TooDeep fails (is, took) = said c d a b z TooDeep (as-told c d a b z failure TooDeep fails is took)
 
@@ -92,4 +93,5 @@ finish-ends c d a b z ReadFault ended came written = with-line c d a b z ReadFau
 finish-ends c d a b z (TooLong file) ended came written = with-line c d a b z (TooLong file) ended came written
 finish-ends c d a b z (Refused file refusal) ended came written = with-line c d a b z (Refused file refusal) ended came written
 finish-ends c d a b z (ImageRefused fault) ended came written = with-line c d a b z (ImageRefused fault) ended came written
+finish-ends c d a b z NoListing ended came written = with-line c d a b z NoListing ended came written
 finish-ends c d a b z SaysNo ended came written = with-line c d a b z SaysNo ended came written

@@ -5,12 +5,14 @@ mod CompileLemmas
 pub mod FinishLemmas
 pub mod KeptLemmas
 mod LimitLemmas
+pub mod ListLemmas
 pub mod LiveLemmas
 pub mod LivingLemmas
 pub mod LoadLemmas
 pub mod MatchLemmas
 pub mod NumberLemmas
 pub mod OutputLemmas
+pub mod OutputsLemmas
 pub mod PassLemmas
 pub mod PlainLemmas
 pub mod ReadingLemmas

@@ -1,14 +1,15 @@
 -- The numbers of a command, and how many scripts it has, are within their limits.
-use Rattle.std.proofs.Common.{◌≡◌, ◌≤◌, sym, subst, ℕ, Bool, List, [], ◌∷◌, arith, codes, length, nat_le, nat_lt}
+use Rattle.std.proofs.Common.{◌≡◌, ◌≢◌, ◌≤◌, true, sym, subst, ℕ, Bool, List, [], ◌∷◌, arith, codes, length, nat_le, nat_lt}
 use Rattle.std.proofs.lemmas.Bool.{and_parts}
 use Rattle.std.proofs.lemmas.Bool.Decides.{nat_tests}
-use Rattle.std.specs.Prelude.{◌&&◌, Option, Some, None, IfSome, bytes_eq, unwrap_or}
+use Rattle.std.proofs.lemmas.Slice.Eq.{bytes_eq-Decides}
+use Rattle.std.specs.Prelude.{◌&&◌, not, Option, Some, None, IfSome, bytes_eq, unwrap_or}
 use Rattle.clap.specs.Walk.{Row, is_empty}
 use Rattle.clap.specs.Words.{all_of, fault_of, first_of, matches_of}
 use Rattle.plc_base.specs.Decimal.{decimal_up_to, decimal_value, is_decimal}
 use Rattle.stl_parser.proofs.OptionLemmas.{both, chained, mapped, none_holds, passed}
 use Rattle.s7_cli.specs.Command.{Command, Gen, Live, Watch}
-use Rattle.s7_cli.specs.Words.{the_line, file_command, has_german, number_up_to, one_word_command, takes_no_source, two_word_command, short_command, live_command, stepped_command, watch_command, asked_for, asked_by, command_of, CommandsKeepLimits, KeepsLimits}
+use Rattle.s7_cli.specs.Words.{the_line, file_command, has_german, number_up_to, one_word_command, takes_no_source, two_word_command, three_word_command, short_command, live_command, stepped_command, watch_command, asked_for, asked_by, command_of, CommandsKeepLimits, KeepsLimits}
 
 decimal-limit : (most : ℕ) (word : List ℕ) → IfSome (decimal_up_to most word) (λ n. n ≤ most)
 unfolding decimal_up_to
@@ -43,12 +44,23 @@ two-limits command first second symbols german =
     (both (bytes_eq command (codes "compile")) _ _ KeepsLimits tt
     (passed (takes_no_source symbols german) _ KeepsLimits (λ _. file-limits command first second)))
 
+-- different words are different files
+apart : (one other : List ℕ) → not (bytes_eq one other) ≡ true → one ≢ other
+apart one other differ same = let is : bytes_eq one other ≡ true = (bytes_eq-Decides one other).1 same in grind (arith, nat_tests)
+
+three-limits : (command first second third : List ℕ) (symbols : Option (List ℕ)) (german : Bool)
+    → IfSome (three_word_command command first second third symbols german) KeepsLimits
+three-limits command first second third symbols german =
+    passed (bytes_eq command (codes "list") && takes_no_source symbols german && not (bytes_eq second third)) _ KeepsLimits
+    (λ h. apart second third (and_parts (bytes_eq command (codes "list") && takes_no_source symbols german) _ h).1)
+
 short-limits : (command : List ℕ) (words : List (List ℕ)) (symbols : Option (List ℕ)) (german : Bool)
     → IfSome (short_command command words symbols german) KeepsLimits
 short-limits command [] symbols german = tt
 short-limits command (word ∷ []) symbols german = one-limits command word symbols german
 short-limits command (first ∷ second ∷ []) symbols german = two-limits command first second symbols german
-short-limits command (first ∷ second ∷ third ∷ more) symbols german = tt
+short-limits command (first ∷ second ∷ third ∷ []) symbols german = three-limits command first second third symbols german
+short-limits command (first ∷ second ∷ third ∷ fourth ∷ more) symbols german = tt
 
 live-limits : (command : List ℕ) (words : List (List ℕ)) (steps : List ℕ) → IfSome (live_command command words steps) KeepsLimits
 live-limits command [] steps = tt

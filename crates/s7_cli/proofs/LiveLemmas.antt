@@ -18,7 +18,7 @@ use Rattle.event_text.specs.Texts.{history_of, script_of, stimuli_of}
 use Rattle.event_text.specs.declared.TextFault.{TextFault}
 use Rattle.event_text.specs.declared.TextFault.TheVariants as broken
 use Rattle.s7_cli.specs.declared.failures.Failure.{Failure}
-use Rattle.s7_cli.specs.declared.failures.Failure.TheVariants.{WordsRefused, ReadFault, TooLong, Refused, ImageRefused, SaysNo, TooDeep, WriteFault, NoMemory}
+use Rattle.s7_cli.specs.declared.failures.Failure.TheVariants.{WordsRefused, ReadFault, TooLong, Refused, ImageRefused, NoListing, SaysNo, TooDeep, WriteFault, NoMemory}
 use Rattle.s7_cli.specs.declared.failures.File.TheVariants.{Stimuli, Script}
 use Rattle.s7_cli.specs.declared.files.LiveText.{LiveText}
 use Rattle.s7_cli.specs.Answer.{Answer, done}
@@ -273,6 +273,7 @@ scripts-refused V text p stimuli failure r fails loads are tells = λ steps.
 on : (V W : Type 0) (says : Answer → Type 0) (failure : Failure) → RefusedBy {V = V} says (Err failure) → RefusedBy {V = W} says (Err failure)
 on V W says (Refused file refusal) told = told
 on V W says (ImageRefused fault) told = told
+on V W says NoListing told = told
 on V W says SaysNo told = told
 on V W says TooDeep told = absurd told
 on V W says NoMemory told = tt

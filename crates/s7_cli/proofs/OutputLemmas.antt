@@ -6,7 +6,7 @@ use Rattle.plc_io.specs.Counts.{Rose, SameCounts}
 use Rattle.plc_io.specs.FileCalls.{Unchanged}
 use Rattle.plc_io.specs.Moments.{FilesAt, SinkAt}
 use Rattle.s7_cli.specs.declared.failures.Failure.{Failure}
-use Rattle.s7_cli.specs.declared.failures.Failure.TheVariants.{WordsRefused, ReadFault, TooLong, Refused, ImageRefused, SaysNo, TooDeep, WriteFault, NoMemory}
+use Rattle.s7_cli.specs.declared.failures.Failure.TheVariants.{WordsRefused, ReadFault, TooLong, Refused, ImageRefused, NoListing, SaysNo, TooDeep, WriteFault, NoMemory}
 use Rattle.s7_cli.specs.Answer.{Outcome, done}
 use Rattle.s7_cli.specs.Command.{Command, inputs_of, outputs_of}
 use Rattle.s7_cli.specs.Ends.{Taking, taking, Answers, ChangesOutputs, WritesOutputs, HoldsFront, HoldsWhole, RoseAmong, WritesTo}
@@ -60,7 +60,7 @@ whole c start now name are holds = λ k is_k other within.
     let is : name ≡ other = sym (only-one name other here) in
     subst (λ (j : Command). HoldsWhole j (disk start now) other) same (subst (λ (n : List ℕ). HoldsWhole c (disk start now) n) is holds)
 
-take-whole : (bytes : List ℕ) → take (length bytes) bytes ≡ bytes
+pub take-whole : (bytes : List ℕ) → take (length bytes) bytes ≡ bytes
 take-whole bytes = grind (arith, common_steps)
 
 -- ---- the write failed
@@ -108,6 +108,7 @@ fails c start middle now at contents name bytes ReadFault are read writes left =
 fails c start middle now at contents name bytes (TooLong file) are read writes left = absurd left
 fails c start middle now at contents name bytes (Refused file refusal) are read writes left = absurd left
 fails c start middle now at contents name bytes (ImageRefused fault) are read writes left = absurd left
+fails c start middle now at contents name bytes NoListing are read writes left = absurd left
 fails c start middle now at contents name bytes SaysNo are read writes left = absurd left
 fails c start middle now at contents name bytes TooDeep are read writes left = absurd left
 
@@ -119,14 +120,58 @@ comes-unwritten c start middle now at contents name bytes failure came is are re
     subst (λ (o : Outcome). Comes (Some c) (disk start now) (taking at at) o) (sym is)
     (fails c start middle now at contents name bytes failure are read writes left)
 
--- ---- the file was written, and then the text, or a front of it
+-- ---- the output files were written, and then the text, or a front of it
+
+pub text-behind : (c : Command) (start now : FilesAt) (s : Taking) (text : List ℕ) (came : Outcome)
+    → Answers (Some c) (disk start now) (done text) → SameCounts start.failed_reads now.failed_reads
+    → SameCounts start.failed_writes now.failed_writes → ChangesOutputs (Some c) (disk start now) → WritesOutputs (Some c) (disk start now)
+    → TextWritten text s came → Comes (Some c) (disk start now) s came
+text-behind c start now s text (Ok ok) answers reads counts changed whole took = (
+  text,
+  record {
+    answers = answers;
+    took = took.0;
+    faults = took.1;
+    reads = reads;
+    writes = counts;
+    files = (changed, whole);
+  },
+)
+text-behind c start now s text (Err WriteFault) answers reads counts changed whole took = record {
+  cut = record {
+    cut = inr (done text, answers, reads, (changed, whole), took.0);
+    reads = never-fell start.failed_reads now.failed_reads reads;
+    files = changed;
+  };
+  failed = inl (record { faults = took.1; never_fell = took.2; writes = counts });
+}
+text-behind c start now s text (Err NoMemory) answers reads counts changed whole took = record {
+  cut = record {
+    cut = inr (done text, answers, reads, (changed, whole), took.0);
+    reads = never-fell start.failed_reads now.failed_reads reads;
+    files = changed;
+  };
+  faults = took.1;
+  writes = counts;
+}
+text-behind c start now s text (Err WordsRefused) answers reads counts changed whole took = absurd took
+text-behind c start now s text (Err ReadFault) answers reads counts changed whole took = absurd took
+text-behind c start now s text (Err (TooLong file)) answers reads counts changed whole took = absurd took
+text-behind c start now s text (Err (Refused file refusal)) answers reads counts changed whole took = absurd took
+text-behind c start now s text (Err (ImageRefused fault)) answers reads counts changed whole took = absurd took
+text-behind c start now s text (Err NoListing) answers reads counts changed whole took = absurd took
+text-behind c start now s text (Err SaysNo) answers reads counts changed whole took = absurd took
+text-behind c start now s text (Err TooDeep) answers reads counts changed whole took = absurd took
 
 pub comes-output : (c : Command) (start middle now : FilesAt) (s : Taking) (contents : List (List ℕ)) (name bytes text : List ℕ) (came : Outcome)
     → outputs_of c ≡ name ∷ [] → HasRead start middle (inputs_of c) contents → Writes c contents name bytes
     → FileWritten (disk middle now) name bytes (Ok tt) → Says c contents (done text) → TextWritten text s came
     → Comes (Some c) (disk start now) s came
 comes-output c start middle now s contents name bytes text came are read writes left said took =
-    by came took
+    text-behind c start now s text came
+    (reads-all (disk start now) (inputs_of c) contents (Says c) (done text) read.hold said)
+    later.reads (λ other. left.writes other ∙ read.same.writes other)
+    (changes c start now name are later front) (whole c start now name are all) took
   where
     later : Since start now name
     later = since start middle now name read.same left.elsewhere left.reads
@@ -142,49 +187,3 @@ comes-output c start middle now s contents name bytes text came are read writes 
 
     front : HoldsFront c (disk start now) name
     front = λ told. inr (bytes, length bytes, to, left.contents (told-now told) ∙ ap Some (sym (take-whole bytes)))
-
-    changed : ChangesOutputs (Some c) (disk start now)
-    changed = changes c start now name are later front
-
-    counts : SameCounts start.failed_writes now.failed_writes
-    counts = λ other. left.writes other ∙ read.same.writes other
-
-    answers : Answers (Some c) (disk start now) (done text)
-    answers = reads-all (disk start now) (inputs_of c) contents (Says c) (done text) read.hold said
-
-    by : (came : Outcome) → TextWritten text s came → Comes (Some c) (disk start now) s came
-    by (Ok ok) took = (
-      text,
-      record {
-        answers = answers;
-        took = took.0;
-        faults = took.1;
-        reads = later.reads;
-        writes = counts;
-        files = (changed, whole c start now name are all);
-      },
-    )
-    by (Err WriteFault) took = record {
-      cut = record {
-        cut = inr (done text, answers, later.reads, (changed, whole c start now name are all), took.0);
-        reads = never-fell start.failed_reads now.failed_reads later.reads;
-        files = changed;
-      };
-      failed = inl (record { faults = took.1; never_fell = took.2; writes = counts });
-    }
-    by (Err NoMemory) took = record {
-      cut = record {
-        cut = inr (done text, answers, later.reads, (changed, whole c start now name are all), took.0);
-        reads = never-fell start.failed_reads now.failed_reads later.reads;
-        files = changed;
-      };
-      faults = took.1;
-      writes = counts;
-    }
-    by (Err WordsRefused) took = absurd took
-    by (Err ReadFault) took = absurd took
-    by (Err (TooLong file)) took = absurd took
-    by (Err (Refused file refusal)) took = absurd took
-    by (Err (ImageRefused fault)) took = absurd took
-    by (Err SaysNo) took = absurd took
-    by (Err TooDeep) took = absurd took

@@ -285,7 +285,8 @@ none-short : (command : Text) (words : List Text) (given : Option Text) (in_germ
 none-short command [] given in_german h = refl
 none-short command (a ∷ []) given in_german h = absurd (true≢false h)
 none-short command (a ∷ b ∷ []) given in_german h = absurd (true≢false h)
-none-short command (a ∷ b ∷ c ∷ more) given in_german h = refl
+none-short command (a ∷ b ∷ c ∷ []) given in_german h = absurd (true≢false h)
+none-short command (a ∷ b ∷ c ∷ d ∷ more) given in_german h = refl
 
 none-many : (command : Text) (words : List Text) (given : Option Given) → are_few words ≡ false → asked_with given (command ∷ words) ≡ None
 none-many command words None h = none-short command words None false h

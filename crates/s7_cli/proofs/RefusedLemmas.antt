@@ -1,8 +1,8 @@
 -- What refuses the contents of files, handed on by a caller that says more of it.
 use Rattle.std.proofs.Common.{◌≡◌, sym, subst, Result, Err}
 use Rattle.s7_cli.specs.declared.failures.Failure.{Failure}
-use Rattle.s7_cli.specs.declared.failures.Failure.TheVariants.{WordsRefused, ReadFault, TooLong, Refused, ImageRefused, SaysNo, TooDeep, WriteFault, NoMemory}
-use Rattle.s7_cli.specs.Answer.{Answer, refused, refused_image, says_no, too_long}
+use Rattle.s7_cli.specs.declared.failures.Failure.TheVariants.{WordsRefused, ReadFault, TooLong, Refused, ImageRefused, NoListing, SaysNo, TooDeep, WriteFault, NoMemory}
+use Rattle.s7_cli.specs.Answer.{Answer, refused, refused_image, no_listing, says_no, too_long}
 use Rattle.s7_cli.specs.Inner.{RefusedBy}
 
 pub allowed : (V W : Type 0) (said says : Answer → Type 0) (failure : Failure) → ((a : Answer) → said a → says a)
@@ -10,6 +10,7 @@ pub allowed : (V W : Type 0) (said says : Answer → Type 0) (failure : Failure)
 allowed V W said says (Refused file refusal) each told = each (refused file refusal) told
 allowed V W said says (ImageRefused fault) each told = each (refused_image fault) told
 allowed V W said says (TooLong file) each told = each (too_long file) told
+allowed V W said says NoListing each told = each no_listing told
 allowed V W said says SaysNo each told = each says_no told
 allowed V W said says NoMemory each told = tt
 allowed V W said says TooDeep each told = absurd told

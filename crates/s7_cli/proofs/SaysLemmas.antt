@@ -34,7 +34,7 @@ use Rattle.s7_cli.specs.declared.failures.File.TheVariants.{Source, Symbols, His
 use Rattle.s7_cli.specs.declared.failures.Failure.{Failure}
 use Rattle.s7_cli.specs.declared.files.ProgramText.{ProgramText}
 use Rattle.s7_cli.specs.Answer.{Answer, done, refused}
-use Rattle.s7_cli.specs.Command.{Command, Input, Go, Check, Compile, Translate, Run, Gen, Live, Watch, Upgrade, Bound, Recheck, symbols_inputs, program_inputs}
+use Rattle.s7_cli.specs.Command.{Command, Input, Go, Check, Compile, Translate, Run, Gen, Live, Watch, Upgrade, ListImage, Bound, Recheck, symbols_inputs, program_inputs}
 use Rattle.s7_cli.specs.Faults.{failure_of_compiling, failure_of_history, failure_of_loading}
 use Rattle.s7_cli.specs.GenText.{summary_text}
 use Rattle.s7_cli.specs.Inner.{RefusedBy}
@@ -47,6 +47,7 @@ use Rattle.s7_cli.specs.StatusTable.{HasOneText}
 use Rattle.s7_cli.specs.Texts.{IsWithin, contents_of, symbols_file}
 use Rattle.s7_cli.specs.Translating.{IsEnglish, IsSourceImage, KeepsText, NotInEnglish, NotTranslated, OfSymbols, language_of}
 use Rattle.s7_cli.proofs.BoundLemmas.{bound-outcome, bound-verdict, recheck-one, recheck-verdict}
+use Rattle.s7_cli.proofs.ListLemmas.{list-one, list-verdict}
 use Rattle.s7_cli.proofs.LoadLemmas.{loads-one}
 use Rattle.s7_cli.proofs.RefusedLemmas.{refused-more}
 use Rattle.s7_cli.proofs.ReadingLemmas.{AnswersAlike}
@@ -145,6 +146,9 @@ says-one one (Watch _ _ _ _ _) text contents a b p q = absurd text
 says-one one (Upgrade _ _) text [] a b p q = absurd p
 says-one one (Upgrade _ _) text (image ∷ []) a b p q = upgrade-one image a b p q
 says-one one (Upgrade _ _) text (x ∷ more ∷ rest) a b p q = absurd p
+says-one one (ListImage _ _ _) text [] a b p q = absurd p
+says-one one (ListImage _ _ _) text (image ∷ []) a b p q = list-one image a b p q
+says-one one (ListImage _ _ _) text (x ∷ more ∷ rest) a b p q = absurd p
 says-one one (Bound _ _) text contents a b p q = absurd text
 says-one one (Recheck _ _) text [] a b p q = absurd p
 says-one one (Recheck _ _) text (x ∷ []) a b p q = absurd p
@@ -177,6 +181,7 @@ says-outcome one (Compile s y g i) contents a b p q = ap (λ (x : Answer). x.out
 says-outcome one (Translate d s t) contents a b p q = ap (λ (x : Answer). x.outcome) (says-one one (Translate d s t) tt contents a b p q)
 says-outcome one (Run i h) contents a b p q = ap (λ (x : Answer). x.outcome) (says-one one (Run i h) tt contents a b p q)
 says-outcome one (Upgrade i u) contents a b p q = ap (λ (x : Answer). x.outcome) (says-one one (Upgrade i u) tt contents a b p q)
+says-outcome one (ListImage i s y) contents a b p q = ap (λ (x : Answer). x.outcome) (says-one one (ListImage i s y) tt contents a b p q)
 says-outcome one (Recheck i k) contents a b p q = ap (λ (x : Answer). x.outcome) (says-one one (Recheck i k) tt contents a b p q)
 says-outcome one (Bound i k) [] a b p q = absurd p
 says-outcome one (Bound i k) (image ∷ []) a b p q = bound-outcome image a b p q
@@ -292,6 +297,9 @@ says-verdict (Gen number) (more ∷ rest) a said = absurd said
 says-verdict (Upgrade _ _) [] a said = absurd said
 says-verdict (Upgrade _ _) (image ∷ []) a said = upgrade-verdict a said.0 said.2
 says-verdict (Upgrade _ _) (x ∷ more ∷ rest) a said = absurd said
+says-verdict (ListImage _ _ _) [] a said = absurd said
+says-verdict (ListImage _ _ _) (image ∷ []) a said = list-verdict said.0 a said.2
+says-verdict (ListImage _ _ _) (x ∷ more ∷ rest) a said = absurd said
 says-verdict (Bound _ _) [] a said = absurd said
 says-verdict (Bound _ _) (image ∷ []) a said = bound-verdict said.0 a said.2
 says-verdict (Bound _ _) (x ∷ more ∷ rest) a said = absurd said

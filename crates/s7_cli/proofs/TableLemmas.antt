@@ -5,10 +5,10 @@ use Rattle.plc_io.specs.Contents.{SameFiles}
 use Rattle.plc_io.specs.Counts.{Rose}
 use Rattle.plc_io.specs.Taken.{Took}
 use Rattle.s7_cli.specs.declared.failures.File.{File}
-use Rattle.s7_cli.specs.declared.failures.File.TheVariants.{Source, Translation, Symbols, Image, History, Stimuli, Vars, Script, Certificate}
+use Rattle.s7_cli.specs.declared.failures.File.TheVariants.{Source, Translation, Symbols, Image, Listing, History, Stimuli, Vars, Script, Certificate}
 use Rattle.s7_cli.specs.declared.failures.Failure.{Failure}
-use Rattle.s7_cli.specs.declared.failures.Failure.TheVariants.{WordsRefused, ReadFault, TooLong, Refused, ImageRefused, SaysNo, TooDeep, WriteFault, NoMemory}
-use Rattle.s7_cli.specs.Answer.{Answer, Outcome, refused, refused_image, says_no, too_deep, read_fault, too_long, words_refused, code_of}
+use Rattle.s7_cli.specs.declared.failures.Failure.TheVariants.{WordsRefused, ReadFault, TooLong, Refused, ImageRefused, NoListing, SaysNo, TooDeep, WriteFault, NoMemory}
+use Rattle.s7_cli.specs.Answer.{Answer, Outcome, refused, refused_image, no_listing, says_no, too_deep, read_fault, too_long, words_refused, code_of}
 use Rattle.stack_bound.specs.Overflow.{CertificatesKeepStacks}
 use Rattle.s7_cli.specs.BoundSays.{StacksSuffice}
 use Rattle.s7_cli.specs.Command.{Command, inputs_of}
@@ -44,7 +44,7 @@ is-command c k is none = let e : Some k ≡ None = sym is ∙ none in cc
 rows-words : (c : Option Command) (d : Disk) (s : Taking) (line : List ℕ) → IsLineOf WordsRefused line → Took s.before s.after line
     → c ≡ None → Rows c d s 1
 rows-words c d s line has took none = record {
-  statuses = inl (omega arith);
+  statuses = omega arith;
   whole = not-cut 1 (λ e. omega arith) (λ e. omega arith);
   words_refused_only = λ e. none;
   words_refused = λ e. refl;
@@ -55,7 +55,7 @@ rows-words c d s line has took none = record {
 rows-read : (c : Option Command) (d : Disk) (s : Taking) (k : Command) (line : List ℕ) → c ≡ Some k → IsLineOf ReadFault line
     → Took s.before s.after line → InputRose c d → Rows c d s 5
 rows-read c d s k line is has took rose = record {
-  statuses = inl (omega arith);
+  statuses = omega arith;
   whole = not-cut 5 (λ e. omega arith) (λ e. omega arith);
   words_refused_only = λ e. absurd (omega arith);
   words_refused = λ none. absurd (is-command c k is none);
@@ -73,7 +73,7 @@ record IsFileStatus (code : ℕ) : Type 0 where
 refused-status : (code : ℕ) → 2 ≤ code → code ≤ 4 → IsFileStatus code
 refused-status code some few = record {
   some = some;
-  one = inl (omega (arith, few));
+  one = omega (arith, few);
   isnt_read = λ e. omega (arith, few, e);
   isnt_cut = not-cut code (λ e. omega (arith, few, e)) (λ e. omega (arith, few, e));
 }
@@ -81,15 +81,23 @@ refused-status code some few = record {
 too-long-status : IsFileStatus 8
 too-long-status = record {
   some = omega arith;
-  one = inl (omega arith);
+  one = omega arith;
   isnt_read = λ e. omega arith;
   isnt_cut = not-cut 8 (λ e. omega arith) (λ e. omega arith);
+}
+
+no-listing-status : IsFileStatus 9
+no-listing-status = record {
+  some = omega arith;
+  one = omega arith;
+  isnt_read = λ e. omega arith;
+  isnt_cut = not-cut 9 (λ e. omega arith) (λ e. omega arith);
 }
 
 certificate-status : IsFileStatus 10
 certificate-status = record {
   some = omega arith;
-  one = inr refl;
+  one = omega arith;
   isnt_read = λ e. omega arith;
   isnt_cut = not-cut 10 (λ e. omega arith) (λ e. omega arith);
 }
@@ -107,7 +115,7 @@ rows-file c d s k failure line code is status has took which = record {
 
 rows-done : (c : Option Command) (d : Disk) (s : Taking) (k : Command) → c ≡ Some k → Rows c d s 0
 rows-done c d s k is = record {
-  statuses = inl (omega arith);
+  statuses = omega arith;
   whole = not-cut 0 (λ e. omega arith) (λ e. omega arith);
   words_refused_only = λ e. absurd (omega arith);
   words_refused = λ none. absurd (is-command c k is none);
@@ -120,6 +128,7 @@ file-status Source refusal = refused-status 2 (omega arith) (omega arith)
 file-status Translation refusal = refused-status 2 (omega arith) (omega arith)
 file-status Symbols refusal = refused-status 2 (omega arith) (omega arith)
 file-status Image refusal = refused-status 3 (omega arith) (omega arith)
+file-status Listing refusal = refused-status 3 (omega arith) (omega arith)
 file-status History refusal = refused-status 4 (omega arith) (omega arith)
 file-status Stimuli refusal = refused-status 4 (omega arith) (omega arith)
 file-status Vars refusal = refused-status 4 (omega arith) (omega arith)
@@ -146,10 +155,14 @@ rows-verdict c d s k a is (inr (inr (inr (inr (inl (chain, gives)))))) took =
     subst (λ (b : Answer). Rows c d s (code_of b.outcome)) (sym gives)
     (rows-file c d s k TooDeep (too_deep chain).text 10 is refl (chain, refl)
     (subst (λ (b : Answer). Took s.before s.after b.text) gives took) certificate-status)
-rows-verdict c d s k a is (inr (inr (inr (inr (inr gives))))) took =
+rows-verdict c d s k a is (inr (inr (inr (inr (inr (inl (file, gives))))))) took =
     subst (λ (b : Answer). Rows c d s (code_of b.outcome)) (sym gives)
-    (rows-file c d s k (TooLong Translation) (too_long Translation).text 8 is refl refl
+    (rows-file c d s k (TooLong file) (too_long file).text 8 is refl refl
     (subst (λ (b : Answer). Took s.before s.after b.text) gives took) too-long-status)
+rows-verdict c d s k a is (inr (inr (inr (inr (inr (inr gives)))))) took =
+    subst (λ (b : Answer). Rows c d s (code_of b.outcome)) (sym gives)
+    (rows-file c d s k NoListing no_listing.text 9 is refl refl
+    (subst (λ (b : Answer). Took s.before s.after b.text) gives took) no-listing-status)
 
 rows-command : (k : Command) (d : Disk) (s : Taking) (a : Answer) → Reads d (inputs_of k) (Says k) a
     → Took s.before s.after a.text → Rows (Some k) d s (code_of a.outcome)
@@ -221,6 +234,7 @@ not-done : (failure : Failure) → code_of (Err failure) ≡ 0 → ⊥
 not-done (Refused Source refusal) e = omega arith
 not-done (Refused Symbols refusal) e = omega arith
 not-done (Refused Image refusal) e = omega arith
+not-done (Refused Listing refusal) e = omega arith
 not-done (Refused History refusal) e = omega arith
 not-done (Refused Stimuli refusal) e = omega arith
 not-done (Refused Vars refusal) e = omega arith
@@ -275,7 +289,7 @@ table-cut : (c : Option Command) (d : Disk) (s : Taking) (code : ℕ) → IsCutO
     → ((name : List ℕ) → d.before.failed_writes name < d.after.failed_writes name → code ≡ 6)
     → (s.before.faults < s.after.faults → code ≡ 6) → StatusTable c d s code
 table-cut c d s code off cut six writes faults = record {
-  statuses = inl (elim off [ inl e ↦ omega (arith, e) | inr e ↦ omega (arith, e) ]);
+  statuses = elim off [ inl e ↦ omega (arith, e) | inr e ↦ omega (arith, e) ];
   decided = λ k is told. inr (inl off);
   complete = complete c d s code (λ k is told. inr (inl off)) six;
   words_refused_only = λ e. absurd (elim off [ inl f ↦ omega (arith, e, f) | inr f ↦ omega (arith, e, f) ]);
@@ -316,6 +330,7 @@ table-ends one keep c d s (Err ReadFault) ends = table-said one keep c d s _ end
 table-ends one keep c d s (Err (TooLong file)) ends = table-said one keep c d s _ ends.1
 table-ends one keep c d s (Err (Refused file refusal)) ends = table-said one keep c d s _ ends.1
 table-ends one keep c d s (Err (ImageRefused fault)) ends = table-said one keep c d s _ ends.1
+table-ends one keep c d s (Err NoListing) ends = table-said one keep c d s _ ends.1
 table-ends one keep c d s (Err SaysNo) ends = table-said one keep c d s _ ends.1
 table-ends one keep c d s (Err TooDeep) ends = table-said one keep c d s _ ends.1
 

@@ -71,7 +71,7 @@ SaysVerdict says = (text : List ℕ) (a : Answer) → says text a → IsVerdict 
 
 fits-verdict : (fits : Bool) (says : Says) → SaysVerdict says → (text : List ℕ) (a : Answer) → IfFits fits (says text a) a → IsVerdict a
 fits-verdict true says each text a said = each text a said
-fits-verdict false says each text a said = inr (inr (inr (inr (inr said))))
+fits-verdict false says each text a said = inr (inr (inr (inr (inr (inl (Translation, said))))))
 
 translation-verdict : (says : Says) → SaysVerdict says → (v : Result (List ℕ) Refusal) (a : Answer) → OfTranslation says v a → IsVerdict a
 translation-verdict says each (Err refusal) a said = inr (inl (Source, refusal, said))

@@ -14,6 +14,7 @@ compiles _ = false
 abbrev pub takes_image : Asked → Bool
 takes_image (asked.Run image history) = true
 takes_image (asked.Upgrade image upgraded) = true
+takes_image (asked.ListImage image source symbols) = true
 takes_image (asked.Bound image certificate) = true
 takes_image (asked.Recheck image certificate) = true
 takes_image _ = false

@@ -2,7 +2,7 @@
 use Rattle.std.specs.Prelude.{ℕ, ◌+◌, Bool, List, [], ◌∷◌, ◌++◌, Option, Some, None}
 use Rattle.stl_symbols.specs.declared.languages.Language.{Language}
 use Rattle.s7_cli.specs.declared.failures.File.{File}
-use Rattle.s7_cli.specs.declared.failures.File.TheVariants.{Source, Translation, Symbols, Image, History, Stimuli, Vars, Script, Certificate}
+use Rattle.s7_cli.specs.declared.failures.File.TheVariants.{Source, Translation, Symbols, Image, Listing, History, Stimuli, Vars, Script, Certificate}
 
 -- `go SRC HIST` runs a source along a history, `check SRC` checks a source, `compile SRC IMG` writes
 -- its image; each with a file of symbols where `--symbols FILE` names one, and with both in German where
@@ -10,7 +10,8 @@ use Rattle.s7_cli.specs.declared.failures.File.TheVariants.{Source, Translation,
 -- `run IMG HIST` runs an image along a history, `gen NUMBER` a program and a history that are made of a number.
 -- `live IMG STIM OPS.. --steps N` has several workers run an image, `watch IMG STIM VARS OPS.. --steps N`
 -- besides watches variables of it, `upgrade IMG IMG2` writes an image
--- once more, in version 2. `bound IMG CERT` writes the certificate of an image, `recheck IMG CERT` checks one
+-- once more, in version 2. `list IMG SRC SYM` writes the source and the symbols file of what an image holds. `bound IMG CERT` writes the
+-- certificate of an image, `recheck IMG CERT` checks one
 pub data Command : Type 0 where
   Go : (source : List ℕ) (symbols : Option (List ℕ)) (german : Bool) (history : List ℕ) → Command
   Check : (source : List ℕ) (symbols : Option (List ℕ)) (german : Bool) → Command
@@ -21,6 +22,7 @@ pub data Command : Type 0 where
   Live : (image stimuli : List ℕ) (scripts : List (List ℕ)) (steps : ℕ) → Command
   Watch : (image stimuli vars : List ℕ) (scripts : List (List ℕ)) (steps : ℕ) → Command
   Upgrade : (image upgraded : List ℕ) → Command
+  ListImage : (image source symbols : List ℕ) → Command
   Bound : (image certificate : List ℕ) → Command
   Recheck : (image certificate : List ℕ) → Command
 
@@ -69,6 +71,7 @@ inputs_of (Gen number) = []
 inputs_of (Live image stimuli scripts steps) = live_inputs image stimuli scripts
 inputs_of (Watch image stimuli vars scripts steps) = watch_inputs image stimuli vars scripts
 inputs_of (Upgrade image upgraded) = record { file = Image; name = image } ∷ []
+inputs_of (ListImage image source symbols) = record { file = Image; name = image } ∷ []
 inputs_of (Bound image certificate) = record { file = Image; name = image } ∷ []
 inputs_of (Recheck image certificate) =
     record { file = Image; name = image } ∷ record { file = Certificate; name = certificate } ∷ []
@@ -84,15 +87,17 @@ outputs_of (Gen number) = []
 outputs_of (Live image stimuli scripts steps) = []
 outputs_of (Watch image stimuli vars scripts steps) = []
 outputs_of (Upgrade image upgraded) = upgraded ∷ []
+outputs_of (ListImage image source symbols) = source ∷ symbols ∷ []
 outputs_of (Bound image certificate) = certificate ∷ []
 outputs_of (Recheck image certificate) = []
 
--- the most bytes that each file may hold, and a translation
+-- the most bytes that each file may hold, and a translation, and each text of a listing
 abbrev pub limit_of : File → ℕ
 limit_of Source = 1048576
 limit_of Translation = 1048576
 limit_of Symbols = 1048576
 limit_of Image = 8388608
+limit_of Listing = 1048576
 limit_of History = 4194304
 limit_of Stimuli = 4194304
 limit_of Vars = 1048576

@@ -15,7 +15,8 @@ use Rattle.block_layout.specs.Layouts.{layouts_of}
 use Rattle.block_layout.specs.Table.{layout_refusals}
 use Rattle.block_layout.specs.declared.blocks.BlockLayout.{BlockLayout}
 use Rattle.sem_kept.specs.Agreement.{AreFiles, ImageKeepsSourceIn, KeepsSourceIn}
-use Rattle.sem_kept.specs.Meaning.{HasSymbolsIn, HasTokens, HasTree, IsSound, InSymbols, InSource, IsRefusedSourceIn}
+use Rattle.sem_kept.specs.Compiles.{CompilesTo}
+use Rattle.sem_kept.specs.Meaning.{HasSymbolsIn, HasTokens, HasTree, IsSound, InSymbols, InSource, IsRefusedSourceIn, Refused}
 use Rattle.sem_kept.specs.Stages.{InTurn}
 use Rattle.s7_cli.specs.declared.compiling.LaidSource.{LaidSource}
 use Rattle.s7_cli.specs.declared.faults.CompileFault.{CompileFault}
@@ -90,11 +91,12 @@ abbrev pub HasProgramIn : Language → (source symbols : List ℕ) → Type 0
 HasProgramIn language source symbols =
     (p : Program) × KeepsSourceIn language profile.Large source symbols p
 
--- bytes are an image of version 2 for the large profile, and keep a source with its symbols
+-- bytes are the image of version 2, for the large profile, of the program to which a source with its
+-- symbols compiles, and keep the source
 abbrev pub IsCompiledIn : Language → (bytes source symbols : List ℕ) → Type 0
 IsCompiledIn language bytes source symbols =
     (kept : ImageKeepsSourceIn language bytes source symbols)
-    × (kept.stamp ≡ stamp.Two profile.Large)
+    × (kept.stamp ≡ stamp.Two profile.Large) × CompilesTo language source symbols kept.program
 
 -- the same in English
 abbrev pub HasProgram : (source symbols : List ℕ) → Type 0
@@ -121,3 +123,15 @@ KeepsWith source list p =
     (language : Language) (symbols : List ℕ) → AreFiles source symbols
     → HasSymbolsIn language symbols (Ok list)
     → KeepsSourceIn language profile.Large source symbols p
+
+-- a source compiles to this program with each symbols file that has these symbols
+abbrev pub CompilesWith : (source : List ℕ) → List Symbol → Program → Type 0
+CompilesWith source list p =
+    (language : Language) (symbols : List ℕ) → HasSymbolsIn language symbols (Ok list)
+    → CompilesTo language source symbols p
+
+-- a source that is refused compiles to no program
+abbrev pub RefusedHaveNone : Type 0
+RefusedHaveNone =
+    (language : Language) (source symbols : List ℕ) (refused : Refused) (p : Program)
+    → IsRefusedSourceIn language source symbols refused → CompilesTo language source symbols p → ⊥

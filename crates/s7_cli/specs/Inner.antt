@@ -1,5 +1,5 @@
 -- What the inner calls of a command tell, from the moment at which the command began.
-use Rattle.std.specs.Prelude.{◌≡◌, ◌≤◌, ◌⊎◌, ℕ, List, [], ◌∷◌, Option, Some, None, Result, Ok, Err}
+use Rattle.std.specs.Prelude.{◌≡◌, ◌≢◌, ◌≤◌, ◌⊎◌, ℕ, List, [], ◌∷◌, Option, Some, None, Result, Ok, Err}
 use Rattle.plc_io.specs.Contents.{SameFiles}
 use Rattle.plc_io.specs.Counts.{Rose, SameCounts, NeverFell}
 use Rattle.plc_io.specs.FileCalls.{LeavesWritten, Unchanged}
@@ -7,8 +7,9 @@ use Rattle.plc_io.specs.Moments.{FilesAt}
 use Rattle.plc_io.specs.Taken.{Took, TookPrefix}
 use Rattle.plc_io.specs.declared.faults.IoFault.TheVariants as fault
 use Rattle.s7_cli.specs.declared.failures.Failure.{Failure}
-use Rattle.s7_cli.specs.declared.failures.Failure.TheVariants.{ReadFault, TooLong, Refused, ImageRefused, SaysNo, TooDeep, WriteFault, NoMemory}
-use Rattle.s7_cli.specs.Answer.{Answer, Outcome, done, refused, refused_image, says_no, too_long, read_fault}
+use Rattle.s7_cli.specs.declared.finish.Output.{Output}
+use Rattle.s7_cli.specs.declared.failures.Failure.TheVariants.{ReadFault, TooLong, Refused, ImageRefused, NoListing, SaysNo, TooDeep, WriteFault, NoMemory}
+use Rattle.s7_cli.specs.Answer.{Answer, Outcome, done, refused, refused_image, no_listing, says_no, too_long, read_fault}
 use Rattle.s7_cli.specs.Command.{Command, Input, inputs_of, outputs_of}
 use Rattle.s7_cli.specs.Ends.{Taking, Answers, CountsReads, IsSaid, IsWriteFault, IsNoMemory}
 use Rattle.s7_cli.specs.Lines.{line_of, ok_line}
@@ -51,12 +52,14 @@ AllRead view d is (Err (TooLong file)) =
 AllRead view d is (Err NoMemory) = OnlyReads d
 AllRead view d is (Err failure) = ⊥
 
--- what files hold was refused, or a certificate doesn't hold of it, or its translation is too long: this is said of it
+-- what files hold was refused, or a certificate doesn't hold of it, or its translation or listing is too long, or it has no listing: this
+-- is said of it
 abbrev pub RefusedBy : {V : Type 0} → (Answer → Type 0) → Result V Failure → Type 0
 RefusedBy says (Ok v) = Unit {0}
 RefusedBy says (Err (Refused file refusal)) = says (refused file refusal)
 RefusedBy says (Err (ImageRefused fault)) = says (refused_image fault)
 RefusedBy says (Err (TooLong file)) = says (too_long file)
+RefusedBy says (Err NoListing) = says no_listing
 RefusedBy says (Err SaysNo) = says says_no
 RefusedBy says (Err NoMemory) = Unit {0}
 RefusedBy says (Err failure) = ⊥
@@ -107,6 +110,23 @@ ComesOf c contents d s came =
 pub record IsOutput (c : Command) (contents : List (List ℕ)) (name bytes : List ℕ) : Type 0 where
   pub outputs : outputs_of c ≡ name ∷ []
   pub writes : Writes c contents name bytes
+  pub says : Says c contents (done ok_line)
+
+-- a file and what is written to it
+pub record Written : Type 0 where
+  pub name : List ℕ
+  pub bytes : List ℕ
+
+-- what is written so
+abbrev pub written_to : Output → Written
+written_to o = record { name = o.name.now; bytes = o.bytes.now }
+
+-- a command whose input files hold this writes these two files, its only ones, the first one first, and `OK`
+pub record AreOutputs (c : Command) (contents : List (List ℕ)) (first second : Written) : Type 0 where
+  pub outputs : outputs_of c ≡ first.name ∷ second.name ∷ []
+  pub apart : first.name ≢ second.name
+  pub writes_first : Writes c contents first.name first.bytes
+  pub writes_second : Writes c contents second.name second.bytes
   pub says : Says c contents (done ok_line)
 
 -- the writing of a failure's line, if it has one

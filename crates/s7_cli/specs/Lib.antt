@@ -10,6 +10,8 @@ pub mod GenText
 pub mod Inner
 pub mod KeptImages
 pub mod Lines
+pub mod Listings
+pub mod ListSays
 pub mod LiveSays
 pub mod LiveTexts
 pub mod Living

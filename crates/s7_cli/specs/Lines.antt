@@ -5,16 +5,17 @@ use Rattle.plc_base.specs.declared.refusals.Refusal.{Refusal}
 use Rattle.image_file.specs.declared.faults.LoadFault.{LoadFault}
 use Rattle.stack_bound.specs.ChainText.{chain_text}
 use Rattle.s7_cli.specs.declared.failures.File.{File}
-use Rattle.s7_cli.specs.declared.failures.File.TheVariants.{Source, Translation, Symbols, Image, History, Stimuli, Vars, Script, Certificate}
+use Rattle.s7_cli.specs.declared.failures.File.TheVariants.{Source, Translation, Symbols, Image, Listing, History, Stimuli, Vars, Script, Certificate}
 use Rattle.s7_cli.specs.declared.failures.Failure.{Failure}
-use Rattle.s7_cli.specs.declared.failures.Failure.TheVariants.{WordsRefused, ReadFault, TooLong, Refused, ImageRefused, SaysNo, TooDeep, WriteFault, NoMemory}
+use Rattle.s7_cli.specs.declared.failures.Failure.TheVariants.{WordsRefused, ReadFault, TooLong, Refused, ImageRefused, NoListing, SaysNo, TooDeep, WriteFault, NoMemory}
 
--- the word for a file, and for a translation
+-- the word for a file, for a translation, and for a listing
 unfoldable pub file_text : File → List ℕ
 file_text Source = codes "source"
 file_text Translation = codes "result"
 file_text Symbols = codes "symbols"
 file_text Image = codes "image"
+file_text Listing = codes "list"
 file_text History = codes "history"
 file_text Stimuli = codes "stimuli"
 file_text Vars = codes "vars"
@@ -43,12 +44,16 @@ unfoldable pub image_refused_text : LoadFault → List ℕ
 image_refused_text fault =
     codes "image refused: offset " ++ decimal fault.at ++ codes " code " ++ decimal fault.code ++ codes "\n"
 
+-- the listing of an image doesn't compile to its program
+unfoldable pub no_listing_text : List ℕ
+no_listing_text = codes "image has no listing\n"
+
 -- a certificate doesn't hold
 unfoldable pub says_no_text : List ℕ
 says_no_text = codes "certificate says no\n"
 
--- what `check` writes for a source that is accepted, `recheck` for a certificate that holds, and `compile`, `upgrade` and `bound`
--- where they have written their file
+-- what `check` writes for a source that is accepted, `recheck` for a certificate that holds, and `compile`, `upgrade`, `list` and
+-- `bound` where they have written their files
 unfoldable pub ok_line : List ℕ
 ok_line = codes "OK\n"
 
@@ -59,6 +64,7 @@ line_of ReadFault = Some read_fault_text
 line_of (TooLong file) = Some (too_long_text file)
 line_of (Refused file refusal) = Some (refusal_text file refusal)
 line_of (ImageRefused fault) = Some (image_refused_text fault)
+line_of NoListing = Some no_listing_text
 line_of SaysNo = Some says_no_text
 line_of TooDeep = None
 line_of WriteFault = None

@@ -21,9 +21,10 @@ use Rattle.s7_cli.specs.run_text.RunText.{run_text}
 use Rattle.s7_cli.specs.declared.failures.File.TheVariants.{Source, Symbols, History}
 use Rattle.s7_cli.specs.Answer.{Answer, done, refused, refused_image}
 use Rattle.s7_cli.specs.BoundSays.{BoundSays, IsCertificate, RecheckSays}
-use Rattle.s7_cli.specs.Command.{Command, Go, Check, Compile, Translate, Run, Gen, Live, Watch, Upgrade, Bound, Recheck}
+use Rattle.s7_cli.specs.Command.{Command, Go, Check, Compile, Translate, Run, Gen, Live, Watch, Upgrade, ListImage, Bound, Recheck}
 use Rattle.s7_cli.specs.GenText.{summary_text}
 use Rattle.s7_cli.specs.Lines.{ok_line}
+use Rattle.s7_cli.specs.ListSays.{IsListed, ListSays}
 use Rattle.s7_cli.specs.LiveSays.{LiveSays}
 use Rattle.s7_cli.specs.Loads.{LoadsAs}
 use Rattle.s7_cli.specs.Translating.{InEnglish, IsSourceImage, SaysTranslated, language_of}
@@ -147,6 +148,7 @@ Says (Live _ _ _ steps) (image ∷ stimuli ∷ scripts) answer =
 Says (Watch _ _ _ _ steps) (image ∷ stimuli ∷ vars ∷ scripts) answer =
     WatchSays steps image stimuli vars scripts answer
 Says (Upgrade _ _) (image ∷ []) answer = UpgradeSays image answer
+Says (ListImage _ _ _) (image ∷ []) answer = ListSays image answer
 Says (Bound _ _) (image ∷ []) answer = BoundSays image answer
 Says (Recheck _ _) (image ∷ certificate ∷ []) answer = RecheckSays image certificate answer
 Says _ contents answer = ⊥
@@ -169,6 +171,9 @@ Writes (Live _ _ _ _) contents name bytes = ⊥
 Writes (Watch _ _ _ _ _) contents name bytes = ⊥
 Writes (Upgrade _ upgraded) (image ∷ []) name bytes = (name ≡ upgraded) × IsUpgraded bytes image
 Writes (Upgrade _ _) contents name bytes = ⊥
+Writes (ListImage _ source symbols) (image ∷ []) name bytes =
+    IsListed source symbols image name bytes
+Writes (ListImage _ _ _) contents name bytes = ⊥
 Writes (Bound _ certificate) (image ∷ []) name bytes =
     (name ≡ certificate) × IsCertificate bytes image
 Writes (Bound _ _) contents name bytes = ⊥

@@ -24,7 +24,7 @@ HasOneText (Watch _ _ _ _ _) = ⊥
 HasOneText (Bound _ _) = ⊥
 HasOneText command = Unit {0}
 
--- told files allow one outcome, and one answer where there is one text, and the call gave it: 0, 2, 3, 4, 8 and 10 come exactly where
+-- told files allow one outcome, and one answer where there is one text, and the call gave it: 0, 2, 3, 4, 8, 9 and 10 come exactly where
 -- the files say so
 pub record IsDecided (k : Command) (d : Disk) (s : Taking) (code : ℕ) : Type 0 where
   pub answer : Answer
@@ -36,7 +36,7 @@ pub record IsDecided (k : Command) (d : Disk) (s : Taking) (code : ℕ) : Type 0
 
 -- the statuses that there are
 abbrev pub IsStatus : ℕ → Type 0
-IsStatus code = (code ≤ 8) ⊎ (code ≡ 10)
+IsStatus code = code ≤ 10
 
 -- a write failed, or memory was wanting
 abbrev pub IsCutOff : ℕ → Type 0
@@ -57,7 +57,7 @@ pub record StatusTable (c : Option Command) (d : Disk) (s : Taking) (code : ℕ)
   -- 1: exactly where the words are refused, whatever the files hold; a write may fail, or memory be wanting, at its line
   pub words_refused_only : code ≡ 1 → c ≡ None
   pub words_refused : c ≡ None → (code ≡ 1) ⊎ IsCutOff code
-  -- 1, 2, 3, 4, 5, 8, 10: the sink took the one line of the failure
+  -- 1, 2, 3, 4, 5, 8, 9, 10: the sink took the one line of the failure
   pub takes_line : code ≢ 0 → (IsCutOff code → ⊥)
       → (failure : Failure) × (line : List ℕ) × (code ≡ code_of (Err failure)) × IsLineOf failure line × Took s.before s.after line
   -- 5: only where the count of failed reads of an input file rose

@@ -7,6 +7,7 @@ use Rattle.flat_code.specs.Programs.{Program}
 use Rattle.plc_base.specs.declared.profiles.Profile.TheVariants.{Large}
 use Rattle.plc_base.specs.declared.refusals.Refusal.{Refusal}
 use Rattle.sem_kept.specs.Agreement.{KeepsSourceIn}
+use Rattle.sem_kept.specs.Compiles.{CompilesTo}
 use Rattle.stl_symbols.specs.Symbol.{Symbol}
 use Rattle.stl_symbols.specs.Symbols.{symbols_in}
 use Rattle.s7_cli.specs.declared.failures.File.TheVariants.{Source, Translation, Symbols}
@@ -84,6 +85,13 @@ abbrev pub KeepsText : (german : Bool) → (source symbols : List ℕ) → Progr
 KeepsText german source symbols p =
     (text : List ℕ) × IsEnglish german source text
     × KeepsSourceIn (language_of german) Large text symbols p
+
+-- this is the one to which that text compiles
+abbrev pub IsProgramOf : (german : Bool) → (source symbols : List ℕ) → Program → Type 0
+IsProgramOf german source symbols p =
+    (text : List ℕ) × IsEnglish german source text
+    × KeepsSourceIn (language_of german) Large text symbols p
+    × CompilesTo (language_of german) text symbols p
 
 -- bytes are the image that `compile` writes: that of the English text of the source
 abbrev pub IsSourceImage : (german : Bool) → (bytes source symbols : List ℕ) → Type 0

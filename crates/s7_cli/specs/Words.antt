@@ -1,6 +1,6 @@
 -- The words of a call, and the command that they ask for. How a command line is read is clap's: its `fault_of` has what is wrong with
 -- the words (also a request for help), and its `matches_of` what each argument found, of which `first_of` and `all_of` give the words.
-use Rattle.std.specs.Prelude.{◌≡◌, ◌==◌, ◌&&◌, ℕ, ◌≤◌, nat_le, nat_lt, Bool, true, false, not, List, [], ◌∷◌, ◌++◌, length, map, Option, Some, None, codes, bytes_eq, is_some, IfSome, option_and_then, option_map, unwrap_or, if◌then◌else◌}
+use Rattle.std.specs.Prelude.{◌≡◌, ◌≢◌, ◌==◌, ◌&&◌, ℕ, ◌≤◌, nat_le, nat_lt, Bool, true, false, not, List, [], ◌∷◌, ◌++◌, length, map, Option, Some, None, codes, bytes_eq, is_some, IfSome, option_and_then, option_map, unwrap_or, if◌then◌else◌}
 use Rattle.std.specs.List.{list_all}
 use Rattle.std.specs.Option.{option_map_or}
 use Rattle.clap.specs.Lexer.{usize_max}
@@ -12,7 +12,7 @@ use Rattle.stl_symbols.specs.declared.languages.Language.TheVariants.{English, G
 use Rattle.plc_base.specs.Decimal.{decimal_up_to}
 use Rattle.s7_cli.specs.declared.words.Asked.{Asked}
 use Rattle.s7_cli.specs.declared.words.Asked.TheVariants as asked
-use Rattle.s7_cli.specs.Command.{Command, Go, Check, Compile, Translate, Run, Gen, Live, Watch, Upgrade, Bound, Recheck}
+use Rattle.s7_cli.specs.Command.{Command, Go, Check, Compile, Translate, Run, Gen, Live, Watch, Upgrade, ListImage, Bound, Recheck}
 
 -- COMMAND: a word that has to be there
 abbrev pub command_rule : Rule
@@ -76,10 +76,17 @@ two_word_command command first second symbols german =
     else (if takes_no_source symbols german then file_command command first second
     else None))
 
--- a command with one word or two behind it
+-- `list IMG SRC SYM`, where SRC and SYM differ
+abbrev pub three_word_command : (command first second third : List ℕ) (symbols : Option (List ℕ)) (german : Bool) → Option Command
+three_word_command command first second third symbols german =
+    if bytes_eq command (codes "list") && takes_no_source symbols german && not (bytes_eq second third) then Some (ListImage first second third)
+    else None
+
+-- a command with one word, two or three behind it
 abbrev pub short_command : (command : List ℕ) (words : List (List ℕ)) (symbols : Option (List ℕ)) (german : Bool) → Option Command
 short_command command (word ∷ []) symbols german = one_word_command command word symbols german
 short_command command (first ∷ second ∷ []) symbols german = two_word_command command first second symbols german
+short_command command (first ∷ second ∷ third ∷ []) symbols german = three_word_command command first second third symbols german
 short_command command words symbols german = None
 
 -- `live IMG STIM OPS.. --steps N`, with one script to four
@@ -120,11 +127,12 @@ asked_by found =
 unfoldable pub command_of : List (List ℕ) → Option Command
 command_of words = if is_empty (fault_of the_line words) then asked_by (matches_of the_line words) else None
 
--- the limits of the numbers of a command, and of how many scripts it has
+-- the limits of the numbers of a command, and of how many scripts it has, and that its output files are different words
 abbrev pub KeepsLimits : Command → Type 0
 KeepsLimits (Gen number) = (1 ≤ number) × (number ≤ 10000)
 KeepsLimits (Live image stimuli scripts steps) = (1 ≤ length scripts) × (length scripts ≤ 4) × (1 ≤ steps) × (steps ≤ 1000000)
 KeepsLimits (Watch image stimuli vars scripts steps) = (1 ≤ length scripts) × (length scripts ≤ 3) × (1 ≤ steps) × (steps ≤ 1000000)
+KeepsLimits (ListImage image source symbols) = source ≢ symbols
 KeepsLimits command = Unit {0}
 
 -- the command that was read
@@ -136,6 +144,7 @@ command_value (asked.Translate language source translation) = Translate language
 command_value (asked.Run image history) = Run image.now history.now
 command_value (asked.Gen number) = Gen number
 command_value (asked.Upgrade image upgraded) = Upgrade image.now upgraded.now
+command_value (asked.ListImage image source symbols) = ListImage image.now source.now symbols.now
 command_value (asked.Bound image certificate) = Bound image.now certificate.now
 command_value (asked.Recheck image certificate) = Recheck image.now certificate.now
 command_value (asked.Live image stimuli scripts steps) = Live image.now stimuli.now (map (λ s. s.now) scripts.items) steps

@@ -1,7 +1,7 @@
-ghost use Rattle.std.specs.Prelude.{◌≡◌, ◌≤◌, length, IfOk, IfErr};
+ghost use Rattle.std.specs.Prelude.{◌≡◌, ◌≢◌, ◌≤◌, false, true, length, IfOk, IfErr};
 ghost use Rattle.stl_ast.specs.Literals.{AreBytes};
 ghost use Rattle.stl_symbols.specs.Symbols.{symbols_limit};
-ghost use Rattle.flat_code.specs.Image.{image};
+ghost use Rattle.flat_code.specs.Image.{IsProgram, image};
 ghost use Rattle.flat_code.specs.declared.stamps.Stamp.TheVariants.{Two};
 ghost use Rattle.plc_base.specs.declared.Profile.TheVariants.{Large};
 ghost use Rattle.plc_base.specs.Least.{least};
@@ -9,11 +9,15 @@ ghost use Rattle.stl_lexer.specs.Limits.{source_limit};
 ghost use Rattle.stl_types.specs.Table.{statement_refusals};
 ghost use Rattle.block_layout.specs.Table.{layout_refusals};
 ghost use Rattle.sem_kept.specs.Agreement.{AreFiles, IsRunnable, KeepsSource};
+ghost use Rattle.sem_kept.specs.Compiles.{CompilesTo, IsProgramUnique};
 ghost use Rattle.sem_kept.specs.Meaning.{HasSymbolsIn, HasTokens, HasTree, IsSound};
 ghost use Rattle.plc_base.specs.declared.refusals.SourceFault.TheVariants.{NoMemory};
 ghost use Rattle.sem_kept.specs.Stages.{InTurn};
+ghost use Rattle.stl_symbols.specs.declared.languages.Language.TheVariants.{English};
+ghost use Rattle.s7_cli.specs.declared.faults.CompileFault.TheVariants as compiling;
 ghost use Rattle.s7_cli.specs.Compiling.{
   AreRead,
+  CompilesWith,
   Finds,
   HasProgram,
   HasProgramWith,
@@ -21,6 +25,7 @@ ghost use Rattle.s7_cli.specs.Compiling.{
   IsLaid,
   KeepsWith,
   Lays,
+  RefusedHaveNone,
   RefusesBy,
   RefusesLaid,
   RefusesSymbols,
@@ -31,7 +36,7 @@ use crate::faults::{CompileFault, in_source, in_symbols};
 use block_layout::{Layouts, lay_out, lay_out_sound};
 use flat_code::Program;
 use image_file::{Loaded, VerifyError, verify, write_image2};
-use plc_base::{Profile, Refusal, SourceFault, lesser};
+use plc_base::{NoMemory, Profile, Refusal, SourceFault, lesser};
 use std::alloc::{AllocError, Global};
 use stl_ast::Tree;
 use stl_codegen::generate;
@@ -230,6 +235,7 @@ pub(crate) fn program_with(
     requires source { length source.now ≤ source_limit }
     requires read { AreRead source.now symbols }
     ensures ok { IfOk result (KeepsWith source.now symbols) }
+    ensures compiles { IfOk result (CompilesWith source.now symbols) }
     ensures refused { IfErr result (RefusesWith source.now symbols) }
 {
     sem_kept::laws::programs_run();
@@ -263,6 +269,7 @@ fn program_of(alloc: Global, source: &[u8], symbols: &[u8]) -> Result<Program, C
     requires source { length source.now ≤ source_limit }
     requires symbols { length symbols.now ≤ symbols_limit }
     ensures ok { IfOk result (KeepsSource Large source.now symbols.now) }
+    ensures compiles { IfOk result (CompilesTo English source.now symbols.now) }
     ensures refused { IfErr result
         (RefusesBy source.now symbols.now) }
 {
@@ -285,6 +292,7 @@ pub fn compiled(alloc: Global, source: &[u8], symbols: &[u8]) -> Result<Loaded, 
     requires source { length source.now ≤ source_limit }
     requires symbols { length symbols.now ≤ symbols_limit }
     ensures ok { IfOk result (λ l. KeepsSource Large source.now symbols.now l.program) }
+    ensures program { IfOk result (λ l. CompilesTo English source.now symbols.now l.program) }
     ensures large { IfOk result (λ l. l.profile ≡ Large) }
     ensures image { IfOk result
         (λ l. IsCompiled (image (Two l.profile) l.program) source.now symbols.now) }
@@ -311,4 +319,62 @@ pub fn compiled_image(alloc: Global, source: &[u8], symbols: &[u8]) -> Result<Ve
 {
     let program = program_of(alloc, source, symbols)?;
     Ok(write_image2(alloc, &program, Profile::Large)?)
+}
+
+/// A law: a source with its symbols compiles to one program at most, and to none where it is refused.
+pub(crate) fn law_of_programs()
+    ensures one { IsProgramUnique }
+    ensures refused { RefusedHaveNone }
+{
+    stl_lexer::law_of_tokens();
+    stl_parser::law_of_clauses();
+    sem_kept::laws::law_of_sources();
+}
+
+/// Whether two programs are the same: their images are.
+fn is_same_program(alloc: Global, program: &Program, loaded: &Loaded) -> Result<bool, NoMemory>
+    requires program { IsProgram program.now }
+    requires loaded { IsProgram loaded.now.program }
+    ensures same { IfOk result (λ same. same ≡ true → program.now ≡ loaded.now.program) }
+    ensures other { IfOk result (λ same. program.now ≡ loaded.now.program → same ≡ true) }
+{
+    image_file::laws::one_program();
+    let other = loaded.program(alloc)?;
+    let image = write_image2(alloc, program, Profile::Large)?;
+    let wanted = write_image2(alloc, &other, Profile::Large)?;
+    Ok(image.as_slice() == wanted.as_slice())
+}
+
+/// A source that is refused compiles to no program; want of memory tells nothing of it.
+fn no_program(fault: &CompileFault) -> Result<bool, NoMemory>
+    ensures { IfOk result (λ yes. (yes ≡ false) × (fault.now ≢ compiling.NoMemory)) }
+{
+    match fault {
+        CompileFault::NoMemory => Err(AllocError),
+        _ => Ok(false),
+    }
+}
+
+/// Whether a source of at most 1,048,576 bytes with its symbols file, which has at most as many, is
+/// accepted by the rules of `compiled` and compiles to this program, with these names. Fails where
+/// memory is wanting.
+pub fn compiles_to(
+    alloc: Global,
+    source: &[u8],
+    symbols: &[u8],
+    loaded: &Loaded,
+) -> Result<bool, NoMemory>
+    requires source { length source.now ≤ source_limit }
+    requires symbols { length symbols.now ≤ symbols_limit }
+    requires program { IsProgram loaded.now.program }
+    ensures yes { IfOk result (λ yes. yes ≡ true
+        → CompilesTo English source.now symbols.now loaded.now.program) }
+    ensures no { IfOk result (λ yes. CompilesTo English source.now symbols.now loaded.now.program
+        → yes ≡ true) }
+{
+    law_of_programs();
+    match program_of(alloc, source, symbols) {
+        Ok(program) => is_same_program(alloc, &program, loaded),
+        Err(fault) => no_program(&fault),
+    }
 }

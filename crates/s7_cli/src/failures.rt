@@ -17,6 +17,8 @@ pub enum File {
     Translation,
     Symbols,
     Image,
+    /// A text of the listing of an image.
+    Listing,
     History,
     Stimuli,
     /// What the last operator of a watch reads.
@@ -33,12 +35,14 @@ pub enum Failure {
     WordsRefused,
     /// A file can't be read.
     ReadFault,
-    /// A file holds a byte past its limit, or a translation would.
+    /// A file holds a byte past its limit, or a translation or a text of a listing would.
     TooLong { file: File },
     /// A file breaks a rule.
     Refused { file: File, refusal: Refusal },
     /// An image isn't that of a program that verifies.
     ImageRefused { fault: LoadFault },
+    /// The listing of an image doesn't compile to its program.
+    NoListing,
     /// A certificate doesn't hold.
     SaysNo,
     /// A chain of calls is too deep, and its line was written.
@@ -135,7 +139,7 @@ fn refused_code(file: File) -> u8
 {
     match file {
         File::Source | File::Translation | File::Symbols => 2,
-        File::Image => 3,
+        File::Image | File::Listing => 3,
         File::History | File::Stimuli | File::Vars | File::Script { .. } | File::Certificate => 4,
     }
 }
@@ -154,6 +158,7 @@ impl Status {
             Err(Failure::WriteFault) => 6,
             Err(Failure::NoMemory) => 7,
             Err(Failure::TooLong { .. }) => 8,
+            Err(Failure::NoListing) => 9,
             Err(Failure::SaysNo | Failure::TooDeep) => 10,
         };
         Status { code }

@@ -11,7 +11,7 @@ use crate::lists::add;
 use plc_io::{Files, IoFault, read_to_limit};
 use std::alloc::Global;
 
-/// The most bytes of a source, and of its translation.
+/// The most bytes of a source, of its translation, and of each text of a listing.
 const SOURCE_LIMIT: usize = 1_048_576;
 
 /// The most bytes of a symbols file.
@@ -69,7 +69,7 @@ pub(crate) fn limit_of(file: File) -> usize
     ensures { result ≡ limit_of file }
 {
     match file {
-        File::Source | File::Translation => SOURCE_LIMIT,
+        File::Source | File::Translation | File::Listing => SOURCE_LIMIT,
         File::Symbols => SYMBOLS_LIMIT,
         File::Image => IMAGE_LIMIT,
         File::History | File::Stimuli => HISTORY_LIMIT,

@@ -3,7 +3,7 @@ ghost use Rattle.plc_io.specs.Moments.{SinkAt};
 ghost use Rattle.plc_io.specs.Taken.{Wrote};
 ghost use Rattle.s7_cli.specs.Command.{Command};
 ghost use Rattle.s7_cli.specs.Ends.{Ended, Ends, taking};
-ghost use Rattle.s7_cli.specs.Inner.{Comes, ComesOf, IsOutput, LineWritten, TextWritten};
+ghost use Rattle.s7_cli.specs.Inner.{AreOutputs, Comes, ComesOf, IsOutput, LineWritten, TextWritten, written_to};
 ghost use Rattle.s7_cli.specs.Lines.{line_of};
 ghost use Rattle.s7_cli.specs.Reading.{Disk, disk};
 ghost use Rattle.s7_cli.specs.StatusTable.{StatusTable};
@@ -14,7 +14,7 @@ use crate::texts::failure_line;
 use plc_io::{Files, IoFault, Sink, push_all};
 
 /// What `check` writes for a source that is accepted, `recheck` for a certificate that holds, and
-/// `compile`, `english`, `german`, `upgrade` and `bound` behind their file.
+/// `compile`, `english`, `german`, `upgrade`, `list` and `bound` behind their files.
 pub const OK_LINE: &[u8] = b"OK\n";
 
 /// How a command came out whose text was written so.
@@ -49,6 +49,31 @@ pub fn write_output<F: Files, K: Sink>(
         → ComesOf c contents went took result }
 {
     write_file(files, name, bytes)?;
+    write_text(out, OK_LINE)
+}
+
+/// A text that is made the whole of an output file.
+#[derive(Clone, Copy)]
+pub struct Output<'a> {
+    pub name: &'a str,
+    pub bytes: &'a [u8],
+}
+
+/// Makes texts the whole of a command's two output files, the first one first, and then writes `OK`.
+pub fn write_outputs<F: Files, K: Sink>(
+    files: &mut F,
+    out: &mut K,
+    first: &Output<'_>,
+    second: &Output<'_>,
+) -> Result<(), Failure>
+    ensures { let went = disk (F.shown files.old) (F.shown files.new) in
+        let took = taking (K.shown out.old) (K.shown out.new) in
+        (c : Command) (contents : List (List ℕ))
+        → AreOutputs c contents (written_to first.now) (written_to second.now)
+        → ComesOf c contents went took result }
+{
+    write_file(files, first.name, first.bytes)?;
+    write_file(files, second.name, second.bytes)?;
     write_text(out, OK_LINE)
 }
 

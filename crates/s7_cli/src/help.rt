@@ -40,6 +40,8 @@ Calls:
                       one views the replies; write a line --- more, and a
                       line for each view
   s7 upgrade IMG IMG2 write the image IMG in version 2 to the file IMG2, then OK
+  s7 list IMG SRC SYM write a source that gives the program of the image IMG to
+                      the file SRC, and its symbols to the file SYM, then OK
   s7 bound IMG CERT   write how deep the calls of the image IMG go, and how many
                       local bytes they take, to the file CERT, then OK; or write
                       a chain of calls that is too deep
@@ -185,10 +187,11 @@ Exit status, and the line that is written in place of a result:
      the certificate breaks a rule       certificate refused: line L rule R
   5  a file can't be read                read fault
   6  standard output failed, or IMG of compile, OUT of english and german, IMG2
-     of upgrade or CERT of bound can't be written
+     of upgrade, SRC or SYM of list, or CERT of bound can't be written
   7  memory ran out
   8  a file is too long                  too long: source (1,048,576 bytes)
      the translation would be            too long: result (1,048,576 bytes)
+     SRC or SYM of list would be         too long: list (1,048,576 bytes)
      a file is too long                  too long: symbols (1,048,576 bytes)
                                          too long: image (8,388,608 bytes)
                                          too long: history (4,194,304 bytes)
@@ -196,6 +199,8 @@ Exit status, and the line that is written in place of a result:
                                          too long: vars (1,048,576 bytes)
                                          too long: script k (1,048,576 bytes)
                                          too long: certificate (1,048,576 bytes)
+  9  what would be listed doesn't compile to the image's program
+                                         image has no listing
  10  a chain of calls is too deep        chain: KIND n, KIND n ..
      the certificate doesn't hold        certificate says no
 

@@ -12,6 +12,7 @@ use crate::failures::{Failure, Status};
 use crate::finish::end_command;
 use crate::gen_command::cmd_gen;
 use crate::going::cmd_go;
+use crate::list_command::cmd_list;
 use crate::live_command::cmd_live;
 use crate::recheck_command::cmd_recheck;
 use crate::run_command::cmd_run;
@@ -68,7 +69,8 @@ fn with_image<F: Files, K: Sink>(
     files: &mut F,
     out: &mut K,
 ) -> Status
-    requires { takes_image asked ≡ true }
+    requires image { takes_image asked ≡ true }
+    requires limits { KeepsLimits (command_value asked) }
     ensures ends { let went = disk (F.shown files.old) (F.shown files.new) in
         let took = taking (K.shown out.old) (K.shown out.new) in
         Ended (Some (command_value asked.entry)) went took result.code }
@@ -79,6 +81,11 @@ fn with_image<F: Files, K: Sink>(
     match asked {
         Asked::Run { image, history } => cmd_run(alloc, image, history, files, out),
         Asked::Upgrade { image, upgraded } => cmd_upgrade(alloc, image, upgraded, files, out),
+        Asked::ListImage {
+            image,
+            source,
+            symbols,
+        } => cmd_list(alloc, image, source, symbols, files, out),
         Asked::Bound { image, certificate } => cmd_bound(alloc, image, certificate, files, out),
         Asked::Recheck { image, certificate } => {
             cmd_recheck(alloc, image, certificate, files, out)
@@ -153,7 +160,7 @@ fn carry_out<R: Threads + Wait + Sync, F: Files, K: Sink, G: Gate + Sync>(
     out: &mut K,
     gate: &G,
 ) -> Status
-    requires { KeepsLimits (command_value asked) }
+    requires limits { KeepsLimits (command_value asked) }
     ensures ends { let went = disk (F.shown files.old) (F.shown files.new) in
         let took = taking (K.shown out.old) (K.shown out.new) in
         Ended (Some (command_value asked.entry)) went took result.code }
@@ -170,8 +177,11 @@ fn carry_out<R: Threads + Wait + Sync, F: Files, K: Sink, G: Gate + Sync>(
             source,
             translation,
         } => cmd_translate(alloc, language, source, translation, files, out),
-        Asked::Run { .. } | Asked::Upgrade { .. } | Asked::Bound { .. } | Asked::Recheck { .. } =>
-            with_image(alloc, asked, files, out),
+        Asked::Run { .. }
+        | Asked::Upgrade { .. }
+        | Asked::ListImage { .. }
+        | Asked::Bound { .. }
+        | Asked::Recheck { .. } => with_image(alloc, asked, files, out),
         Asked::Live { .. } | Asked::Watch { .. } => {
             with_workers(rt, alloc, asked, files, out, gate)
         }
@@ -189,9 +199,9 @@ fn carry_out<R: Threads + Wait + Sync, F: Files, K: Sink, G: Gate + Sync>(
 /// beside each other, each of whom passes `gate` before each entry.
 /// `watch IMG STIM VARS OPS.. --steps N` does the same with one to three operators, and a fourth
 /// whose replies are viewed beside them. `upgrade IMG IMG2` writes the image of version 2 of what
-/// an image holds. `bound IMG CERT` writes the certificate of an image, or tells a chain of calls
-/// that is too deep, `recheck IMG CERT` checks a certificate. The status is that of the text that
-/// `out` took:
+/// an image holds, `list IMG SRC SYM` a source and a symbols file that compile to its program.
+/// `bound IMG CERT` writes the certificate of an image, or tells a chain of calls that is too deep,
+/// `recheck IMG CERT` checks a certificate. The status is that of the text that `out` took:
 ///
 /// | Status | When |
 /// |---|---|
@@ -203,7 +213,8 @@ fn carry_out<R: Threads + Wait + Sync, F: Files, K: Sink, G: Gate + Sync>(
 /// | 5 | a file can't be read |
 /// | 6 | the sink or an output file couldn't be written |
 /// | 7 | memory ran out |
-/// | 8 | a file holds a byte past its limit, or a translation would |
+/// | 8 | a file holds a byte past its limit, or a translation or a text of a listing would |
+/// | 9 | the listing of the image doesn't compile to its program |
 /// | 10 | a chain of calls is too deep, or the certificate doesn't hold |
 pub fn s7_main<R: Threads + Wait + Sync, F: Files, K: Sink, G: Gate + Sync>(
     rt: &R,

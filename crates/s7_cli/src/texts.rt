@@ -3,6 +3,7 @@ ghost use Rattle.s7_cli.specs.Lines.{
   file_text,
   image_refused_text,
   line_of,
+  no_listing_text,
   read_fault_text,
   refusal_text,
   says_no_text,
@@ -27,6 +28,7 @@ fn add_file(line: &mut Line, file: File)
         File::Translation => line.add(b"result"),
         File::Symbols => line.add(b"symbols"),
         File::Image => line.add(b"image"),
+        File::Listing => line.add(b"list"),
         File::History => line.add(b"history"),
         File::Stimuli => line.add(b"stimuli"),
         File::Vars => line.add(b"vars"),
@@ -91,7 +93,7 @@ fn fixed_line(text: &[u8]) -> Line
 
 /// The line of a failure; none where a write failed or memory is wanting, and where the line of a chain
 /// was written.
-#[tactic(auto, unfolding(crate::specs::Lines::words_refused_text, crate::specs::Lines::read_fault_text, crate::specs::Lines::says_no_text))]
+#[tactic(auto, unfolding(crate::specs::Lines::words_refused_text, crate::specs::Lines::read_fault_text, crate::specs::Lines::no_listing_text, crate::specs::Lines::says_no_text))]
 pub fn failure_line(failure: Failure) -> Option<Line>
     ensures { result ≡ line_of failure }
 {
@@ -101,6 +103,7 @@ pub fn failure_line(failure: Failure) -> Option<Line>
         Failure::TooLong { file } => Some(too_long_line(file)),
         Failure::Refused { file, refusal } => Some(refusal_line(file, refusal)),
         Failure::ImageRefused { fault } => Some(image_refused_line(fault)),
+        Failure::NoListing => Some(fixed_line(b"image has no listing\n")),
         Failure::SaysNo => Some(fixed_line(b"certificate says no\n")),
         Failure::TooDeep | Failure::WriteFault | Failure::NoMemory => None,
     }

@@ -10,6 +10,7 @@ ghost use Rattle.s7_cli.specs.Texts.{IsWithin, symbols_of};
 ghost use Rattle.s7_cli.specs.Translating.{
   HasProgramOf,
   IsEnglish,
+  IsProgramOf,
   IsSourceImage,
   KeepsText,
   NotInEnglish,
@@ -108,6 +109,8 @@ fn german_program(alloc: Global, text: &ProgramText) -> Result<Program, Failure>
     requires { IsWithin text.now }
     ensures keeps { IfOk result
         (KeepsText true text.now.source.items (symbols_of text.now)) }
+    ensures made { IfOk result
+        (IsProgramOf true text.now.source.items (symbols_of text.now)) }
     ensures refused { RefusedBy
         (RefusedProgram true text.now.source.items (symbols_of text.now)) result }
 {

@@ -1,7 +1,7 @@
 ghost use Rattle.std.specs.Prelude.{◌≡◌, ◌≢◌, false, map, string_bytes, option_map, IfOk, None};
 ghost use Rattle.clap.specs.Words.{FailsBy, app_of, fault_of, found_of, kind_of, matches_of, rows_of, rule_of};
 ghost use Rattle.clap.specs.declared.error.kind.ErrorKind.TheVariants.{OutOfMemory};
-ghost use Rattle.s7_cli.specs.Words.{the_line, command_rule, files_rule, symbols_rule, steps_rule, german_rule, has_german, takes_no_source, number_up_to, one_word_command, file_command, two_word_command, short_command, live_command, stepped_command, watch_command, asked_for, asked_by, command_of, command_value, CommandsKeepLimits, ReadsPlainWords, ReadsGermanAnywhere, ReadsStepsAnywhere, ReadsSymbolsAnywhere, ReadsWordsBehindDashes, RefusesNoValue};
+ghost use Rattle.s7_cli.specs.Words.{the_line, command_rule, files_rule, symbols_rule, steps_rule, german_rule, has_german, takes_no_source, number_up_to, one_word_command, file_command, two_word_command, short_command, three_word_command, live_command, stepped_command, watch_command, asked_for, asked_by, command_of, command_value, CommandsKeepLimits, ReadsPlainWords, ReadsGermanAnywhere, ReadsStepsAnywhere, ReadsSymbolsAnywhere, ReadsWordsBehindDashes, RefusesNoValue};
 
 use arrayvec::ArrayVec;
 use clap::error::ErrorKind;
@@ -81,6 +81,12 @@ pub enum Asked<'a> {
     Upgrade {
         image: &'a str,
         upgraded: &'a str,
+    },
+    /// Write the source and the symbols file of what an image holds, to two files.
+    ListImage {
+        image: &'a str,
+        source: &'a str,
+        symbols: &'a str,
     },
     /// Write the certificate of an image.
     Bound {
@@ -271,7 +277,30 @@ fn two_word_command<'a>(
     }
 }
 
-/// The command with one word or two behind it.
+/// The command with three words behind it. The files that `list` writes are different ones.
+fn three_word_command<'a>(
+    command: &str,
+    first: &'a str,
+    second: &'a str,
+    third: &'a str,
+    symbols: Option<&'a str>,
+    german: bool,
+) -> Option<Asked<'a>>
+    ensures { option_map command_value result ≡
+        three_word_command command.now first.now second.now third.now
+        (option_map (λ s. s.now) symbols.entry) german }
+{
+    match command {
+        "list" if takes_no_source(symbols, german) && second != third => Some(Asked::ListImage {
+            image: first,
+            source: second,
+            symbols: third,
+        }),
+        _ => None,
+    }
+}
+
+/// The command with one word, two or three behind it.
 fn short_command<'a>(
     command: &str,
     words: &[&'a str],
@@ -285,6 +314,9 @@ fn short_command<'a>(
     match words {
         [word] => one_word_command(command, word, symbols, german),
         [first, second] => two_word_command(command, first, second, symbols, german),
+        [first, second, third] => {
+            three_word_command(command, first, second, third, symbols, german)
+        }
         _ => None,
     }
 }
@@ -404,6 +436,7 @@ fn refusal<'a>(error: &Error) -> Result<Option<Asked<'a>>, AllocError>
 /// | `live IMG STIM OPS..`, with one script to four | `--steps N` |
 /// | `watch IMG STIM VARS OPS..`, with one script to three | `--steps N` |
 /// | `upgrade IMG IMG2` | none |
+/// | `list IMG SRC SYM`, where SRC and SYM differ | none |
 /// | `bound IMG CERT` | none |
 /// | `recheck IMG CERT` | none |
 ///
@@ -426,7 +459,8 @@ pub fn read_words(alloc: Global, words: &[String]) -> Result<Option<Asked<'_>>, 
 /// may stand in any place among plain words, and adds that option to the call of the others: as two
 /// words, with a plain value, or as a single one, `--symbols=FILE` or `--steps=N`, with any value.
 /// Where `--symbols` or `--steps` is the last word, plain words before it are refused. The numbers of
-/// a call, and how many scripts it has, are within their limits.
+/// a call, and how many scripts it has, are within their limits, and the two files that `list` writes
+/// have different names.
 pub fn law_of_words()
     ensures plain { ReadsPlainWords }
     ensures behind_dashes { ReadsWordsBehindDashes }

@@ -1,7 +1,7 @@
 //! Devices that fail: each read, each write, and the sink after some bytes, for every command.
 use crate::calls::{NamedBytes, ONE_RUN, ONE_RUN_TEXT, RUNG, call, files_of, only};
 use crate::compare::same;
-use crate::images::{CHAIN, EMPTY, IMAGE, LARGE};
+use crate::images::{CHAIN, EMPTY, IMAGE, LARGE, LISTED};
 use plc_io::{MemFiles, MemSink, OpenGate};
 use std::alloc::Global;
 use std::process::Abort;
@@ -48,6 +48,8 @@ const RUN: Words = &["run", "image", "cycle"];
 
 const UPGRADE: Words = &["upgrade", "image", "image"];
 
+const LIST: Words = &["list", "image", "text", "names"];
+
 const BOUND: Words = &["bound", "image", "image"];
 
 const CHAINED: Words = &["bound", "chain", "image"];
@@ -89,6 +91,8 @@ enum Told {
     Calls { reads: u64, writes: u64 },
     /// What the file `image` holds.
     Image(&'static [u8]),
+    /// What the file of this name holds; none is like an empty one.
+    File(&'static str, &'static [u8]),
 }
 
 /// Compares what is told with the files and the sink.
@@ -111,6 +115,12 @@ fn are_told(
                 same(rt, what, files.writes.made, *writes);
             }
             Told::Image(image) => same(rt, what, files.files.get("image").unwrap_or(b""), *image),
+            Told::File(name, bytes) => same(
+                rt,
+                what,
+                files.files.get(*name).unwrap_or(b""),
+                *bytes,
+            ),
         }
     }
 }
@@ -136,7 +146,7 @@ fn ends<R: Abort + Threads + Wait + Sync>(
 }
 
 // Words, and how many reads and writes the call makes: a file is read in one piece, and the end behind it.
-static MADE: [(Words, u64, u64); 12] = [
+static MADE: [(Words, u64, u64); 13] = [
     (GO, 4, 0),
     (GO_BY_NAMES, 6, 0),
     (CHECK, 2, 0),
@@ -145,6 +155,7 @@ static MADE: [(Words, u64, u64); 12] = [
     (GERMAN, 2, 1),
     (RUN, 4, 0),
     (UPGRADE, 2, 1),
+    (LIST, 2, 2),
     (BOUND, 2, 1),
     (RECHECK, 4, 0),
     (LIVE, 8, 0),
@@ -207,7 +218,7 @@ fn each_read_and_write_fails(rt: HostRuntime) -> Result<(), Fail> {
 type Row = (Words, usize, u64, u8, &'static [Told]);
 
 // The sink fails behind some bytes. Where a file is written, it is written before the first push.
-static CUT_OFF: [Row; 31] = [
+static CUT_OFF: [Row; 33] = [
     (GO, 1, 1, 6, &[Told::Text(b"")]),
     (GO, 1, 2, 6, &[Told::Text(b"@")]),
     (GO, 9, 2, 6, &[Told::Text(b"@7 PQ 4 =")]),
@@ -233,6 +244,21 @@ static CUT_OFF: [Row; 31] = [
     (UPGRADE, 1, 1, 6, &[Told::Text(b"")]),
     (UPGRADE, 1, 2, 6, &[Told::Text(b"O")]),
     (UPGRADE, 9, 2, 0, &[Told::Text(b"OK\n")]),
+    // Both files stand before the first byte of `OK`.
+    (
+        LIST,
+        1,
+        1,
+        6,
+        &[Told::Text(b""), Told::File("text", LISTED)],
+    ),
+    (
+        LIST,
+        1,
+        2,
+        6,
+        &[Told::Text(b"O"), Told::File("text", LISTED)],
+    ),
     (BOUND, 1, 1, 6, &[Told::Text(b"")]),
     (BOUND, 1, 2, 6, &[Told::Text(b"O")]),
     // In the line of a chain; no certificate is written.
@@ -262,7 +288,7 @@ static CUT_OFF: [Row; 31] = [
 ];
 
 // A sink that takes one byte a push takes the whole text.
-static WHOLE: [Row; 17] = [
+static WHOLE: [Row; 18] = [
     (GO, 1, 0, 0, &[Told::Text(ONE_RUN_TEXT)]),
     (
         &["go", "source", "stopping"],
@@ -292,6 +318,13 @@ static WHOLE: [Row; 17] = [
     (COMPILE, 1, 0, 0, &[Told::Text(b"OK\n")]),
     (GERMAN, 1, 0, 0, &[Told::Text(b"OK\n")]),
     (UPGRADE, 1, 0, 0, &[Told::Text(b"OK\n")]),
+    (
+        LIST,
+        1,
+        0,
+        0,
+        &[Told::Text(b"OK\n"), Told::File("text", LISTED)],
+    ),
     (BOUND, 1, 0, 0, &[Told::Text(b"OK\n")]),
     (
         CHAINED,
@@ -327,6 +360,17 @@ static WHOLE: [Row; 17] = [
     ),
     (LIVE, 1, 0, 0, &[Told::Text(b"step 1\n---\nEND 1 RUN\n")]),
 ];
+
+/// The write of each of the two files fails: the source isn't written, or stands there whole.
+#[test]
+fn a_listing_is_cut_off(rt: HostRuntime) -> Result<(), Fail> {
+    let first = Faults { write: 1, ..NONE };
+    let second = Faults { write: 2, ..NONE };
+    let none = [Told::Text(b""), Told::File("text", b"")];
+    let whole = [Told::Text(b""), Told::File("text", LISTED)];
+    ends(&rt, rt.alloc(), LIST, first, 6, &none)?;
+    ends(&rt, rt.alloc(), LIST, second, 6, &whole)
+}
 
 fn are_pushed<R: Abort + Threads + Wait + Sync>(
     rt: &R,

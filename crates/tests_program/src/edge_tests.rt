@@ -223,6 +223,14 @@ static FAILURES: [Row; 14] = [
         8,
         "too long: certificate\n",
     ),
+    (
+        Failure::TooLong {
+            file: File::Listing,
+        },
+        8,
+        "too long: list\n",
+    ),
+    (Failure::NoListing, 9, "image has no listing\n"),
     (Failure::SaysNo, 10, "certificate says no\n"),
     (Failure::TooDeep, 10, ""),
 ];

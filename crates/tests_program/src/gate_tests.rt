@@ -24,7 +24,7 @@ impl Gate for WatchedGate {
 static FILES: [NamedBytes; 2] = [("source", RUNG), ("history", ONE_RUN)];
 
 // Those of images have the one that `compile` writes, and `recheck` the certificate of `bound`.
-static COMMANDS: [&[&str]; 10] = [
+static COMMANDS: [&[&str]; 11] = [
     &["go", "source", "history"],
     &["check", "source"],
     &["german", "source", "german"],
@@ -32,6 +32,7 @@ static COMMANDS: [&[&str]; 10] = [
     &["compile", "source", "image"],
     &["run", "image", "history"],
     &["upgrade", "image", "image"],
+    &["list", "image", "text", "names"],
     &["bound", "image", "certificate"],
     &["recheck", "image", "certificate"],
     &["gen", "1"],

@@ -34,3 +34,7 @@ pub(crate) const EMPTY: &[u8] = b"S7FB\0\x01\0\0\0\0\0\x14\0\0\0\0\0\0\0\0";
 
 /// The same of version 2, for the large profile.
 pub(crate) const LARGE: &[u8] = b"S7FB\0\x02\0\x02\0\0\0\x14\0\0\0\0\0\0\0\0";
+
+/// The source that is listed of `IMAGE`: its statements stand on the lines 3 to 5.
+pub(crate) const LISTED: &[u8] =
+    b"\n\nORGANIZATION_BLOCK OB 1 VAR_TEMP t : ARRAY [0..19] OF BYTE; END_VAR BEGIN JU _001;\n_001: T DB 10.DBW 2;\nEND_ORGANIZATION_BLOCK DATA_BLOCK DB 10 STRUCT x : ARRAY [0..3] OF BYTE; END_STRUCT; BEGIN END_DATA_BLOCK\n";

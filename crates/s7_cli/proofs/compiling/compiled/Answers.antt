@@ -3,6 +3,8 @@ use Rattle.plc_base.specs.declared.Profile.{Profile}
 use Rattle.plc_base.specs.declared.Profile.TheVariants.{Large}
 use Rattle.flat_code.specs.declared.stamps.Stamp.TheVariants.{Two}
 use Rattle.sem_kept.specs.Agreement.{KeepsSource}
+use Rattle.sem_kept.specs.Compiles.{CompilesTo}
+use Rattle.stl_symbols.specs.declared.languages.Language.TheVariants.{English}
 use Rattle.s7_cli.proofs.compiling.compiled.Goals as goal
 
 pub loaded_large-requires : goal.loaded_large-requires
@@ -10,6 +12,10 @@ loaded_large-requires c = c.in_ok-program.ensures.ok.runnable
 
 pub returns-clause-ok : goal.returns-clause-ok
 returns-clause-ok c = subst (KeepsSource Large c.args.source.now c.args.symbols.now) (sym c.in_ok-loaded_large.ensures.program) c.in_ok-program.ensures.ok
+
+pub returns-clause-program : goal.returns-clause-program
+returns-clause-program c =
+    subst (CompilesTo English c.args.source.now c.args.symbols.now) (sym c.in_ok-loaded_large.ensures.program) c.in_ok-program.ensures.compiles
 
 pub returns-clause-image : goal.returns-clause-image
 returns-clause-image c =
@@ -22,4 +28,5 @@ returns-clause-image c =
             (returns-clause-ok c);
       },
       ap Two c.in_ok-loaded_large.ensures.large,
+      returns-clause-program c,
     )

@@ -12,4 +12,5 @@ returns-clause-ok c = (
     keeps = c.in_ok-program.ensures.ok;
   },
   refl,
+  c.in_ok-program.ensures.compiles,
 )

@@ -25,3 +25,7 @@ returns-clause-refused c =
 
 pub program_with-requires-clause-read : goal.program_with-requires-clause-read
 program_with-requires-clause-read c = (English, c.args.symbols.now, c.law_of_files.ensures, c.in_ok-list.ensures.ok)
+
+pub returns-clause-compiles : goal.returns-clause-compiles
+returns-clause-compiles c =
+    IfOk-weaker c.program_with.result _ _ (λ p compiles. compiles English c.args.symbols.now c.in_ok-list.ensures.ok) c.program_with.ensures.compiles

@@ -1,9 +1,9 @@
 use Rattle.std.proofs.Common.{Result, Err, IfErr, sym, ap, ◌∙◌, subst}
 use Rattle.std.proofs.lemmas.Result.{err_from_is_err_and}
 use Rattle.flat_code.specs.Programs.{Program}
-use Rattle.s7_cli.specs.Compiling.{KeepsWith, RefusesWith}
+use Rattle.s7_cli.specs.Compiling.{CompilesWith, KeepsWith, RefusesWith}
 use Rattle.s7_cli.specs.declared.faults.CompileFault.{CompileFault}
-use Rattle.s7_cli.proofs.CompileLemmas.{generated_runs, refused_laid}
+use Rattle.s7_cli.proofs.CompileLemmas.{generated_compiles, generated_runs, refused_laid}
 use Rattle.s7_cli.proofs.compiling.program_with.Goals as goal
 
 pub returns-in_err-checked-clause-refused : goal.returns-in_err-checked-clause-refused
@@ -29,3 +29,9 @@ returns-clause-ok c =
     c.in_ok-checked.checked c.in_ok-laid.ensures.symbols c.in_ok-laid.ensures.laid
     c.in_ok-checked.ensures.tree c.in_ok-checked.ensures.sound in
     subst (KeepsWith c.args.source.now c.args.symbols) (sym c.in_ok-generate.ensures) keeps
+
+pub returns-clause-compiles : goal.returns-clause-compiles
+returns-clause-compiles c =
+    subst (CompilesWith c.args.source.now c.args.symbols) (sym c.in_ok-generate.ensures)
+    (generated_compiles c.args.source.now c.args.symbols c.in_ok-laid.laid c.in_ok-checked.checked c.in_ok-laid.ensures.symbols
+    c.in_ok-laid.ensures.laid c.in_ok-checked.ensures.tree c.in_ok-checked.ensures.sound)

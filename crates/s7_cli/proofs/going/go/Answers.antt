@@ -3,9 +3,8 @@ use Rattle.std.specs.Option.{option_map}
 use Rattle.std.proofs.lemmas.Result.{err_from_is_err_and}
 use Rattle.s7_cli.specs.declared.failures.File.TheVariants.{History}
 use Rattle.s7_cli.specs.Command.{Go, Input, program_inputs}
-use Rattle.s7_cli.specs.Inner.{HasRead}
 use Rattle.s7_cli.specs.Texts.{contents_of}
-use Rattle.s7_cli.proofs.ComesLemmas.{comes-unread, file-read, file-unread, read-then, unread-then}
+use Rattle.s7_cli.proofs.ComesLemmas.{behind-more, comes-unread, file-unread, unread-then}
 use Rattle.s7_cli.proofs.SaysLemmas.{within}
 use Rattle.s7_cli.proofs.going.go.Goals as goal
 
@@ -46,9 +45,6 @@ go_along-requires g c = record {
 pub returns : goal.returns
 returns g c =
     let symbols : Option (List ℕ) = option_map (λ s. s.now) c.args.symbols in
-    let text = c.in_ok-text.text in
-    let last : Input = history_input c.args.hist.now in
-    c.go_along.ensures c.args.src.now c.args.hist.now symbols _ _
-    (subst (λ (bytes : List ℕ). HasRead _ _ (program_inputs c.args.src.now symbols ++ last ∷ []) (contents_of text ++ bytes ∷ [])) (sym c.deref.ensures.value)
-    (read-then _ _ _ (program_inputs c.args.src.now symbols) (last ∷ []) (contents_of text) (c.in_ok-history.history.items ∷ []) c.in_ok-text.ensures
-    (file-read bytes_of _ _ last c.in_ok-history.history c.in_ok-history.ensures)))
+    behind-more contents_of bytes_of (Go c.args.src.now symbols c.args.german c.args.hist.now) (program_inputs c.args.src.now symbols)
+    (history_input c.args.hist.now) _ _ _ c.in_ok-text.text c.in_ok-history.history _ _ _ refl c.deref.ensures.value c.in_ok-text.ensures
+    c.in_ok-history.ensures (c.go_along.ensures c.args.src.now c.args.hist.now symbols _)

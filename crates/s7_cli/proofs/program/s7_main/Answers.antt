@@ -42,18 +42,24 @@ pub returns-in-Err-clause-table : goal.returns-in-Err-clause-table
 returns-in-Err-clause-table g c = c.end_command-in-Err.ensures.table _ _ _ (words-unread _ _ _)
 
 -- what was read is what the words ask for
-pub carry_out-requires : goal.carry_out-requires
-carry_out-requires g c =
+pub carry_out-requires-clause-limits : goal.carry_out-requires-clause-limits
+carry_out-requires-clause-limits g c κs within =
     read-limits _ _ (sym (ap (option_map command_value) c.in-Ok-Some.field-0-is) ∙ c.in-Ok-Some.ensures)
 
 pub returns-in-Ok-Some-clause-ends : goal.returns-in-Ok-Some-clause-ends
 returns-in-Ok-Some-clause-ends g c =
     let is : Some (command_value c.in-Ok-Some.asked) ≡ command_of (map string_bytes c.args.words.now) =
     sym (ap (option_map command_value) c.in-Ok-Some.field-0-is) ∙ c.in-Ok-Some.ensures in
-    subst (λ (k : Option Command). Ended k _ _ c.carry_out.result.code) is c.carry_out.ensures.ends
+    subst
+    (λ (k : Option Command). Ended k (disk (g.F.Files.shown c.args.files.now) (g.F.Files.shown c.carry_out.new.files))
+    (taking (g.K.Sink.shown c.args.out.now) (g.K.Sink.shown c.carry_out.new.out)) c.carry_out.result.code)
+    is c.carry_out.ensures.ends
 
 pub returns-in-Ok-Some-clause-table : goal.returns-in-Ok-Some-clause-table
 returns-in-Ok-Some-clause-table g c =
     let is : Some (command_value c.in-Ok-Some.asked) ≡ command_of (map string_bytes c.args.words.now) =
     sym (ap (option_map command_value) c.in-Ok-Some.field-0-is) ∙ c.in-Ok-Some.ensures in
-    subst (λ (k : Option Command). StatusTable k _ _ c.carry_out.result.code) is c.carry_out.ensures.table
+    subst
+    (λ (k : Option Command). StatusTable k (disk (g.F.Files.shown c.args.files.now) (g.F.Files.shown c.carry_out.new.files))
+    (taking (g.K.Sink.shown c.args.out.now) (g.K.Sink.shown c.carry_out.new.out)) c.carry_out.result.code)
+    is c.carry_out.ensures.table

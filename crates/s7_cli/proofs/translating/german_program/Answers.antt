@@ -2,6 +2,7 @@ use Rattle.std.proofs.Common.{◌∙◌, true, ap, sym, subst, List, ℕ, Err}
 use Rattle.std.proofs.lemmas.Result.{err_from_is_err_and}
 use Rattle.plc_base.specs.declared.Profile.TheVariants.{Large}
 use Rattle.sem_kept.specs.Agreement.{AreFiles, KeepsSourceIn}
+use Rattle.sem_kept.specs.Compiles.{CompilesTo}
 use Rattle.stl_symbols.specs.declared.languages.Language.TheVariants.{German}
 use Rattle.s7_cli.specs.Texts.{symbols_of}
 use Rattle.s7_cli.specs.Translating.{IsEnglish}
@@ -44,3 +45,15 @@ program_with-requires-clause-read c = (
       (subst (λ (t : List ℕ). AreFiles t c.symbols.result.now) (c.deref.ensures.value ∙ sym c.deref-2.ensures.value) c.law_of_files.ensures),
   c.in_ok-source.ensures.symbols,
 )
+
+pub returns-clause-made : goal.returns-clause-made
+unfolding returns-clause-keeps
+returns-clause-made c =
+    let given : List ℕ = symbols_of c.args.text.now in
+    let kept = returns-clause-keeps c in (
+      kept.0,
+      kept.1,
+      kept.2,
+      subst (λ (t : List ℕ). CompilesTo German t given c.in_ok-program_with.field-0) c.deref-2.ensures.value
+          (c.in_ok-program_with.ensures.compiles German given c.in_ok-source.ensures.symbols),
+    )

@@ -5,7 +5,7 @@ use Rattle.s7_cli.proofs.translating.image_german.Goals as goal
 
 pub returns-clause-keeps : goal.returns-clause-keeps
 returns-clause-keeps c =
-    let kept = c.in_ok-program.ensures.keeps in (
+    let kept = c.in_ok-program.ensures.made in (
       kept.0,
       kept.1,
       (
@@ -16,5 +16,6 @@ returns-clause-keeps c =
           keeps = kept.2;
         },
         refl,
+        kept.3,
       ),
     )

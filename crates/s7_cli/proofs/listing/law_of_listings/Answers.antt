@@ -1,0 +1,8 @@
+use Rattle.s7_cli.proofs.ListLemmas.{give-images, give-programs}
+use Rattle.s7_cli.proofs.listing.law_of_listings.Goals as goal
+
+pub returns-clause-programs : goal.returns-clause-programs
+returns-clause-programs c = give-programs c.law_of_programs.ensures.one
+
+pub returns-clause-images : goal.returns-clause-images
+returns-clause-images c = give-images c.law_of_programs.ensures.one c.one_program.ensures.one

@@ -1,0 +1,64 @@
+-- What `list` answers for what its file holds, and what it writes.
+use Rattle.std.specs.Prelude.{◌≡◌, ◌<◌, ◌≤◌, ◌⊎◌, ℕ, List, length, Result, Ok, Err}
+use Rattle.flat_code.specs.Programs.{Program}
+use Rattle.image_file.specs.Loaded.{LoadedProgram}
+use Rattle.image_file.specs.declared.faults.LoadFault.{LoadFault}
+use Rattle.sem_kept.specs.Compiles.{CompilesTo}
+use Rattle.stl_list.specs.Listing.{listed_source}
+use Rattle.stl_list.specs.Symbols.{listed_names}
+use Rattle.stl_symbols.specs.declared.languages.Language.TheVariants.{English}
+use Rattle.s7_cli.specs.declared.failures.File.TheVariants.{Listing}
+use Rattle.s7_cli.specs.Answer.{Answer, done, no_listing, refused_image, too_long}
+use Rattle.s7_cli.specs.Command.{limit_of}
+use Rattle.s7_cli.specs.Lines.{ok_line}
+use Rattle.s7_cli.specs.Loads.{LoadsAs}
+
+-- a text of the listing of a program is longer than it may be
+abbrev pub IsLongListing : Program → Type 0
+IsLongListing p =
+    (limit_of Listing < length (listed_source p)) ⊎ (limit_of Listing < length (listed_names p.names))
+
+-- neither is
+pub record IsShortListing (p : Program) : Type 0 where
+  pub source : length (listed_source p) ≤ limit_of Listing
+  pub symbols : length (listed_names p.names) ≤ limit_of Listing
+
+-- the source that is listed of a program compiles to it, with the names that are listed
+abbrev pub HasListing : Program → Type 0
+HasListing p = CompilesTo English (listed_source p) (listed_names p.names) p
+
+-- its length is judged first, and then the listing is compiled
+abbrev pub ListedAnswer : Program → Answer → Type 0
+ListedAnswer p answer =
+    (IsLongListing p × (answer ≡ too_long Listing))
+    ⊎ (IsShortListing p × (HasListing p → ⊥) × (answer ≡ no_listing))
+    ⊎ (IsShortListing p × HasListing p × (answer ≡ done ok_line))
+
+-- the image is loaded before
+abbrev pub ListAnswer : Result LoadedProgram LoadFault → Answer → Type 0
+ListAnswer (Err fault) answer = answer ≡ refused_image fault
+ListAnswer (Ok l) answer = ListedAnswer l.program answer
+
+-- what `list` answers, over the contents of its file
+abbrev pub ListSays : (image : List ℕ) → Answer → Type 0
+ListSays image answer =
+    (loaded : Result LoadedProgram LoadFault) × LoadsAs image loaded × ListAnswer loaded answer
+
+-- these are the texts of the listing of a program, which compile to it
+pub record IsListing (source symbols : List ℕ) (p : Program) : Type 0 where
+  pub source_is : source ≡ listed_source p
+  pub symbols_are : symbols ≡ listed_names p.names
+  pub short : IsShortListing p
+  pub compiles : HasListing p
+
+-- of the program as which an image loads
+abbrev pub IsListingOf : (source symbols image : List ℕ) → Type 0
+IsListingOf source symbols image =
+    (l : LoadedProgram) × LoadsAs image (Ok l) × IsListing source symbols l.program
+
+-- what is written to a file: its source to the one, its names to the other
+abbrev pub IsListed : (source symbols image name bytes : List ℕ) → Type 0
+IsListed source symbols image name bytes =
+    (l : LoadedProgram) × LoadsAs image (Ok l) × HasListing l.program
+    × (((name ≡ source) × (bytes ≡ listed_source l.program))
+    ⊎ ((name ≡ symbols) × (bytes ≡ listed_names l.program.names)))
