@@ -41,7 +41,7 @@ def image_of(blocks, data_blocks, names):
     return b"S7FB" + header + b"".join(records)
 
 
-def records(rows):
+def records_of(rows):
     return [bytes.fromhex(row) for row in rows]
 
 
@@ -78,7 +78,7 @@ CALLED_BLOCKS = [
     code_block(3, 769, CALLED_PARAMS, 0, 38, RETURN, [14]),
     code_block(3, 770, "", 0, 0, RETURN, [15]),
 ]
-CALLED_DATA = records(["0105 0302 0026 0000" + 38 * "00", "0106 0303 0000 0000", RECIPE_RECORD])
+CALLED_DATA = records_of(["0105 0302 0026 0000" + 38 * "00", "0106 0303 0000 0000", RECIPE_RECORD])
 
 # A parameter of each width and section, the return value, and temporary variables at 0.0, 1, 2 and 4.
 FUNCTION_HEAD = """FUNCTION FC 1 : INT
@@ -123,7 +123,7 @@ Fill,FC 2,FC 2,
 Mixer,FB 3,FB 3,
 Mixer 1,DB 4,FB 3,
 """
-NAMES = records([
+NAMES = records_of([
     # CODE, LAMP, MARK, START, TOTAL, VALVE
     "04 434F4445 81 02 0005 00",
     "04 4C414D50 82 01 0004 03",
@@ -139,7 +139,7 @@ BEGIN END_FUNCTION_BLOCK
 DATA_BLOCK DB 4 FB 3 BEGIN END_DATA_BLOCK
 """
 NAMED_BLOCKS = [code_block(2, 2, "", 0, 0, RETURN, [2]), code_block(3, 3, "01 01 0000 00 00", 0, 2, RETURN, [5])]
-NAMED_DATA = records(["0004 0004 0002 0000 0000", RECIPE_RECORD])
+NAMED_DATA = records_of(["0004 0004 0002 0000 0000", RECIPE_RECORD])
 
 OB_HEAD = "ORGANIZATION_BLOCK OB 1\nBEGIN\n"
 TEMP_HEAD = "ORGANIZATION_BLOCK OB 1\nVAR_TEMP\nfirst : ARRAY [0..19] OF BYTE;\nbits : ARRAY [0..9] OF BOOL;\nlong : DINT;\nEND_VAR\nBEGIN\n"
@@ -321,7 +321,7 @@ ROWS = [
         CALLER,
         [
             (
-                "CALL FC 515 (start := I 0.0, number := 7, code := MW 10, total := DB300.sum, RET_VAL := MB 16);",
+                "CALL FC 515 (start := I 0.0, number := 7, code := MW 10, total := DB300.DBD 4, RET_VAL := MB 16);",
                 "04 0B 00 02 81 01 0000 00, 04 0B 01 01 00000007, 04 0B 02 02 83 03 000A 00, 04 0B 03 0C 012C 84 04 0004 00,"
                 " 04 0B 04 02 83 02 0010 00, F8 0D 02 0203 0000",
             ),
@@ -389,6 +389,17 @@ ROWS = [
     ),
     (
         3,
+        FUNCTION,
+        [
+            ("CALL SFC 41 (RET_VAL := #RET_VAL);", "04 0B 00 05 0C 03, F8 0D 05 0029 0000"),
+            (
+                "CALL FC 515 (start := #io_bit, number := #RET_VAL, code := #io_word, total := #out_dword, RET_VAL := #out_byte);",
+                "04 0B 00 05 08 01, 04 0B 01 05 0C 03, 04 0B 02 05 0A 03, 04 0B 03 05 07 04, 04 0B 04 05 05 02, F8 0D 02 0203 0000",
+            ),
+        ],
+    ),
+    (
+        3,
         BLOCK,
         calls_of_fb([
             ("in_bool := #in_next", "04 0B 00 02 85 01 0000 01"),
@@ -399,6 +410,17 @@ ROWS = [
             ("in_word := #stat_word", "04 0B 03 02 85 03 001A 00"),
             ("out_byte := #temp_byte", "04 0B 0A 02 86 02 0001 00"),
         ]),
+    ),
+    (
+        3,
+        BLOCK,
+        [
+            (
+                "CALL FC 515 (start := #in_bit, number := 3, code := #out_word, total := #io_dword, RET_VAL := #stat_byte);",
+                "04 0B 00 02 85 01 0000 00, 04 0B 01 01 00000003, 04 0B 02 02 85 03 000A 00, 04 0B 03 02 85 04 0014 00,"
+                " 04 0B 04 02 85 02 0019 00, F8 0D 02 0203 0000",
+            ),
+        ],
     ),
     (
         4,
@@ -1144,9 +1166,11 @@ ROWS = [
             ("+AR1;", "B7 00"),
             ("+AR1 P#2.0;", "B7 01 00000010"),
             ("+AR1 P#65535.7;", "B7 01 0007FFFF"),
+            ("+AR1 P#M 2.0;", "B7 01 83000010"),
             ("+AR2;", "B8 00"),
             ("+AR2 P#0.1;", "B8 01 00000001"),
             ("+AR2 P#4096.0;", "B8 01 00008000"),
+            ("+AR2 P#L 0.1;", "B8 01 86000001"),
         ],
     ),
     (21, OB, [("TAK;", "B9 00"), ("PUSH;", "BA 00"), ("POP;", "BB 00"), ("CAW;", "BC 00"), ("CAD;", "BD 00")]),
