@@ -8,7 +8,8 @@ line each, and between their ops; `, ` between the ops of one statement.
 What stands round the ops in the image (header, heads of blocks, parameters, lines, data blocks, names) is put together below by "Image of a program"
 of docs/FORMATS.md. `upgrade` then reads the image, so that the ops are decoded too, and writes the same bytes again: the image is of version 2.
 
-OP_TABLE holds the table once more, typed from the document: a code or form of it without a row, or an op of a row that it lacks, is a difference."""
+OP_TABLE holds the table once more, typed from the document, and OPERANDS what its forms take: what has no row, or a row with an op that isn't in the
+table, is a difference."""
 import struct
 from collections import namedtuple
 from itertools import product
@@ -1453,27 +1454,31 @@ UNWRITTEN = [
     (37, OB, "FE 0E 01 0000 | FE 0E 02 FFFF"),
 ]
 
-# The table of codes: a line's number, codes of it, and their forms.
+# The table of codes: a line's number, codes of it, and how their forms and payloads begin. Each code has a row for each beginning.
+FIXED = "0281 0282 0283 0284 0285 0286"
+BIT = f"{FIXED} 03 0400 048 05"
+TIMER, COUNTER = "0601 0701", "0602 0702"
 OP_TABLE = [
     (1, "01 03", "01"),
     (2, "02", "0A"),
     (3, "04", "0B"),
     (4, "05 06 07 08", "00"),
-    (5, "10 11 12 13 14 15", "02 03 04 05 06 07 09"),
+    (5, "10 11 12 13 14 15", f"{BIT} {TIMER} {COUNTER} 09"),
     (6, "16", "00"),
     (7, "17 40", "01"),
     (8, "18 19 1A 1B 1C 1D 1E", "00"),
-    (9, "20", "01 02 03 04 05 06 07"),
-    (9, "21", "02 03 04 05"),
-    (10, "22", "02 03 04 05"),
-    (11, "23 24", "02 03 04 05 06 07"),
-    (12, "25 26", "02 03 04 05"),
+    (9, "20", f"01 0280 {BIT} {TIMER} {COUNTER}"),
+    (9, "21", f"0280 {BIT}"),
+    (10, "22", BIT),
+    (11, "23", f"{BIT} {COUNTER}"),
+    (11, "24", f"{BIT} {TIMER} {COUNTER}"),
+    (12, "25 26", BIT),
     (13, "27 28 29 2A", "00"),
-    (14, "2B", "06 07"),
+    (14, "2B", f"{TIMER} {COUNTER}"),
     (15, "2C 2D", "00"),
-    (16, "2E", "01"),
-    (17, "30 31", "00 01 02"),
-    (18, "32 33", "00 02"),
+    (16, "2E", "0100000000 0100000001 0100000002 0100000003"),
+    (17, "30 31", f"00 01 0280 {FIXED}"),
+    (18, "32 33", f"00 0280 {FIXED}"),
     (19, "34 35 36", "00"),
     (20, "37 38", "00 01"),
     (21, "39 3A 3B 3C 3D", "00"),
@@ -1487,12 +1492,13 @@ OP_TABLE = [
     (29, "65 67 68", "00 01"),
     (30, "66 69 6A 6B 6C", "00 01"),
     (31, "6D 6E", "00"),
-    (32, "6F", "08"),
-    (33, "70 71 72 73 74 75", "06 07"),
-    (34, "76 77", "06 07"),
-    (35, "78 79 7A", "0D"),
+    (32, "6F", "0800 0801 0802 0803 0804 0805 0806 0807 0808 0809 080A 080B 080C 080D 080E 080F 0810 0811"),
+    (33, "70 71 72 73 74", TIMER),
+    (33, "75", f"{TIMER} {COUNTER}"),
+    (34, "76 77", COUNTER),
+    (35, "78 79 7A", "0D02 0D03 0D05"),
     (36, "7B 7C 7D", "00"),
-    (37, "7E", "0E 0F"),
+    (37, "7E", "0E01 0E02 0F01 0F02"),
     (37, "7F", "00"),
 ]
 
@@ -1509,14 +1515,10 @@ OPERANDS = [
     ("04", (0, 1), ("00 " + PLACES, WIDTHS)),
     ("04", (0, 2), ("00 " + PLACES, "01 02")),
     ("05", (1,), (WIDTHS,)),
-    ("06", (0,), ("01 02",)),
     ("07", (0, 1), ("01 02", POINTERS)),
-    ("08", (0,), ("00 01 02 03 04 05 06 07 08 09 0A 0B 0C 0D 0E 0F 10 11",)),
     ("09", (0,), ("01 02 03 04 05 06 07 08 09 0A",)),
     ("0B", (1,), ("01 05 0C",)),
     ("0B", (1, 2), ("02", "80 " + PLACES)),
-    ("0D", (0,), ("02 03 05",)),
-    ("0E", (0,), ("01 02",)),
     ("0F", (0, 1), ("01 02", POINTERS)),
 ]
 
@@ -1573,32 +1575,26 @@ def unwritten(number, place, ops):
     return Case(f"line {number} without a source: {ops[:80]}", {"image": image}, [Call("upgrade image again", 0, "OK\n", {"again": image})])
 
 
-def shown(pairs):
-    return ", ".join(sorted(" ".join(f"{number:02X}" for number in pair) for pair in pairs))
-
-
 def codes_have_rows(_):
-    """Each code stands in a row with each of its forms, and no row has an op of no form."""
-    lines = sorted({number for number, _, _ in OP_TABLE} | {number for number, _, _ in ROWS})
-    for line in lines:
-        wanted = {pair for number, codes, forms in OP_TABLE if number == line for pair in product(bytes.fromhex(codes), bytes.fromhex(forms))}
-        found = {(op[0] & 0x7F, op[1]) for op in all_ops(line)}
-        if wanted - found:
-            raise Differs(f"no row of line {line} has code and form {shown(wanted - found)}")
-    known = {pair for _, codes, forms in OP_TABLE for pair in product(bytes.fromhex(codes), bytes.fromhex(forms))}
-    found = {(op[0] & 0x7F, op[1]) for line in lines for op in all_ops(line)}
-    if found - known:
-        raise Differs(f"rows have code and form {shown(found - known)}, which the table lacks")
+    """Each code stands in a row of its line with each beginning of its operand, and no row has an op that begins in no such way."""
+    found = {line: {(f"{op[0] & 0x7F:02X}", op[1:].hex().upper()) for op in all_ops(line)} for line, _, _ in ROWS}
+    wanted = [(line, code, begin) for line, codes, begins in OP_TABLE for code, begin in product(codes.split(), begins.split())]
+    for line, code, begin in wanted:
+        if not any(known == code and rest.startswith(begin) for known, rest in found.get(line, ())):
+            raise Differs(f"no row of line {line} has code {code} with {begin}")
+    for code, rest in set().union(*found.values()):
+        if not any(known == code and rest.startswith(begin) for _, known, begin in wanted):
+            raise Differs(f"rows have code {code} with {rest}, which the table lacks")
 
 
 def operands_have_rows(_):
-    """Each area, width, register, kind and condition stands in a row."""
-    ops = [op for number, _, _ in OP_TABLE for op in all_ops(number)]
+    """Each area, width, bit, register and condition stands in a row, and what is passed in each form."""
+    ops = [op for line in sorted({line for line, _, _ in ROWS}) for op in all_ops(line)]
     for form, places, values in OPERANDS:
         found = {tuple(op[2 + place] for place in places) for op in ops if op[1] == int(form, 16)}
-        missing = set(product(*map(bytes.fromhex, values))) - found
-        if missing:
-            raise Differs(f"no row has form {form} with {shown(missing)} as its bytes {places}")
+        for wanted in product(*map(bytes.fromhex, values)):
+            if wanted not in found:
+                raise Differs(f"no row has form {form} with {bytes(wanted).hex().upper()} in the bytes {places} of its payload")
 
 
 CASES = [
