@@ -1,5 +1,6 @@
 -- Numbers that are printed are read.
-use Rattle.std.proofs.Common.{◌≡◌, ◌≤◌, ◌<◌, ◌+◌, ◌-◌, ◌*◌, ◌/◌, ◌%◌, ◌^◌, ℕ, zero, suc, true, eqb, List, [], ◌∷◌, ◌++◌, length, Some, refl, ◌∙◌, arith, decimal, nat_le, fold}
+use Rattle.std.proofs.Common.{◌≡◌, ◌≤◌, ◌<◌, ◌+◌, ◌-◌, ◌*◌, ◌/◌, ◌%◌, ◌^◌, ℕ, zero, suc, true, eqb, List, [], ◌∷◌, ◌++◌, length, Some, refl, ◌∙◌, arith, decimal, nat_le, fold, ap, ℤ, pos, negsuc, Bool, false}
+use Rattle.std.specs.Prelude.{nat_lt, ◌-ℤ◌, if◌then◌else◌}
 use Rattle.std.specs.Char.{is_ascii_digit}
 use Rattle.std.specs.List.{list_all}
 use Rattle.std.proofs.lemmas.Fmt.{decimal_by_steps}
@@ -58,3 +59,11 @@ number_read most n fits small =
     let is : is_decimal (decimal n) ≡ true = decimal-is (decimal n) d.some d.digits in
     let a : nat_le n most ≡ true = grind (arith, nat_tests) in
     rw (is, d.value, a) refl
+
+-- a number below 0 by its distance from it
+pub minus : (n : ℕ) → pos 0 -ℤ pos (suc n) ≡ negsuc n
+minus n = by (nat_lt 0 (suc n)) (suc n - 1) (grind (arith, nat_tests)) (omega arith)
+  where
+    by : (b : Bool) (m : ℕ) → b ≡ true → m ≡ n → (if b then negsuc m else pos (0 - suc n)) ≡ negsuc n
+    by true m is e = ap negsuc e
+    by false m is e = absurd cc
