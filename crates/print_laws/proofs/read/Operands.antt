@@ -4,6 +4,7 @@ use Rattle.std.specs.Option.{option_map, option_or, option_and_then}
 use Rattle.std.specs.Str.{str_eq_ignore_ascii_case}
 use Rattle.std.specs.Prelude.{◌⊎◌, codes, nat_le, decimal}
 use Rattle.std.proofs.lemmas.Bool.Decides.{nat_tests}
+use Rattle.std.proofs.lemmas.Fmt.{decimal_by_steps}
 use Rattle.plc_base.specs.Decimal.{decimal_up_to}
 use Rattle.plc_base.specs.declared.blocks.BlockId.{BlockId}
 use Rattle.plc_base.specs.declared.blocks.BlockKind.TheVariants as kinds
@@ -297,6 +298,15 @@ number_by_read source from line g numbered_kind.Di place byte holds h (_, x1, (_
 eighths : (bits : ℕ) → 8 * (bits / 8) + bits % 8 ≡ bits
 eighths bits = omega arith
 
+small_decimal : (n : ℕ) → n < 10 → decimal n ≡ (48 + n) ∷ []
+small_decimal n h = decimal_by_steps (λ m ds. m < 10 → ds ≡ (48 + m) ∷ []) (λ m k l. refl) (λ m ds k is l. absurd (omega arith)) n (omega arith) h
+
+first_text : codes "AR" ++ decimal 1 ≡ codes "AR1"
+first_text = ap (λ (l : List ℕ). codes "AR" ++ l) (small_decimal 1 (omega arith))
+
+second_text : codes "AR" ++ decimal 2 ≡ codes "AR2"
+second_text = ap (λ (l : List ℕ). codes "AR" ++ l) (small_decimal 2 (omega arith))
+
 -- an address register is no address
 no_register : (rest : List Token) → glued_at addresses (codes "AR1") rest ≡ None
 unfolding glued_at look_up addresses
@@ -329,33 +339,50 @@ letter_unknown width.Byte = refl
 letter_unknown width.Word = refl
 letter_unknown width.Dword = refl
 
+first_register_read : (source : List ℕ) (from line : ℕ) (g : _) (area : Option Letters) (w : Width) (bits : ℕ)
+    → IsAreaOf area w → bits < 8 * 65536 → Texts source from line (register_pieces g area w 1 bits)
+    → operand_of source (tokens_of from line (register_pieces g area w 1 bits)) ≡ Some (operand.ByRegister area w 1 bits)
+unfolding operand_of literal_of literal_at literal_token truth_of long_literal signed_at is_mark is_key has_kind key_text mark_text operand_by_kind word_operand alone_of with_number address_at numbered_at separate_at number_of number_up_to register_pieces width_letter with_pointer indirect_of area_by memory_pointer pointer_end pointer_close number_by by_register register_pointer register_of offset_of bit_of mark_operand sized_by_register
+first_register_read source from line g (Some area) w bits is h (_, x1, (_, x2, (_, x3, (_, x4, (_, x5, (_, x6, (_, x7, (_, x8, (_, x9, _))))))))) =
+    let l : AreLetters (address_letters area w) (address.Area area w) = letters_found area w is in
+    rw (x1, l.no_true, l.no_false, no_glue l, l.table, x2, x3 ∙ first_text, no_register, no_word, x4, x9, x5, x6, read_number (bits / 8) (omega (arith, h)), x7, x8, read_number (bits % 8) (omega arith), at_most (bits % 8) 7 (omega arith), eighths bits) refl
+first_register_read source from line g None width.Bit bits is h (_, x1, (_, x2, (_, x3, (_, x4, (_, x5, (_, x6, (_, x7, (_, x8, _)))))))) =
+    rw (x1, x3, x8, x2 ∙ first_text, x4, x5, read_number (bits / 8) (omega (arith, h)), x6, x7, read_number (bits % 8) (omega arith), at_most (bits % 8) 7 (omega arith), eighths bits) refl
+first_register_read source from line g None width.Byte bits is h (_, x1, (_, x2, (_, x3, (_, x4, (_, x5, (_, x6, (_, x7, (_, x8, (_, x9, _))))))))) =
+    rw (x1, no_letter width.Byte, letter_unknown width.Byte, x2, x4, x9, x3 ∙ first_text, x5, x6, read_number (bits / 8) (omega (arith, h)), x7, x8, read_number (bits % 8) (omega arith), at_most (bits % 8) 7 (omega arith), eighths bits) refl
+first_register_read source from line g None width.Word bits is h (_, x1, (_, x2, (_, x3, (_, x4, (_, x5, (_, x6, (_, x7, (_, x8, (_, x9, _))))))))) =
+    rw (x1, no_letter width.Word, letter_unknown width.Word, x2, x4, x9, x3 ∙ first_text, x5, x6, read_number (bits / 8) (omega (arith, h)), x7, x8, read_number (bits % 8) (omega arith), at_most (bits % 8) 7 (omega arith), eighths bits) refl
+first_register_read source from line g None width.Dword bits is h (_, x1, (_, x2, (_, x3, (_, x4, (_, x5, (_, x6, (_, x7, (_, x8, (_, x9, _))))))))) =
+    rw (x1, no_letter width.Dword, letter_unknown width.Dword, x2, x4, x9, x3 ∙ first_text, x5, x6, read_number (bits / 8) (omega (arith, h)), x7, x8, read_number (bits % 8) (omega arith), at_most (bits % 8) 7 (omega arith), eighths bits) refl
+
+second_register_read : (source : List ℕ) (from line : ℕ) (g : _) (area : Option Letters) (w : Width) (bits : ℕ)
+    → IsAreaOf area w → bits < 8 * 65536 → Texts source from line (register_pieces g area w 2 bits)
+    → operand_of source (tokens_of from line (register_pieces g area w 2 bits)) ≡ Some (operand.ByRegister area w 2 bits)
+unfolding operand_of literal_of literal_at literal_token truth_of long_literal signed_at is_mark is_key has_kind key_text mark_text operand_by_kind word_operand alone_of with_number address_at numbered_at separate_at number_of number_up_to register_pieces width_letter with_pointer indirect_of area_by memory_pointer pointer_end pointer_close number_by by_register register_pointer register_of offset_of bit_of mark_operand sized_by_register
+second_register_read source from line g (Some area) w bits is h (_, x1, (_, x2, (_, x3, (_, x4, (_, x5, (_, x6, (_, x7, (_, x8, (_, x9, _))))))))) =
+    let l : AreLetters (address_letters area w) (address.Area area w) = letters_found area w is in
+    rw (x1, l.no_true, l.no_false, no_glue l, l.table, x2, x3 ∙ second_text, no_second, no_second_word, x4, x9, x5, x6, read_number (bits / 8) (omega (arith, h)), x7, x8, read_number (bits % 8) (omega arith), at_most (bits % 8) 7 (omega arith), eighths bits) refl
+second_register_read source from line g None width.Bit bits is h (_, x1, (_, x2, (_, x3, (_, x4, (_, x5, (_, x6, (_, x7, (_, x8, _)))))))) =
+    rw (x1, x3, x8, x2 ∙ second_text, x4, x5, read_number (bits / 8) (omega (arith, h)), x6, x7, read_number (bits % 8) (omega arith), at_most (bits % 8) 7 (omega arith), eighths bits) refl
+second_register_read source from line g None width.Byte bits is h (_, x1, (_, x2, (_, x3, (_, x4, (_, x5, (_, x6, (_, x7, (_, x8, (_, x9, _))))))))) =
+    rw (x1, no_letter width.Byte, letter_unknown width.Byte, x2, x4, x9, x3 ∙ second_text, x5, x6, read_number (bits / 8) (omega (arith, h)), x7, x8, read_number (bits % 8) (omega arith), at_most (bits % 8) 7 (omega arith), eighths bits) refl
+second_register_read source from line g None width.Word bits is h (_, x1, (_, x2, (_, x3, (_, x4, (_, x5, (_, x6, (_, x7, (_, x8, (_, x9, _))))))))) =
+    rw (x1, no_letter width.Word, letter_unknown width.Word, x2, x4, x9, x3 ∙ second_text, x5, x6, read_number (bits / 8) (omega (arith, h)), x7, x8, read_number (bits % 8) (omega arith), at_most (bits % 8) 7 (omega arith), eighths bits) refl
+second_register_read source from line g None width.Dword bits is h (_, x1, (_, x2, (_, x3, (_, x4, (_, x5, (_, x6, (_, x7, (_, x8, (_, x9, _))))))))) =
+    rw (x1, no_letter width.Dword, letter_unknown width.Dword, x2, x4, x9, x3 ∙ second_text, x5, x6, read_number (bits / 8) (omega (arith, h)), x7, x8, read_number (bits % 8) (omega arith), at_most (bits % 8) 7 (omega arith), eighths bits) refl
+
 pub register_read : (source : List ℕ) (from line : ℕ) (g : _) (area : Option Letters) (w : Width) (register bits : ℕ)
     → IsAreaOf area w → (register ≡ 1) ⊎ (register ≡ 2) → bits < 8 * 65536
     → Texts source from line (register_pieces g area w register bits)
     → operand_of source (tokens_of from line (register_pieces g area w register bits)) ≡ Some (operand.ByRegister area w register bits)
-unfolding operand_of literal_of literal_at literal_token truth_of long_literal signed_at is_mark is_key has_kind key_text mark_text operand_by_kind word_operand alone_of with_number address_at numbered_at separate_at number_of number_up_to register_pieces width_letter with_pointer indirect_of area_by memory_pointer pointer_end pointer_close number_by by_register register_pointer register_of offset_of bit_of mark_operand sized_by_register
-register_read source from line g (Some area) w register bits is (inl e) h (_, x1, (_, x2, (_, x3, (_, x4, (_, x5, (_, x6, (_, x7, (_, x8, (_, x9, _))))))))) =
-    let l : AreLetters (address_letters area w) (address.Area area w) = letters_found area w is in
-    rw (x1, l.no_true, l.no_false, no_glue l, l.table, x2, x3, e, no_register, no_word, x4, x9, x5, x6, read_number (bits / 8) (omega (arith, h)), x7, x8, read_number (bits % 8) (omega arith), at_most (bits % 8) 7 (omega arith), eighths bits) refl
-register_read source from line g None width.Bit register bits is (inl e) h (_, x1, (_, x2, (_, x3, (_, x4, (_, x5, (_, x6, (_, x7, (_, x8, _)))))))) =
-    rw (x1, x3, x8, x2, e, x4, x5, read_number (bits / 8) (omega (arith, h)), x6, x7, read_number (bits % 8) (omega arith), at_most (bits % 8) 7 (omega arith), eighths bits) refl
-register_read source from line g None width.Byte register bits is (inl e) h (_, x1, (_, x2, (_, x3, (_, x4, (_, x5, (_, x6, (_, x7, (_, x8, (_, x9, _))))))))) =
-    rw (x1, no_letter width.Byte, letter_unknown width.Byte, x2, x4, x9, x3, e, x5, x6, read_number (bits / 8) (omega (arith, h)), x7, x8, read_number (bits % 8) (omega arith), at_most (bits % 8) 7 (omega arith), eighths bits) refl
-register_read source from line g None width.Word register bits is (inl e) h (_, x1, (_, x2, (_, x3, (_, x4, (_, x5, (_, x6, (_, x7, (_, x8, (_, x9, _))))))))) =
-    rw (x1, no_letter width.Word, letter_unknown width.Word, x2, x4, x9, x3, e, x5, x6, read_number (bits / 8) (omega (arith, h)), x7, x8, read_number (bits % 8) (omega arith), at_most (bits % 8) 7 (omega arith), eighths bits) refl
-register_read source from line g None width.Dword register bits is (inl e) h (_, x1, (_, x2, (_, x3, (_, x4, (_, x5, (_, x6, (_, x7, (_, x8, (_, x9, _))))))))) =
-    rw (x1, no_letter width.Dword, letter_unknown width.Dword, x2, x4, x9, x3, e, x5, x6, read_number (bits / 8) (omega (arith, h)), x7, x8, read_number (bits % 8) (omega arith), at_most (bits % 8) 7 (omega arith), eighths bits) refl
-register_read source from line g (Some area) w register bits is (inr e) h (_, x1, (_, x2, (_, x3, (_, x4, (_, x5, (_, x6, (_, x7, (_, x8, (_, x9, _))))))))) =
-    let l : AreLetters (address_letters area w) (address.Area area w) = letters_found area w is in
-    rw (x1, l.no_true, l.no_false, no_glue l, l.table, x2, x3, e, no_second, no_second_word, x4, x9, x5, x6, read_number (bits / 8) (omega (arith, h)), x7, x8, read_number (bits % 8) (omega arith), at_most (bits % 8) 7 (omega arith), eighths bits) refl
-register_read source from line g None width.Bit register bits is (inr e) h (_, x1, (_, x2, (_, x3, (_, x4, (_, x5, (_, x6, (_, x7, (_, x8, _)))))))) =
-    rw (x1, x3, x8, x2, e, x4, x5, read_number (bits / 8) (omega (arith, h)), x6, x7, read_number (bits % 8) (omega arith), at_most (bits % 8) 7 (omega arith), eighths bits) refl
-register_read source from line g None width.Byte register bits is (inr e) h (_, x1, (_, x2, (_, x3, (_, x4, (_, x5, (_, x6, (_, x7, (_, x8, (_, x9, _))))))))) =
-    rw (x1, no_letter width.Byte, letter_unknown width.Byte, x2, x4, x9, x3, e, x5, x6, read_number (bits / 8) (omega (arith, h)), x7, x8, read_number (bits % 8) (omega arith), at_most (bits % 8) 7 (omega arith), eighths bits) refl
-register_read source from line g None width.Word register bits is (inr e) h (_, x1, (_, x2, (_, x3, (_, x4, (_, x5, (_, x6, (_, x7, (_, x8, (_, x9, _))))))))) =
-    rw (x1, no_letter width.Word, letter_unknown width.Word, x2, x4, x9, x3, e, x5, x6, read_number (bits / 8) (omega (arith, h)), x7, x8, read_number (bits % 8) (omega arith), at_most (bits % 8) 7 (omega arith), eighths bits) refl
-register_read source from line g None width.Dword register bits is (inr e) h (_, x1, (_, x2, (_, x3, (_, x4, (_, x5, (_, x6, (_, x7, (_, x8, (_, x9, _))))))))) =
-    rw (x1, no_letter width.Dword, letter_unknown width.Dword, x2, x4, x9, x3, e, x5, x6, read_number (bits / 8) (omega (arith, h)), x7, x8, read_number (bits % 8) (omega arith), at_most (bits % 8) 7 (omega arith), eighths bits) refl
+register_read source from line g area w register bits is (inl e) h t =
+    subst (λ (r : ℕ). Texts source from line (register_pieces g area w r bits)
+    → operand_of source (tokens_of from line (register_pieces g area w r bits)) ≡ Some (operand.ByRegister area w r bits)) (sym e)
+    (λ u. first_register_read source from line g area w bits is h u) t
+register_read source from line g area w register bits is (inr e) h t =
+    subst (λ (r : ℕ). Texts source from line (register_pieces g area w r bits)
+    → operand_of source (tokens_of from line (register_pieces g area w r bits)) ≡ Some (operand.ByRegister area w r bits)) (sym e)
+    (λ u. second_register_read source from line g area w bits is h u) t
 
 pub pointer_read : (source : List ℕ) (from line : ℕ) (g : _) (area : Option Letters) (byte bit : ℕ) → IsAreaOf area width.Bit → byte ≤ 65535 → bit ≤ 7
     → Texts source from line (pointer g area byte bit)
