@@ -1,3 +1,5 @@
 pub mod Numbers
 pub mod Constants
 pub mod Operands
+pub mod Shown
+pub mod Words

@@ -191,6 +191,7 @@ syntax_of code.XOpen = bracket
 syntax_of code.XnOpen = bracket
 syntax_of code.McrOpen = bracket
 syntax_of code.McrClose = bracket
+syntax_of code.Close = bracket
 syntax_of code.Ju = jump
 syntax_of code.Jl = jump
 syntax_of code.Jc = jump
