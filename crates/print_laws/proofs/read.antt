@@ -3,3 +3,5 @@ pub mod Constants
 pub mod Operands
 pub mod Shown
 pub mod Words
+pub mod Blocks
+pub mod Actuals
