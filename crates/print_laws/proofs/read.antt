@@ -5,3 +5,4 @@ pub mod Shown
 pub mod Words
 pub mod Blocks
 pub mod Actuals
+pub mod Tame
