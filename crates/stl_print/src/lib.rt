@@ -15,4 +15,5 @@ mod tokens;
 mod trees;
 mod words;
 
+pub use gaps::Gap;
 pub use trees::print;
