@@ -6,3 +6,5 @@ pub mod Words
 pub mod Blocks
 pub mod Actuals
 pub mod Tame
+pub mod Passed
+pub mod Instructions

@@ -19,6 +19,8 @@ use Rattle.stl_parser.specs.Statements.{actual_at, actuals_behind, actuals_end, 
 use Rattle.stl_parser.specs.Terminals.{has_kind, is_mark, kind_rank}
 use Rattle.stl_print.specs.Gaps.{gap_text}
 use Rattle.stl_print.specs.Operands.{operand_pieces}
+use Rattle.stl_print.specs.Pieces.{mark as mark_piece}
+use Rattle.stl_print.specs.declared.gaps.Gap.TheVariants as gap
 use Rattle.stl_print.specs.Statements.{actual_pieces, actuals_pieces, further_actuals}
 use Rattle.print_laws.specs.Reading.{IsPrintedActual}
 use Rattle.print_laws.proofs.read.Actuals.{passed_lacks, passed_printed, value_counted, value_is}
@@ -69,31 +71,40 @@ next_read source from line at g a more here one h t =
     ∙ actual_read source from line at g a _ here one h (shown_front source from line (actual_pieces g a) (further_actuals more) t)
     (further_some _ _ more) (further_ends source _ _ more (shown_behind source from line (actual_pieces g a) (further_actuals more) t))
 
-further_read : (source : List ℕ) (from line at : ℕ) (actuals read : List Actual) (n : ℕ) → line ≡ at → AllByRecursion (IsPrintedActual at) actuals
+further_read : (source : List ℕ) (at : ℕ) (actuals read : List Actual) (n from line : ℕ) → line ≡ at → AllByRecursion (IsPrintedActual at) actuals
     → Texts source from line (further_actuals actuals) → length actuals ≤ n
     → parts_from (actuals_end source) (next_actual source) read n (tokens_of from line (further_actuals actuals)) ≡ Some (read ++ actuals, [])
 unfolding parts_from actuals_end next_actual is_mark has_kind mark_text actual_pieces
-further_read source from line at [] read zero here all (_, x1, _) fits = rw (x1, append-nil read) refl
-further_read source from line at [] read (suc n) here all (_, x1, _) fits = rw (x1, append-nil read) refl
-further_read source from line at (a ∷ more) read zero here all t fits = absurd (omega (arith, fits))
-further_read source from line at (a ∷ more) read (suc n) here all (_, x1, t) fits =
+further_read source at [] read zero from line here all (_, x1, _) fits = rw (x1, append-nil read) refl
+further_read source at [] read (suc n) from line here all (_, x1, _) fits = rw (x1, append-nil read) refl
+further_read source at (a ∷ more) read zero from line here all t fits = absurd (omega (arith, fits))
+further_read source at (a ∷ more) read (suc n) from line here all (_, x1, t) fits =
     let e : line + 0 + 0 ≡ at = omega (arith, here) in
-    rw (x1, next_read source _ (line + 0 + 0) at _ a more e refl all.0 t)
-    (further_read source _ _ at more (read ++ a ∷ []) n (tame_line (line + 0 + 0) (actual_pieces _ a) (actual_tame _ at a refl all.0) ∙ e) all.1
-    (shown_behind source _ (line + 0 + 0) (actual_pieces _ a) (further_actuals more) t) (omega (arith, fits))
+    rw (x1, next_read source _ (line + 0 + 0) at gap.Blank a more e refl all.0 t)
+    (further_read source at more (read ++ a ∷ []) n _ _ (tame_line (line + 0 + 0) (actual_pieces gap.Blank a) (actual_tame gap.Blank at a refl all.0) ∙ e) all.1
+    (shown_behind source _ (line + 0 + 0) (actual_pieces gap.Blank a) (further_actuals more) t) (omega (arith, fits))
     ∙ ap (λ (l : List Actual). Some (l, [])) (append_assoc read (a ∷ []) more))
 
-counted : (from line : ℕ) (ps : List Piece) → length (tokens_of from line ps) ≡ length ps
-counted from line [] = refl
-counted from line (p ∷ ps) = ap suc (counted _ _ ps)
+counted : (ps : List Piece) (from line : ℕ) → length (tokens_of from line ps) ≡ length ps
+counted [] from line = refl
+counted (p ∷ ps) from line = ap suc (counted ps _ _)
 
 long_joined : (ps qs : List Piece) → length qs ≤ length (ps ++ qs)
 long_joined [] qs = omega arith
 long_joined (p ∷ ps) qs = omega (arith, long_joined ps qs)
 
+longer : (p : Piece) (ps qs : List Piece) → suc (length qs) ≤ length (p ∷ (ps ++ qs))
+longer p ps qs = omega (arith, long_joined ps qs)
+
+one_more : (a : Actual) (more : List Actual) → suc (length (further_actuals more)) ≤ length (further_actuals (a ∷ more))
+one_more a more = longer (mark_piece gap.Nothing mark.Comma) (actual_pieces gap.Blank a) (further_actuals more)
+
 fewer : (actuals : List Actual) → length actuals ≤ length (further_actuals actuals)
 fewer [] = omega arith
-fewer (a ∷ more) = omega (arith, fewer more, long_joined (actual_pieces _ a) (further_actuals more))
+fewer (a ∷ more) = omega (arith, fewer more, one_more a more)
+
+enough : (from line : ℕ) (actuals : List Actual) → length actuals ≤ length (tokens_of from line (further_actuals actuals))
+enough from line actuals = omega (arith, fewer actuals, counted (further_actuals actuals) from line)
 
 pub actuals_read : (source : List ℕ) (from line at : ℕ) (actuals : List Actual) → line ≡ at → AllByRecursion (IsPrintedActual at) actuals
     → Texts source from line (actuals_pieces actuals) → actuals_of source (tokens_of from line (actuals_pieces actuals)) ≡ Some actuals
@@ -101,7 +112,7 @@ unfolding actuals_of actuals_behind is_mark has_kind mark_text
 actuals_read source from line at [] here all t = refl
 actuals_read source from line at (a ∷ more) here all (_, x1, t) =
     let e : line + 0 + 0 ≡ at = omega (arith, here) in
-    rw (x1, next_read source _ (line + 0 + 0) at _ a more e refl all.0 t,
-    further_read source _ _ at more (a ∷ []) _ (tame_line (line + 0 + 0) (actual_pieces _ a) (actual_tame _ at a refl all.0) ∙ e) all.1
-    (shown_behind source _ (line + 0 + 0) (actual_pieces _ a) (further_actuals more) t)
-    (omega (arith, fewer more, counted _ _ (further_actuals more)))) refl
+    rw (x1, next_read source _ (line + 0 + 0) at gap.Nothing a more e refl all.0 t)
+    (ap whole (further_read source at more (a ∷ []) _ _ _ (tame_line (line + 0 + 0) (actual_pieces gap.Nothing a) (actual_tame gap.Nothing at a refl all.0) ∙ e) all.1
+    (shown_behind source _ (line + 0 + 0) (actual_pieces gap.Nothing a) (further_actuals more) t)
+    (enough _ _ more)))
