@@ -37,6 +37,7 @@ use Rattle.stl_parser.specs.Terminals.{has_kind, is_key, is_mark, key_text, kind
 use Rattle.stl_parser.specs.declared.statements.BareStatement.{BareStatement}
 use Rattle.stl_parser.specs.declared.tables.OperandSyntax.{OperandSyntax}
 use Rattle.stl_parser.specs.declared.tables.OperandSyntax.TheVariants as form
+use Rattle.stl_print.specs.Gaps.{gap_text}
 use Rattle.stl_print.specs.Names.{block_name}
 use Rattle.stl_print.specs.Operands.{instance_pieces, operand_pieces, opened}
 use Rattle.stl_print.specs.Statements.{actual_pieces, actuals_pieces, further_actuals}
@@ -48,7 +49,7 @@ use Rattle.print_laws.proofs.read.Blocks.{block_read}
 use Rattle.print_laws.proofs.read.Operands.{Texts, number_by_read, of_kind, operand_read, read_number}
 use Rattle.print_laws.proofs.read.Passed.{actuals_read}
 use Rattle.print_laws.proofs.read.Shown.{behind, line_past, shown_behind, shown_front, tokens_joined}
-use Rattle.print_laws.proofs.read.Tame.{all_tame, called_tame, of_data, of_function, tame_line}
+use Rattle.print_laws.proofs.read.Tame.{all_tame, called_tame, flat, numbered_tame, tame_line}
 use Rattle.print_laws.proofs.read.Words.{form_of}
 
 -- the tokens of an operand and of no actual parameters are those of the operand
@@ -225,7 +226,7 @@ some_instance : (source : List ℕ) (name instance : BlockName) (comma : Token) 
     → may_be name is_function_block ≡ true → data_block_at source ts ≡ Some (instance, rest)
     → instance_at source name (comma ∷ ts) ≡ Some (Some instance, rest)
 unfolding instance_at
-some_instance source name instance comma ts rest is may data = rw (is, may, data) refl
+some_instance source name instance comma ts rest is may found = rw (is, may, found) refl
 
 is_function : (name : BlockName) → IsFunctionBlock name → may_be name is_function_block ≡ true
 is_function (block.Number id) h = rw h.0 refl
@@ -238,10 +239,93 @@ call_is : (source : List ℕ) (code : Mnemonic) (name : BlockName) (instance : O
 unfolding behind_word call_of
 call_is source code name instance actuals ts us vs a b c = rw (a, b, c) refl
 
-instance_call : (source : List ℕ) (from line at : ℕ) (g h : Gap) (code : Mnemonic) (name instance : BlockName) (actuals : List Actual) → line ≡ at
+instance_call : (source : List ℕ) (from line at : ℕ) (g : Gap) (code : Mnemonic) (name instance : BlockName) (actuals : List Actual) → line ≡ at
     → IsFunctionBlock name → IsDataBlock instance → AllByRecursion (IsPrintedActual at) actuals
-    → all_tame (operand_pieces g (operand.Called name (Some instance))) ≡ true
-    → Texts source from line (operand_pieces g (operand.Called name (Some instance)) ++ actuals_pieces actuals)
-    → behind_word source form.Call code (tokens_of from line (operand_pieces g (operand.Called name (Some instance)) ++ actuals_pieces actuals))
+    → all_tame (block_name g name ++ instance_pieces (Some instance)) ≡ true
+    → Texts source from line ((block_name g name ++ instance_pieces (Some instance)) ++ actuals_pieces actuals)
+    → behind_word source form.Call code (tokens_of from line ((block_name g name ++ instance_pieces (Some instance)) ++ actuals_pieces actuals))
     ≡ Some (record { code = code; operand = operand.Called name (Some instance); actuals = actuals; long = false })
-instance_call source from line at g h code name instance actuals here is data all one t = ?
+unfolding instance_pieces is_mark has_kind mark_text
+instance_call source from line at g code (block.Quoted n) instance actuals here is db all one t = absurd is
+instance_call source from line at g code (block.Number id) instance actuals here is db all one t =
+    ap (behind_word source form.Call code) joined
+    ∙ call_is source code (block.Number id) (Some instance) actuals (front ++ (middle ++ last)) (middle ++ last) last
+    (block_read source from line g id (middle ++ last) is.1 (shown_front source from line first second both))
+    (some_instance source (block.Number id) instance _ _ last (rw inner.1 refl) (is_function (block.Number id) is) (data_behind source _ _ gap.Blank instance last db inner.2))
+    (actuals_read source (behind from (first ++ second)) (line_past line (first ++ second)) at actuals (tame_line line (first ++ second) one ∙ here) all
+    (shown_behind source from line (first ++ second) (actuals_pieces actuals) t))
+  where
+    first : List Piece
+    first = block_name g (block.Number id)
+
+    second : List Piece
+    second = instance_pieces (Some instance)
+
+    front : List Token
+    front = tokens_of from line first
+
+    middle : List Token
+    middle = tokens_of (behind from first) (line_past line first) second
+
+    last : List Token
+    last = tokens_of (behind from (first ++ second)) (line_past line (first ++ second)) (actuals_pieces actuals)
+
+    both : Texts source from line (first ++ second)
+    both = shown_front source from line (first ++ second) (actuals_pieces actuals) t
+
+    inner : Texts source (behind from first) (line_past line first) second
+    inner = shown_behind source from line first second both
+
+    joined : tokens_of from line ((first ++ second) ++ actuals_pieces actuals) ≡ front ++ (middle ++ last)
+    joined =
+        tokens_joined from line (first ++ second) (actuals_pieces actuals)
+        ∙ ap (λ (ts : List Token). ts ++ last) (tokens_joined from line first second)
+        ∙ append_assoc front middle last
+
+-- ---- what stands behind an instruction word that is one token
+
+called : (source : List ℕ) (from line at : ℕ) (g : Gap) (code : Mnemonic) (o : Operand) (actuals : List Actual) → line ≡ at
+    → flat (gap_text g) ≡ true → IsCalled o → AllByRecursion (IsPrintedActual at) actuals → Texts source from line (operand_pieces g o ++ actuals_pieces actuals)
+    → behind_word source form.Call code (tokens_of from line (operand_pieces g o ++ actuals_pieces actuals))
+    ≡ Some (record { code = code; operand = o; actuals = actuals; long = false })
+unfolding operand_pieces instance_pieces
+called source from line at g code (operand.Called (block.Number id) None) actuals here one h all t =
+    subst (λ (ps : List Piece). Texts source from line (ps ++ actuals_pieces actuals)
+    → behind_word source form.Call code (tokens_of from line (ps ++ actuals_pieces actuals))
+    ≡ Some (record { code = code; operand = operand.Called (block.Number id) None; actuals = actuals; long = false }))
+    (sym (append-nil (block_name g (block.Number id))))
+    (λ u. alone_call source from line at g code id actuals here h all (numbered_tame g (block.Number id) one h) u) t
+called source from line at g code (operand.Called (block.Quoted n) None) actuals here one h all t = absurd h
+called source from line at g code (operand.Called name (Some instance)) actuals here one h all t =
+    instance_call source from line at g code name instance actuals here h.0 h.1 all (called_tame g (operand.Called name (Some instance)) one h) t
+called source from line at g code operand.Nothing actuals here one h all t = absurd h
+called source from line at g code (operand.Direct name area w byte bit) actuals here one h all t = absurd h
+called source from line at g code (operand.Timer n) actuals here one h all t = absurd h
+called source from line at g code (operand.Counter n) actuals here one h all t = absurd h
+called source from line at g code (operand.Named p steps) actuals here one h all t = absurd h
+called source from line at g code (operand.ByMemory area w place byte) actuals here one h all t = absurd h
+called source from line at g code (operand.NumberBy what place byte) actuals here one h all t = absurd h
+called source from line at g code (operand.ByRegister area w register bits) actuals here one h all t = absurd h
+called source from line at g code (operand.Pointer area byte bit) actuals here one h all t = absurd h
+called source from line at g code (operand.Constant l) actuals here one h all t = absurd h
+called source from line at g code (operand.Label name) actuals here one h all t = absurd h
+called source from line at g code (operand.OfStatus f) actuals here one h all t = absurd h
+called source from line at g code (operand.Other name) actuals here one h all t = absurd h
+called source from line at g code (operand.OpenBlock di name) actuals here one h all t = absurd h
+
+
+pub behind_read : (source : List ℕ) (from line at : ℕ) (g : Gap) (s : Syntax) (code : Mnemonic) (o : Operand) (actuals : List Actual) → line ≡ at
+    → flat (gap_text g) ≡ true → (s ≡ bracket → ⊥) → FitsSyntax at s o actuals → Texts source from line (operand_pieces g o ++ actuals_pieces actuals)
+    → behind_word source (form_of s) code (tokens_of from line (operand_pieces g o ++ actuals_pieces actuals))
+    ≡ Some (record { code = code; operand = o; actuals = actuals; long = false })
+behind_read source from line at g plain code o actuals here one apart h t =
+    nothing_behind source from line g form.Operand code o actuals h.1 (λ u. plain_read source from line g code o h.0 u) t
+behind_read source from line at g bracket code o actuals here one apart h t = absurd (apart refl)
+behind_read source from line at g jump code o actuals here one apart h t =
+    nothing_behind source from line g form.Jump code o actuals h.1 (λ u. jump_read source from line g code o h.0 u) t
+behind_read source from line at g opens code o actuals here one apart h t =
+    nothing_behind source from line g form.Open code o actuals h.1 (λ u. open_read source from line g code o h.0 u) t
+behind_read source from line at g block_call code o actuals here one apart h t =
+    nothing_behind source from line g form.BlockCall code o actuals h.1 (λ u. block_call_read source from line g code o h.0 u) t
+behind_read source from line at g call code o actuals here one apart h t = called source from line at g code o actuals here one h.0 h.1 t
+behind_read source from line at g empty code o actuals here one apart h t = absurd h

@@ -319,7 +319,7 @@ opened_tame g (operand.OfStatus f) h is = absurd is
 opened_tame g (operand.Other name) h is = absurd is
 opened_tame g (operand.Called name instance) h is = absurd is
 
-numbered_tame : (g : _) (name : BlockName) → flat (gap_text g) ≡ true → IsNumbered name → all_tame (block_name g name) ≡ true
+pub numbered_tame : (g : _) (name : BlockName) → flat (gap_text g) ≡ true → IsNumbered name → all_tame (block_name g name) ≡ true
 unfolding block_name
 numbered_tame g (block.Number id) h is = rw (h, flat_block id.kind, flat_number id.number is) refl
 numbered_tame g (block.Quoted name) h is = absurd is
