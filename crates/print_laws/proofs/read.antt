@@ -8,3 +8,4 @@ pub mod Actuals
 pub mod Tame
 pub mod Passed
 pub mod Instructions
+pub mod Statements

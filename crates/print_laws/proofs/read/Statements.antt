@@ -1,0 +1,262 @@
+-- Statements that are printed are read.
+use Rattle.std.proofs.Common.{◌≡◌, ◌≤◌, ◌<◌, ◌+◌, refl, sym, ◌∙◌, ap, subst, ℕ, zero, suc, Bool, true, false, List, [], ◌∷◌, ◌++◌, length, Option, Some, None, ℤ, pos, negsuc, arith, append_assoc, inl, inr}
+use Rattle.std.specs.Prelude.{not, ◌&&◌, ◌||◌, if◌then◌else◌, nat_eq, nat_lt, codes, sum_by}
+use Rattle.std.specs.List.{AllByRecursion, list_all}
+use Rattle.std.specs.Option.{option_and_then, option_map, option_or}
+use Rattle.std.specs.Str.{str_eq_ignore_ascii_case}
+use Rattle.std.proofs.lemmas.Bool.{and_parts, and_from, false≢true}
+use Rattle.std.proofs.lemmas.List.{append-nil}
+use Rattle.plc_base.specs.declared.flags.Flag.{Flag}
+use Rattle.plc_base.specs.declared.flags.Flag.TheVariants as flag
+use Rattle.plc_base.specs.declared.places.Width.{Width}
+use Rattle.plc_base.specs.declared.places.Width.TheVariants as width
+use Rattle.plc_base.specs.declared.blocks.BlockKind.{BlockKind}
+use Rattle.stl_lexer.specs.Marks.{mark_text}
+use Rattle.stl_lexer.specs.Pieces.{Piece, Show, tokens_of}
+use Rattle.stl_lexer.specs.Tokens.{text_of}
+use Rattle.stl_lexer.specs.declared.kinds.Token.{Token}
+use Rattle.stl_lexer.specs.declared.kinds.TokenKind.{TokenKind}
+use Rattle.stl_lexer.specs.declared.kinds.TokenKind.TheVariants as kind
+use Rattle.stl_lexer.specs.declared.marks.Mark.{Mark}
+use Rattle.stl_lexer.specs.declared.marks.Mark.TheVariants as mark
+use Rattle.stl_ast.specs.declared.literals.Literal.{Literal}
+use Rattle.stl_ast.specs.declared.literals.Literal.TheVariants as literal
+use Rattle.stl_ast.specs.declared.mnemonics.Mnemonic.{Mnemonic}
+use Rattle.stl_ast.specs.declared.mnemonics.Mnemonic.TheVariants as mnemonic
+use Rattle.stl_ast.specs.declared.names.BlockName.{BlockName}
+use Rattle.stl_ast.specs.declared.names.BlockName.TheVariants as block
+use Rattle.stl_ast.specs.declared.operands.Letters.{Letters}
+use Rattle.stl_ast.specs.declared.operands.Operand.{Operand}
+use Rattle.stl_ast.specs.declared.operands.Operand.TheVariants as operand
+use Rattle.stl_ast.specs.declared.operands.PathHead.TheVariants as head
+use Rattle.stl_ast.specs.declared.statements.Actual.{Actual}
+use Rattle.stl_parser.specs.Operands.{operand_of}
+use Rattle.stl_parser.specs.Statements.{after_paren, behind_word, closed_of, instruction_of, opening_of, plain as bare, with_operand, zone_end_of}
+use Rattle.stl_parser.specs.Tables.{look_up, mnemonics, opening_mnemonics}
+use Rattle.stl_parser.specs.Terminals.{has_kind, is_key, is_mark, key_text, kind_rank}
+use Rattle.stl_parser.specs.declared.statements.BareStatement.{BareStatement}
+use Rattle.stl_print.specs.Gaps.{gap_text}
+use Rattle.stl_print.specs.Literals.{literal_pieces}
+use Rattle.stl_print.specs.Mnemonics.{Spelling, one, spelling, spelling_pieces, two}
+use Rattle.stl_print.specs.Names.{block_name, steps_pieces}
+use Rattle.stl_print.specs.Operands.{by_register, direct, instance_pieces, operand_pieces, opened, path_head}
+use Rattle.stl_print.specs.Statements.{actuals_pieces}
+use Rattle.stl_print.specs.Words.{flag_kind, flag_text}
+use Rattle.stl_print.specs.declared.gaps.Gap.{Gap}
+use Rattle.stl_print.specs.declared.gaps.Gap.TheVariants as gap
+use Rattle.print_laws.specs.Reading.{FitsSyntax, IsCalled, IsCalledAlone, IsOpened, IsPrintedLiteral, IsPrintedOperand, IsTarget, Syntax, block_call, bracket, call, empty, jump, opens, plain, syntax_of}
+use Rattle.print_laws.proofs.read.Instructions.{behind_read}
+use Rattle.print_laws.proofs.read.Operands.{Texts}
+use Rattle.print_laws.proofs.read.Shown.{behind, lack_shown, lacks, line_past, mark_is, mark_shown, shown_behind, shown_front, tokens_joined, without}
+use Rattle.print_laws.proofs.read.Tame.{actuals_tame, all_tame, called_tame, flat, opened_tame, operand_tame, tame, tame_joined, tame_lacks, tame_line, target_tame}
+use Rattle.print_laws.proofs.read.Words.{IsCalm, IsSingle, calm, first_kind, first_text, form_of, single}
+
+-- ---- the first token behind a word
+
+-- a piece that is neither `(` nor `:` nor an attribute
+abbrev pub apart : Piece → Bool
+apart p = not (mark_is p.kind p.text mark.OpenParen) && not (mark_is p.kind p.text mark.Colon) && not (nat_eq (kind_rank p.kind) 10)
+
+-- none, or such a one, is at the front
+abbrev pub first_apart : List Piece → Bool
+first_apart [] = true
+first_apart (p ∷ ps) = apart p
+
+literal_apart : (g : Gap) (l : Literal) → IsPrintedLiteral l → first_apart (literal_pieces g l) ≡ true
+unfolding literal_pieces mark_text
+literal_apart g (literal.Truth v) h = refl
+literal_apart g (literal.Number (pos n)) h = refl
+literal_apart g (literal.Number (negsuc n)) h = refl
+literal_apart g (literal.Byte v) h = refl
+literal_apart g (literal.Word v) h = refl
+literal_apart g (literal.Dword v) h = refl
+literal_apart g (literal.Long v) h = refl
+literal_apart g (literal.Time v) h = refl
+literal_apart g (literal.Binary v) h = absurd h
+literal_apart g (literal.Count v) h = absurd h
+literal_apart g (literal.S5time v) h = absurd h
+literal_apart g (literal.Characters v) h = absurd h
+literal_apart g (literal.Bytes v) h = absurd h
+
+operand_apart : (g : Gap) (o : Operand) → IsPrintedOperand o → first_apart (operand_pieces g o) ≡ true
+unfolding operand_pieces path_head direct block_name by_register flag_kind flag_text mark_text
+operand_apart g operand.Nothing h = refl
+operand_apart g (operand.Direct None area w byte bit) h = refl
+operand_apart g (operand.Direct (Some (block.Number id)) area w byte bit) h = refl
+operand_apart g (operand.Direct (Some (block.Quoted n)) area w byte bit) h = absurd h.0.0
+operand_apart g (operand.Timer n) h = refl
+operand_apart g (operand.Counter n) h = refl
+operand_apart g (operand.Named (head.Local name) []) h = refl
+operand_apart g (operand.Named (head.Local name) (s ∷ steps)) h = absurd h
+operand_apart g (operand.Named (head.InBlock name) steps) h = absurd h
+operand_apart g (operand.Named (head.Symbol name) steps) h = absurd h
+operand_apart g (operand.ByMemory area w place byte) h = refl
+operand_apart g (operand.NumberBy what place byte) h = refl
+operand_apart g (operand.ByRegister (Some area) w register bits) h = refl
+operand_apart g (operand.ByRegister None width.Bit register bits) h = refl
+operand_apart g (operand.ByRegister None width.Byte register bits) h = refl
+operand_apart g (operand.ByRegister None width.Word register bits) h = refl
+operand_apart g (operand.ByRegister None width.Dword register bits) h = refl
+operand_apart g (operand.Pointer area byte bit) h = refl
+operand_apart g (operand.Constant l) h = literal_apart g l h
+operand_apart g (operand.Label name) h = absurd h
+operand_apart g (operand.OfStatus flag.Br) h = refl
+operand_apart g (operand.OfStatus flag.Ov) h = refl
+operand_apart g (operand.OfStatus flag.Os) h = refl
+operand_apart g (operand.OfStatus flag.EqZero) h = refl
+operand_apart g (operand.OfStatus flag.NeZero) h = refl
+operand_apart g (operand.OfStatus flag.GtZero) h = refl
+operand_apart g (operand.OfStatus flag.LtZero) h = refl
+operand_apart g (operand.OfStatus flag.GeZero) h = refl
+operand_apart g (operand.OfStatus flag.LeZero) h = refl
+operand_apart g (operand.OfStatus flag.Uo) h = refl
+operand_apart g (operand.Other name) h = refl
+operand_apart g (operand.OpenBlock di name) h = absurd h
+operand_apart g (operand.Called name instance) h = absurd h
+
+target_apart : (g : Gap) (o : Operand) → IsTarget o → first_apart (operand_pieces g o) ≡ true
+unfolding operand_pieces
+target_apart g (operand.Label name) h = refl
+target_apart g operand.Nothing h = absurd h
+target_apart g (operand.Direct name area w byte bit) h = absurd h
+target_apart g (operand.Timer n) h = absurd h
+target_apart g (operand.Counter n) h = absurd h
+target_apart g (operand.Named p steps) h = absurd h
+target_apart g (operand.ByMemory area w place byte) h = absurd h
+target_apart g (operand.NumberBy what place byte) h = absurd h
+target_apart g (operand.ByRegister area w register bits) h = absurd h
+target_apart g (operand.Pointer area byte bit) h = absurd h
+target_apart g (operand.Constant l) h = absurd h
+target_apart g (operand.OfStatus f) h = absurd h
+target_apart g (operand.Other name) h = absurd h
+target_apart g (operand.OpenBlock di name) h = absurd h
+target_apart g (operand.Called name instance) h = absurd h
+
+opened_apart : (g : Gap) (o : Operand) → IsOpened o → first_apart (operand_pieces g o) ≡ true
+unfolding operand_pieces opened block_name
+opened_apart g (operand.OpenBlock true (block.Number id)) h = refl
+opened_apart g (operand.OpenBlock false (block.Number id)) h = refl
+opened_apart g (operand.OpenBlock di (block.Quoted name)) h = absurd h
+opened_apart g (operand.NumberBy what place byte) h = refl
+opened_apart g operand.Nothing h = absurd h
+opened_apart g (operand.Direct name area w byte bit) h = absurd h
+opened_apart g (operand.Timer n) h = absurd h
+opened_apart g (operand.Counter n) h = absurd h
+opened_apart g (operand.Named p steps) h = absurd h
+opened_apart g (operand.ByMemory area w place byte) h = absurd h
+opened_apart g (operand.ByRegister area w register bits) h = absurd h
+opened_apart g (operand.Pointer area byte bit) h = absurd h
+opened_apart g (operand.Constant l) h = absurd h
+opened_apart g (operand.Label name) h = absurd h
+opened_apart g (operand.OfStatus f) h = absurd h
+opened_apart g (operand.Other name) h = absurd h
+opened_apart g (operand.Called name instance) h = absurd h
+
+called_apart : (g : Gap) (o : Operand) (qs : List Piece) → IsCalled o → first_apart (operand_pieces g o ++ qs) ≡ true
+unfolding operand_pieces block_name
+called_apart g (operand.Called (block.Number id) instance) qs h = refl
+called_apart g (operand.Called (block.Quoted n) None) qs h = absurd h
+called_apart g (operand.Called (block.Quoted n) (Some instance)) qs h = absurd h.0
+called_apart g operand.Nothing qs h = absurd h
+called_apart g (operand.Direct name area w byte bit) qs h = absurd h
+called_apart g (operand.Timer n) qs h = absurd h
+called_apart g (operand.Counter n) qs h = absurd h
+called_apart g (operand.Named p steps) qs h = absurd h
+called_apart g (operand.ByMemory area w place byte) qs h = absurd h
+called_apart g (operand.NumberBy what place byte) qs h = absurd h
+called_apart g (operand.ByRegister area w register bits) qs h = absurd h
+called_apart g (operand.Pointer area byte bit) qs h = absurd h
+called_apart g (operand.Constant l) qs h = absurd h
+called_apart g (operand.Label name) qs h = absurd h
+called_apart g (operand.OfStatus f) qs h = absurd h
+called_apart g (operand.Other name) qs h = absurd h
+called_apart g (operand.OpenBlock di name) qs h = absurd h
+
+alone_called : (o : Operand) → IsCalledAlone o → IsCalled o
+alone_called (operand.Called name None) h = h
+alone_called (operand.Called name (Some instance)) h = absurd h
+alone_called operand.Nothing h = absurd h
+alone_called (operand.Direct name area w byte bit) h = absurd h
+alone_called (operand.Timer n) h = absurd h
+alone_called (operand.Counter n) h = absurd h
+alone_called (operand.Named p steps) h = absurd h
+alone_called (operand.ByMemory area w place byte) h = absurd h
+alone_called (operand.NumberBy what place byte) h = absurd h
+alone_called (operand.ByRegister area w register bits) h = absurd h
+alone_called (operand.Pointer area byte bit) h = absurd h
+alone_called (operand.Constant l) h = absurd h
+alone_called (operand.Label name) h = absurd h
+alone_called (operand.OfStatus f) h = absurd h
+alone_called (operand.Other name) h = absurd h
+alone_called (operand.OpenBlock di name) h = absurd h
+
+-- where no actual parameters are, the pieces are those of the operand
+alone : (g : Gap) (o : Operand) (actuals : List Actual) → actuals ≡ [] → operand_pieces g o ++ actuals_pieces actuals ≡ operand_pieces g o
+alone g o actuals none = ap (λ (l : List Actual). operand_pieces g o ++ actuals_pieces l) none ∙ append-nil (operand_pieces g o)
+
+pub behind_apart : (g : Gap) (at : ℕ) (s : Syntax) (o : Operand) (actuals : List Actual) → FitsSyntax at s o actuals
+    → first_apart (operand_pieces g o ++ actuals_pieces actuals) ≡ true
+unfolding operand_pieces
+behind_apart g at plain o actuals h = ap first_apart (alone g o actuals h.1) ∙ operand_apart g o h.0
+behind_apart g at bracket o actuals h = ap first_apart (alone g o actuals h.1) ∙ ap (λ (p : Operand). first_apart (operand_pieces g p)) h.0
+behind_apart g at jump o actuals h = ap first_apart (alone g o actuals h.1) ∙ target_apart g o h.0
+behind_apart g at opens o actuals h = ap first_apart (alone g o actuals h.1) ∙ opened_apart g o h.0
+behind_apart g at block_call o actuals h = called_apart g o (actuals_pieces actuals) (alone_called o h.0)
+behind_apart g at call o actuals h = called_apart g o (actuals_pieces actuals) h.0
+behind_apart g at empty o actuals h = absurd h
+
+pub behind_tame : (g : Gap) (at : ℕ) (s : Syntax) (o : Operand) (actuals : List Actual) → flat (gap_text g) ≡ true → FitsSyntax at s o actuals
+    → all_tame (operand_pieces g o ++ actuals_pieces actuals) ≡ true
+unfolding operand_pieces
+behind_tame g at plain o actuals f h = ap all_tame (alone g o actuals h.1) ∙ operand_tame g o f h.0
+behind_tame g at bracket o actuals f h = ap all_tame (alone g o actuals h.1) ∙ ap (λ (p : Operand). all_tame (operand_pieces g p)) h.0
+behind_tame g at jump o actuals f h = ap all_tame (alone g o actuals h.1) ∙ target_tame g o f h.0
+behind_tame g at opens o actuals f h = ap all_tame (alone g o actuals h.1) ∙ opened_tame g o f h.0
+behind_tame g at block_call o actuals f h = ap all_tame (alone g o actuals h.1) ∙ called_tame g o f (alone_called o h.0)
+behind_tame g at call o actuals f h = tame_joined (operand_pieces g o) (actuals_pieces actuals) (called_tame g o f h.0) (actuals_tame at actuals h.1)
+behind_tame g at empty o actuals f h = absurd h
+
+-- ---- the same of tokens
+
+-- neither `:` nor an attribute is at the front
+abbrev pub calm_head : List ℕ → List Token → Bool
+calm_head source [] = true
+calm_head source (t ∷ ts) = not (is_mark source t mark.Colon) && not (has_kind t kind.Attribute)
+
+pub head_shown : (source : List ℕ) (from line : ℕ) (ps : List Piece) → Texts source from line ps → first_apart ps ≡ true
+    → (calm_head source (tokens_of from line ps) ≡ true) × (after_paren source (tokens_of from line ps) ≡ None)
+unfolding after_paren has_kind
+head_shown source from line [] t h = (refl, refl)
+head_shown source from line (p ∷ ps) t h =
+    let parts = and_parts (not (mark_is p.kind p.text mark.OpenParen) && not (mark_is p.kind p.text mark.Colon)) (not (nat_eq (kind_rank p.kind) 10)) h in
+    let both = and_parts (not (mark_is p.kind p.text mark.OpenParen)) (not (mark_is p.kind p.text mark.Colon)) parts.0 in
+    (and_from _ _ (ap not (mark_shown source p.kind p.text _ mark.Colon refl t.1) ∙ both.1) parts.1,
+    no_paren (is_mark source _ mark.OpenParen) _ (ap not (mark_shown source p.kind p.text _ mark.OpenParen refl t.1) ∙ both.0))
+  where
+    no_paren : (b : Bool) (ts : List Token) → not b ≡ true → (if b then Some ts else None) ≡ None
+    no_paren false ts e = refl
+    no_paren true ts e = absurd cc
+
+none_chained : {A B : Type 0} (o : Option A) → option_and_then {U = B} (λ x. None) o ≡ None
+none_chained None = refl
+none_chained (Some x) = refl
+
+-- ---- instructions
+
+-- tokens that are an instruction, and begin no clause and no type
+pub record IsInstruction (source : List ℕ) (b : BareStatement) (ts : List Token) : Type 0 where
+  pub first : Token
+  pub rest : List Token
+  pub is : ts ≡ first ∷ rest
+  pub text : List ℕ
+  pub text_is : text_of source first ≡ text
+  pub first_calm : IsCalm first.kind text
+  pub head : calm_head source rest ≡ true
+  pub reads : instruction_of source (first ∷ rest) ≡ Some b
+
+pub single_reads : (source : List ℕ) (m : Mnemonic) (f : _) (t : Token) (ts : List Token) (text : List ℕ) (b : BareStatement)
+    → text_of source t ≡ text → look_up mnemonics text ≡ Some (m, f) → is_mark source t mark.CloseParen ≡ false
+    → after_paren source ts ≡ None → behind_word source f m ts ≡ Some b → instruction_of source (t ∷ ts) ≡ Some b
+unfolding instruction_of opening_of zone_end_of closed_of
+single_reads source m f t [] text b text_is found close paren reads = rw (paren, none_chained, text_is, found) reads
+single_reads source m f t (u ∷ ts) text b text_is found close paren reads = rw (paren, none_chained, close, text_is, found) reads
