@@ -9,3 +9,4 @@ pub mod Tame
 pub mod Passed
 pub mod Instructions
 pub mod Statements
+pub mod Runs

@@ -1,5 +1,5 @@
 -- Statements that are printed are read.
-use Rattle.std.proofs.Common.{◌≡◌, ◌≤◌, ◌<◌, ◌+◌, refl, sym, ◌∙◌, ap, subst, ℕ, zero, suc, Bool, true, false, List, [], ◌∷◌, ◌++◌, length, Option, Some, None, ℤ, pos, negsuc, arith, append_assoc, inl, inr}
+use Rattle.std.proofs.Common.{◌≡◌, ◌≤◌, ◌<◌, ◌+◌, refl, sym, ◌∙◌, ap, subst, ℕ, zero, suc, Bool, true, false, List, [], ◌∷◌, ◌++◌, length, drop, Option, Some, None, ℤ, pos, negsuc, arith, append_assoc, inl, inr}
 use Rattle.std.specs.Prelude.{not, ◌&&◌, ◌||◌, if◌then◌else◌, nat_eq, nat_lt, codes, sum_by}
 use Rattle.std.specs.List.{AllByRecursion, list_all}
 use Rattle.std.specs.Option.{option_and_then, option_map, option_or}
@@ -260,3 +260,226 @@ pub single_reads : (source : List ℕ) (m : Mnemonic) (f : _) (t : Token) (ts : 
 unfolding instruction_of opening_of zone_end_of closed_of
 single_reads source m f t [] text b text_is found close paren reads = rw (paren, none_chained, text_is, found) reads
 single_reads source m f t (u ∷ ts) text b text_is found close paren reads = rw (paren, none_chained, close, text_is, found) reads
+
+-- a bracket or a zone, which is its word alone
+bracket_reads : (source : List ℕ) (from line : ℕ) (g : Gap) (m : Mnemonic) → syntax_of m ≡ bracket → Texts source from line (spelling_pieces g (spelling m))
+    → (instruction_of source (tokens_of from line (spelling_pieces g (spelling m))) ≡ Some (bare m operand.Nothing))
+    × (calm_head source (drop 1 (tokens_of from line (spelling_pieces g (spelling m)))) ≡ true)
+unfolding spelling instruction_of opening_of zone_end_of closed_of look_up opening_mnemonics mnemonics mark_text is_mark has_kind is_key key_text after_paren with_operand operand_of behind_word
+bracket_reads source from line g mnemonic.Empty e t = absurd cc
+bracket_reads source from line g mnemonic.Nop e t = absurd cc
+bracket_reads source from line g mnemonic.Bld e t = absurd cc
+bracket_reads source from line g mnemonic.A e t = absurd cc
+bracket_reads source from line g mnemonic.An e t = absurd cc
+bracket_reads source from line g mnemonic.O e t = absurd cc
+bracket_reads source from line g mnemonic.On e t = absurd cc
+bracket_reads source from line g mnemonic.X e t = absurd cc
+bracket_reads source from line g mnemonic.Xn e t = absurd cc
+bracket_reads source from line g mnemonic.AOpen e (_, x1, (_, x2, _)) = (rw (x1, x2) refl, rw x2 refl)
+bracket_reads source from line g mnemonic.AnOpen e (_, x1, (_, x2, _)) = (rw (x1, x2) refl, rw x2 refl)
+bracket_reads source from line g mnemonic.OOpen e (_, x1, (_, x2, _)) = (rw (x1, x2) refl, rw x2 refl)
+bracket_reads source from line g mnemonic.OnOpen e (_, x1, (_, x2, _)) = (rw (x1, x2) refl, rw x2 refl)
+bracket_reads source from line g mnemonic.XOpen e (_, x1, (_, x2, _)) = (rw (x1, x2) refl, rw x2 refl)
+bracket_reads source from line g mnemonic.XnOpen e (_, x1, (_, x2, _)) = (rw (x1, x2) refl, rw x2 refl)
+bracket_reads source from line g mnemonic.Close e (_, x1, _) = (rw x1 refl, refl)
+bracket_reads source from line g mnemonic.Mcra e t = absurd cc
+bracket_reads source from line g mnemonic.Mcrd e t = absurd cc
+bracket_reads source from line g mnemonic.McrOpen e (_, x1, (_, x2, _)) = (rw (x1, x2) refl, rw x2 refl)
+bracket_reads source from line g mnemonic.McrClose e (_, x1, (_, x2, _)) = (rw (x1, x2) refl, refl)
+bracket_reads source from line g mnemonic.L e t = absurd cc
+bracket_reads source from line g mnemonic.T e t = absurd cc
+bracket_reads source from line g mnemonic.Assign e t = absurd cc
+bracket_reads source from line g mnemonic.S e t = absurd cc
+bracket_reads source from line g mnemonic.R e t = absurd cc
+bracket_reads source from line g mnemonic.Fp e t = absurd cc
+bracket_reads source from line g mnemonic.Fn e t = absurd cc
+bracket_reads source from line g mnemonic.Set e t = absurd cc
+bracket_reads source from line g mnemonic.Clr e t = absurd cc
+bracket_reads source from line g mnemonic.Not e t = absurd cc
+bracket_reads source from line g mnemonic.Save e t = absurd cc
+bracket_reads source from line g mnemonic.Lc e t = absurd cc
+bracket_reads source from line g mnemonic.Lar1 e t = absurd cc
+bracket_reads source from line g mnemonic.Lar2 e t = absurd cc
+bracket_reads source from line g mnemonic.Tar1 e t = absurd cc
+bracket_reads source from line g mnemonic.Tar2 e t = absurd cc
+bracket_reads source from line g mnemonic.Car e t = absurd cc
+bracket_reads source from line g mnemonic.AddAr1 e t = absurd cc
+bracket_reads source from line g mnemonic.AddAr2 e t = absurd cc
+bracket_reads source from line g mnemonic.Tak e t = absurd cc
+bracket_reads source from line g mnemonic.Push e t = absurd cc
+bracket_reads source from line g mnemonic.Pop e t = absurd cc
+bracket_reads source from line g mnemonic.Caw e t = absurd cc
+bracket_reads source from line g mnemonic.Cad e t = absurd cc
+bracket_reads source from line g mnemonic.Inc e t = absurd cc
+bracket_reads source from line g mnemonic.Dec e t = absurd cc
+bracket_reads source from line g mnemonic.Add e t = absurd cc
+bracket_reads source from line g mnemonic.AddI e t = absurd cc
+bracket_reads source from line g mnemonic.SubI e t = absurd cc
+bracket_reads source from line g mnemonic.MulI e t = absurd cc
+bracket_reads source from line g mnemonic.DivI e t = absurd cc
+bracket_reads source from line g mnemonic.AddD e t = absurd cc
+bracket_reads source from line g mnemonic.SubD e t = absurd cc
+bracket_reads source from line g mnemonic.MulD e t = absurd cc
+bracket_reads source from line g mnemonic.DivD e t = absurd cc
+bracket_reads source from line g mnemonic.Mod e t = absurd cc
+bracket_reads source from line g mnemonic.EqI e t = absurd cc
+bracket_reads source from line g mnemonic.NeI e t = absurd cc
+bracket_reads source from line g mnemonic.GtI e t = absurd cc
+bracket_reads source from line g mnemonic.LtI e t = absurd cc
+bracket_reads source from line g mnemonic.GeI e t = absurd cc
+bracket_reads source from line g mnemonic.LeI e t = absurd cc
+bracket_reads source from line g mnemonic.EqD e t = absurd cc
+bracket_reads source from line g mnemonic.NeD e t = absurd cc
+bracket_reads source from line g mnemonic.GtD e t = absurd cc
+bracket_reads source from line g mnemonic.LtD e t = absurd cc
+bracket_reads source from line g mnemonic.GeD e t = absurd cc
+bracket_reads source from line g mnemonic.LeD e t = absurd cc
+bracket_reads source from line g mnemonic.Bti e t = absurd cc
+bracket_reads source from line g mnemonic.Itb e t = absurd cc
+bracket_reads source from line g mnemonic.Btd e t = absurd cc
+bracket_reads source from line g mnemonic.Dtb e t = absurd cc
+bracket_reads source from line g mnemonic.Itd e t = absurd cc
+bracket_reads source from line g mnemonic.Invi e t = absurd cc
+bracket_reads source from line g mnemonic.Invd e t = absurd cc
+bracket_reads source from line g mnemonic.Negi e t = absurd cc
+bracket_reads source from line g mnemonic.Negd e t = absurd cc
+bracket_reads source from line g mnemonic.Aw e t = absurd cc
+bracket_reads source from line g mnemonic.Ow e t = absurd cc
+bracket_reads source from line g mnemonic.Xow e t = absurd cc
+bracket_reads source from line g mnemonic.Ad e t = absurd cc
+bracket_reads source from line g mnemonic.Od e t = absurd cc
+bracket_reads source from line g mnemonic.Xod e t = absurd cc
+bracket_reads source from line g mnemonic.Ssi e t = absurd cc
+bracket_reads source from line g mnemonic.Ssd e t = absurd cc
+bracket_reads source from line g mnemonic.Slw e t = absurd cc
+bracket_reads source from line g mnemonic.Srw e t = absurd cc
+bracket_reads source from line g mnemonic.Sld e t = absurd cc
+bracket_reads source from line g mnemonic.Srd e t = absurd cc
+bracket_reads source from line g mnemonic.Rld e t = absurd cc
+bracket_reads source from line g mnemonic.Rrd e t = absurd cc
+bracket_reads source from line g mnemonic.Rlda e t = absurd cc
+bracket_reads source from line g mnemonic.Rrda e t = absurd cc
+bracket_reads source from line g mnemonic.Ju e t = absurd cc
+bracket_reads source from line g mnemonic.Jl e t = absurd cc
+bracket_reads source from line g mnemonic.Jc e t = absurd cc
+bracket_reads source from line g mnemonic.Jcn e t = absurd cc
+bracket_reads source from line g mnemonic.Jcb e t = absurd cc
+bracket_reads source from line g mnemonic.Jnb e t = absurd cc
+bracket_reads source from line g mnemonic.Jbi e t = absurd cc
+bracket_reads source from line g mnemonic.Jnbi e t = absurd cc
+bracket_reads source from line g mnemonic.Jo e t = absurd cc
+bracket_reads source from line g mnemonic.Jos e t = absurd cc
+bracket_reads source from line g mnemonic.Jz e t = absurd cc
+bracket_reads source from line g mnemonic.Jn e t = absurd cc
+bracket_reads source from line g mnemonic.Jp e t = absurd cc
+bracket_reads source from line g mnemonic.Jm e t = absurd cc
+bracket_reads source from line g mnemonic.Jpz e t = absurd cc
+bracket_reads source from line g mnemonic.Jmz e t = absurd cc
+bracket_reads source from line g mnemonic.Juo e t = absurd cc
+bracket_reads source from line g mnemonic.Loop e t = absurd cc
+bracket_reads source from line g mnemonic.Sp e t = absurd cc
+bracket_reads source from line g mnemonic.Se e t = absurd cc
+bracket_reads source from line g mnemonic.Sd e t = absurd cc
+bracket_reads source from line g mnemonic.Ss e t = absurd cc
+bracket_reads source from line g mnemonic.Sf e t = absurd cc
+bracket_reads source from line g mnemonic.Fr e t = absurd cc
+bracket_reads source from line g mnemonic.Cu e t = absurd cc
+bracket_reads source from line g mnemonic.Cd e t = absurd cc
+bracket_reads source from line g mnemonic.Call e t = absurd cc
+bracket_reads source from line g mnemonic.Uc e t = absurd cc
+bracket_reads source from line g mnemonic.Cc e t = absurd cc
+bracket_reads source from line g mnemonic.Be e t = absurd cc
+bracket_reads source from line g mnemonic.Bec e t = absurd cc
+bracket_reads source from line g mnemonic.Beu e t = absurd cc
+bracket_reads source from line g mnemonic.Opn e t = absurd cc
+bracket_reads source from line g mnemonic.Cdb e t = absurd cc
+
+word_shown : (source : List ℕ) (from line : ℕ) (g : Gap) (s : Spelling) (b : BareStatement) → IsCalm (first_kind s) (first_text s)
+    → Texts source from line (spelling_pieces g s) → instruction_of source (tokens_of from line (spelling_pieces g s)) ≡ Some b
+    → calm_head source (drop 1 (tokens_of from line (spelling_pieces g s))) ≡ true
+    → IsInstruction source b (tokens_of from line (spelling_pieces g s))
+word_shown source from line g (one k text) b fine t reads head =
+    record { first = _; rest = _; is = refl; text = text; text_is = t.1; first_calm = fine; head = head; reads = reads }
+word_shown source from line g (two k text j after) b fine t reads head =
+    record { first = _; rest = _; is = refl; text = text; text_is = t.1; first_calm = fine; head = head; reads = reads }
+
+-- a word that is one token, with what stands behind it
+one_shown : (source : List ℕ) (from line at : ℕ) (g h : Gap) (m : Mnemonic) (o : Operand) (actuals : List Actual) (k : TokenKind) (text : List ℕ)
+    → flat (gap_text h) ≡ true → (syntax_of m ≡ bracket → ⊥) → FitsSyntax at (syntax_of m) o actuals → IsCalm k text
+    → look_up mnemonics text ≡ Some (m, form_of (syntax_of m)) → mark_is k text mark.CloseParen ≡ false
+    → line_past line (spelling_pieces g (one k text)) ≡ at
+    → Texts source from line (spelling_pieces g (one k text) ++ (operand_pieces h o ++ actuals_pieces actuals))
+    → IsInstruction source (record { code = m; operand = o; actuals = actuals; long = false })
+    (tokens_of from line (spelling_pieces g (one k text) ++ (operand_pieces h o ++ actuals_pieces actuals)))
+one_shown source from line at g h m o actuals k text f apart_from fits fine found close here t =
+    let shown = head_shown source _ _ (operand_pieces h o ++ actuals_pieces actuals) t.2 (behind_apart h at (syntax_of m) o actuals fits) in
+    record {
+      first = _;
+      rest = _;
+      is = refl;
+      text = text;
+      text_is = t.1;
+      first_calm = fine;
+      head = shown.0;
+      reads = single_reads source m (form_of (syntax_of m)) _ _ text _ t.1 found (mark_shown source k text _ mark.CloseParen refl t.1 ∙ close) shown.1
+          (behind_read source _ _ at h (syntax_of m) m o actuals here f apart_from fits t.2);
+    }
+
+no_empty : (at : ℕ) (s : Syntax) (o : Operand) (actuals : List Actual) → FitsSyntax at s o actuals → s ≡ empty → ⊥
+no_empty at s o actuals h e = subst (λ (z : Syntax). FitsSyntax at z o actuals) e h
+
+is_bracket : Syntax → Bool
+is_bracket bracket = true
+is_bracket _ = false
+
+from_bracket : (s : Syntax) → is_bracket s ≡ true → s ≡ bracket
+unfolding is_bracket
+from_bracket bracket e = refl
+from_bracket plain e = absurd (false≢true e)
+from_bracket jump e = absurd (false≢true e)
+from_bracket opens e = absurd (false≢true e)
+from_bracket block_call e = absurd (false≢true e)
+from_bracket call e = absurd (false≢true e)
+from_bracket empty e = absurd (false≢true e)
+
+no_bracket : (s : Syntax) → is_bracket s ≡ false → s ≡ bracket → ⊥
+unfolding is_bracket
+no_bracket s e is = false≢true (sym e ∙ ap is_bracket is)
+
+instruction_by : (source : List ℕ) (from line at : ℕ) (g h : Gap) (m : Mnemonic) (o : Operand) (actuals : List Actual) (b : Bool) → is_bracket (syntax_of m) ≡ b
+    → flat (gap_text h) ≡ true → FitsSyntax at (syntax_of m) o actuals → line_past line (spelling_pieces g (spelling m)) ≡ at
+    → Texts source from line (spelling_pieces g (spelling m) ++ (operand_pieces h o ++ actuals_pieces actuals))
+    → IsInstruction source (record { code = m; operand = o; actuals = actuals; long = false })
+    (tokens_of from line (spelling_pieces g (spelling m) ++ (operand_pieces h o ++ actuals_pieces actuals)))
+unfolding operand_pieces
+instruction_by source from line at g h m o actuals false e f fits here t =
+    let w : IsSingle m = single m (no_empty at (syntax_of m) o actuals fits) (no_bracket (syntax_of m) e) in
+    subst (λ (s : Spelling). line_past line (spelling_pieces g s) ≡ at
+    → Texts source from line (spelling_pieces g s ++ (operand_pieces h o ++ actuals_pieces actuals))
+    → IsInstruction source (record { code = m; operand = o; actuals = actuals; long = false })
+    (tokens_of from line (spelling_pieces g s ++ (operand_pieces h o ++ actuals_pieces actuals)))) (sym w.spelled)
+    (one_shown source from line at g h m o actuals w.kind w.text f (no_bracket (syntax_of m) e) fits
+    (subst (λ (s : Spelling). IsCalm (first_kind s) (first_text s)) w.spelled (calm m (no_empty at (syntax_of m) o actuals fits))) w.found w.no_close)
+    here t
+instruction_by source from line at g h m o actuals true e f fits here t =
+    let is : syntax_of m ≡ bracket = from_bracket (syntax_of m) e in
+    let both : (o ≡ operand.Nothing) × (actuals ≡ []) = subst (λ (z : Syntax). FitsSyntax at z o actuals) is fits in
+    subst (λ (p : Operand). Texts source from line (spelling_pieces g (spelling m) ++ (operand_pieces h p ++ actuals_pieces actuals))
+    → IsInstruction source (record { code = m; operand = p; actuals = actuals; long = false })
+    (tokens_of from line (spelling_pieces g (spelling m) ++ (operand_pieces h p ++ actuals_pieces actuals)))) (sym both.0)
+    (subst (λ (l : List Actual). Texts source from line (spelling_pieces g (spelling m) ++ actuals_pieces l)
+    → IsInstruction source (record { code = m; operand = operand.Nothing; actuals = l; long = false })
+    (tokens_of from line (spelling_pieces g (spelling m) ++ actuals_pieces l))) (sym both.1)
+    (subst (λ (ps : List Piece). Texts source from line ps → IsInstruction source (bare m operand.Nothing) (tokens_of from line ps))
+    (sym (append-nil (spelling_pieces g (spelling m))))
+    (λ u. let r = bracket_reads source from line g m is u in
+    word_shown source from line g (spelling m) (bare m operand.Nothing) (calm m (no_empty at (syntax_of m) o actuals fits)) u r.0 r.1)))
+    t
+
+pub instruction_read : (source : List ℕ) (from line at : ℕ) (g h : Gap) (m : Mnemonic) (o : Operand) (actuals : List Actual)
+    → flat (gap_text h) ≡ true → FitsSyntax at (syntax_of m) o actuals → line_past line (spelling_pieces g (spelling m)) ≡ at
+    → Texts source from line (spelling_pieces g (spelling m) ++ (operand_pieces h o ++ actuals_pieces actuals))
+    → IsInstruction source (record { code = m; operand = o; actuals = actuals; long = false })
+    (tokens_of from line (spelling_pieces g (spelling m) ++ (operand_pieces h o ++ actuals_pieces actuals)))
+instruction_read source from line at g h m o actuals f fits here t =
+    instruction_by source from line at g h m o actuals (is_bracket (syntax_of m)) refl f fits here t
