@@ -10,3 +10,4 @@ pub mod Passed
 pub mod Instructions
 pub mod Statements
 pub mod Runs
+pub mod Lines
