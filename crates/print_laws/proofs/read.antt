@@ -11,3 +11,4 @@ pub mod Instructions
 pub mod Statements
 pub mod Runs
 pub mod Lines
+pub mod Bodies

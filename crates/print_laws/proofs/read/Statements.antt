@@ -425,7 +425,7 @@ one_shown source from line at g h m o actuals k text f apart_from fits fine foun
           (behind_read source _ _ at h (syntax_of m) m o actuals here f apart_from fits t.2);
     }
 
-no_empty : (at : ℕ) (s : Syntax) (o : Operand) (actuals : List Actual) → FitsSyntax at s o actuals → s ≡ empty → ⊥
+pub no_empty : (at : ℕ) (s : Syntax) (o : Operand) (actuals : List Actual) → FitsSyntax at s o actuals → s ≡ empty → ⊥
 no_empty at s o actuals h e = subst (λ (z : Syntax). FitsSyntax at z o actuals) e h
 
 is_bracket : Syntax → Bool
