@@ -12,3 +12,4 @@ pub mod Statements
 pub mod Runs
 pub mod Lines
 pub mod Bodies
+pub mod Types
