@@ -13,3 +13,4 @@ pub mod Runs
 pub mod Lines
 pub mod Bodies
 pub mod Types
+pub mod Declared

@@ -65,7 +65,7 @@ begun source p t rest tokens kind.Title text b free is inner = absurd (false≢t
 
 -- ---- no declaration
 
-either_none : {X : Type 0} (b : Bool) (o : Option X) → o ≡ None → (if b then o else None) ≡ None
+pub either_none : {X : Type 0} (b : Bool) (o : Option X) → o ≡ None → (if b then o else None) ≡ None
 either_none true o e = e
 either_none false o e = refl
 
@@ -138,7 +138,7 @@ runs_alone source k b ts rest semi i all is calm =
 -- ---- a statement with a label
 
 -- a word that begins an instruction is no keyword inside a clause
-no_key : (source : List ℕ) (t : Token) (text : List ℕ) (k : Key) → text_of source t ≡ text → str_eq_ignore_ascii_case text (key_text k) ≡ false
+pub no_key : (source : List ℕ) (t : Token) (text : List ℕ) (k : Key) → text_of source t ≡ text → str_eq_ignore_ascii_case text (key_text k) ≡ false
     → is_key source t k ≡ false
 unfolding is_key
 no_key source t text k is apart = rw (is, apart) (by (has_kind t kind.Word))
@@ -147,7 +147,7 @@ no_key source t text k is apart = rw (is, apart) (by (has_kind t kind.Word))
     by true = refl
     by false = refl
 
-no_array_at : (source : List ℕ) (t : Token) (ts : List Token) → is_key source t key.Array ≡ false → array_at source (t ∷ ts) ≡ None
+pub no_array_at : (source : List ℕ) (t : Token) (ts : List Token) → is_key source t key.Array ≡ false → array_at source (t ∷ ts) ≡ None
 unfolding array_at
 no_array_at source t [] h = refl
 no_array_at source t (u ∷ us) h = rw h refl
@@ -197,7 +197,7 @@ no_element source t ts text h is =
     by false o e = refl
 
 -- a name before its colon, and the tokens behind it
-named : (source : List ℕ) (w colon : Token) (ts : List Token) → has_kind w kind.Word ≡ true → is_mark source colon mark.Colon ≡ true
+pub named : (source : List ℕ) (w colon : Token) (ts : List Token) → has_kind w kind.Word ≡ true → is_mark source colon mark.Colon ≡ true
     → has_kind colon kind.Attribute ≡ false → declared_at source (w ∷ colon ∷ ts) ≡ Some (w, ts)
 unfolding declared_at after_attribute after_colon
 named source w colon ts word is apart = rw (word, apart, is) refl
