@@ -14,3 +14,6 @@ pub mod Lines
 pub mod Bodies
 pub mod Types
 pub mod Declared
+pub mod Settings
+pub mod Frames
+pub mod Heads

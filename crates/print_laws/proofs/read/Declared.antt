@@ -292,3 +292,61 @@ plain_read source from line g p name arrays k init at rest here is type inner he
         typed_read source (level_at p) name_token colon_token ty.t us ty.ts arrays k init (named source name_token colon_token us refl colon_is refl) all_found ty.word_is ty.text ty.values
         ∙ ap (λ (n : List ℕ). Some (record { line = line + sum_by newlines_of (gap_text g); name = n; level = level_at p; of = record { arrays = arrays; of = element.Plain k }; init = init })) front.1
         ∙ ap (λ (n : ℕ). Some (record { line = n; name = name; level = level_at p; of = record { arrays = arrays; of = element.Plain k }; init = init })) here
+
+fields_read : (source : List ℕ) (from line : ℕ) (g : Gap) (p : ClausePlace) (name : List ℕ) (arrays : List Bounds) (e : ElementType) (init : List Init) (at : ℕ)
+    (rest : List Token) → line + sum_by newlines_of (gap_text g) ≡ at → IsName name → IsPrintedType arrays e init → is_outer p ≡ false
+    → in_data_head p ≡ false
+    → (takes_parameters p && not (is_elementary (record { line = at; name = name; level = level_at p; of = record { arrays = arrays; of = e }; init = init }))) ≡ false
+    → Texts source from line (word g name ∷ mark_piece gap.Blank mark.Colon ∷ (flat_map array_pieces arrays ++ (element_pieces gap.Blank e ++ behind_type e init)))
+    → clause_at source p (tokens_of from line (word g name ∷ mark_piece gap.Blank mark.Colon ∷ (flat_map array_pieces arrays ++ (element_pieces gap.Blank e ++ behind_type e init))) ++ rest)
+    ≡ Some (clause.Declares (record { line = at; name = name; level = level_at p; of = record { arrays = arrays; of = e }; init = init }), rest, false)
+fields_read source from line g p name arrays (element.Plain k) init at rest here is type inner head allowed t =
+    subst (λ (ps : List Piece). Texts source from line ps
+    → clause_at source p (tokens_of from line ps ++ rest)
+    ≡ Some (clause.Declares (record { line = at; name = name; level = level_at p; of = record { arrays = arrays; of = element.Plain k }; init = init }), rest, false))
+    (sym (grouped g name arrays k init))
+    (plain_read source from line g p name arrays k init at rest here is type inner head allowed) t
+fields_read source from line g p name [] element.Structure init at rest here is type inner head allowed t = absurd type
+fields_read source from line g p name (b ∷ []) element.Structure init at rest here is type inner head allowed t = absurd type
+fields_read source from line g p name (b ∷ c ∷ bs) element.Structure init at rest here is type inner head allowed t = absurd type
+fields_read source from line g p name [] (element.Udt n) init at rest here is type inner head allowed t = absurd type
+fields_read source from line g p name (b ∷ []) (element.Udt n) init at rest here is type inner head allowed t = absurd type
+fields_read source from line g p name (b ∷ c ∷ bs) (element.Udt n) init at rest here is type inner head allowed t = absurd type
+fields_read source from line g p name [] element.DateAndTime init at rest here is type inner head allowed t = absurd type
+fields_read source from line g p name (b ∷ []) element.DateAndTime init at rest here is type inner head allowed t = absurd type
+fields_read source from line g p name (b ∷ c ∷ bs) element.DateAndTime init at rest here is type inner head allowed t = absurd type
+
+pub declares_read : (source : List ℕ) (from line : ℕ) (g : Gap) (p : ClausePlace) (d : Declaration) (rest : List Token) → IsPrintedDeclaration d
+    → line + sum_by newlines_of (gap_text g) ≡ d.line → is_outer p ≡ false → in_data_head p ≡ false → level_at p ≡ 0
+    → (takes_parameters p && not (is_elementary d)) ≡ false → Texts source from line (declaration_pieces g d)
+    → clause_at source p (tokens_of from line (declaration_pieces g d) ++ rest) ≡ Some (clause.Declares d, rest, false)
+unfolding declaration_pieces
+declares_read source from line g p d rest h here inner head level allowed t =
+    fields_read source from line g p d.name d.of.arrays d.of.of d.init d.line rest here h.name h.type inner head allowed t
+    ∙ ap (λ (n : ℕ). Some (clause.Declares (record { line = d.line; name = d.name; level = n; of = d.of; init = d.init }), rest, false)) (level ∙ sym h.level)
+
+-- ---- lines
+
+fields_line : (g : Gap) (name : List ℕ) (arrays : List Bounds) (e : ElementType) (init : List Init) (line : ℕ) → IsName name → IsPrintedType arrays e init
+    → line_past line (word g name ∷ mark_piece gap.Blank mark.Colon ∷ (flat_map array_pieces arrays ++ (element_pieces gap.Blank e ++ behind_type e init)))
+    ≡ line + sum_by newlines_of (gap_text g)
+unfolding inside mark_text
+fields_line g name arrays (element.Plain k) init line is type =
+    ap (line_past line) (grouped g name arrays k init)
+    ∙ first_line (word g name) (mark_piece gap.Blank mark.Colon ∷ ((flat_map array_pieces arrays ++ (word gap.Blank (type_word k) ∷ inits_pieces init)) ++ semicolon ∷ [])) line
+    (flat_word name is.word)
+    (flat_all_joined (flat_map array_pieces arrays ++ (word gap.Blank (type_word k) ∷ inits_pieces init)) (semicolon ∷ [])
+    (tame_flat (flat_map array_pieces arrays ++ (word gap.Blank (type_word k) ∷ inits_pieces init)) (type_tame arrays k init type)) refl)
+fields_line g name [] element.Structure init line is type = absurd type
+fields_line g name (b ∷ []) element.Structure init line is type = absurd type
+fields_line g name (b ∷ c ∷ bs) element.Structure init line is type = absurd type
+fields_line g name [] (element.Udt n) init line is type = absurd type
+fields_line g name (b ∷ []) (element.Udt n) init line is type = absurd type
+fields_line g name (b ∷ c ∷ bs) (element.Udt n) init line is type = absurd type
+fields_line g name [] element.DateAndTime init line is type = absurd type
+fields_line g name (b ∷ []) element.DateAndTime init line is type = absurd type
+fields_line g name (b ∷ c ∷ bs) element.DateAndTime init line is type = absurd type
+
+pub declares_line : (g : Gap) (d : Declaration) (line : ℕ) → IsPrintedDeclaration d → line_past line (declaration_pieces g d) ≡ line + sum_by newlines_of (gap_text g)
+unfolding declaration_pieces
+declares_line g d line h = fields_line g d.name d.of.arrays d.of.of d.init line h.name h.type

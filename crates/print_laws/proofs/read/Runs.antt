@@ -95,7 +95,7 @@ head_joined source (u ∷ ts) rest t a b = a
 
 -- ---- a statement without a label
 
-apart_read : (source : List ℕ) (line : ℕ) (w : Token) (ts : List Token) → calm_head source ts ≡ true
+pub apart_read : (source : List ℕ) (line : ℕ) (w : Token) (ts : List Token) → calm_head source ts ≡ true
     → statement_of source line (w ∷ ts) ≡ unlabelled source line (w ∷ ts)
 unfolding statement_of
 apart_read source line w [] h = refl

@@ -237,7 +237,7 @@ head_shown source from line (p ∷ ps) t h =
     no_paren false ts e = refl
     no_paren true ts e = absurd cc
 
-none_chained : {A B : Type 0} (o : Option A) → option_and_then {U = B} (λ x. None) o ≡ None
+pub none_chained : {A B : Type 0} (o : Option A) → option_and_then {U = B} (λ x. None) o ≡ None
 none_chained None = refl
 none_chained (Some x) = refl
 
