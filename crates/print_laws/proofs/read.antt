@@ -17,3 +17,4 @@ pub mod Declared
 pub mod Settings
 pub mod Frames
 pub mod Heads
+pub mod Walks
