@@ -18,3 +18,4 @@ pub mod Settings
 pub mod Frames
 pub mod Heads
 pub mod Walks
+pub mod Trees
