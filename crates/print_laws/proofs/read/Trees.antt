@@ -100,7 +100,7 @@ body_ends line k apart =
 no_function : kinds.Db ≡ kinds.Sfc → ⊥
 no_function e = absurd cc
 
-data_ends : (line : ℕ) → IsStep place.Settings (clause.Ends line kinds.Db) place.Outside
+pub data_ends : (line : ℕ) → IsStep place.Settings (clause.Ends line kinds.Db) place.Outside
 unfolding follow follow_settings
 data_ends line =
     record {
@@ -159,7 +159,7 @@ structure_line : (g : Gap) (n : ℕ) → line_past n (clause_pieces g clause.Str
 unfolding clause_pieces
 structure_line g n = first_line (word g (codes "STRUCT")) [] n refl refl
 
-structure_step : IsStep (place.Head kinds.Db) clause.Structure (place.Shape kinds.Db 0)
+pub structure_step : IsStep (place.Head kinds.Db) clause.Structure (place.Shape kinds.Db 0)
 unfolding follow follow_head
 structure_step =
     record {
@@ -172,7 +172,7 @@ structure_end_line : (g : Gap) (n : ℕ) → line_past n (clause_pieces g clause
 unfolding clause_pieces mark_text
 structure_end_line g n = first_line (word g (codes "END_STRUCT")) (mark_piece gap.Nothing mark.Semicolon ∷ []) n refl refl
 
-structure_end_step : IsStep (place.Shape kinds.Db 0) clause.EndStructure (place.Shaped kinds.Db)
+pub structure_end_step : IsStep (place.Shape kinds.Db 0) clause.EndStructure (place.Shaped kinds.Db)
 unfolding follow follow_shape
 structure_end_step =
     record {
@@ -186,7 +186,7 @@ unfolding clause_pieces block_name
 based_line (block.Number id) h g n = first_line (word g (block_letters id.kind)) (number gap.Blank id.number ∷ []) n (flat_block id.kind) (rw (flat_number id.number h.1) refl)
 based_line (block.Quoted name) h g n = absurd h
 
-based_step : (name : BlockName) → IsFunctionBlock name → IsStep (place.Head kinds.Db) (clause.Based name) (place.Shaped kinds.Db)
+pub based_step : (name : BlockName) → IsFunctionBlock name → IsStep (place.Head kinds.Db) (clause.Based name) (place.Shaped kinds.Db)
 unfolding follow follow_head
 based_step name h =
     record {
@@ -195,17 +195,14 @@ based_step name h =
       goes = refl;
     }
 
-runs_text : (source : List ℕ) (from n : ℕ) (g : Gap) (k : BlockKind) (s : Statement) → IsPrintedStatement s → IsStep (place.Body k) (clause.Runs s) (place.Body k)
+pub runs_step : (k : BlockKind) (s : Statement) → IsPrintedStatement s → IsStep (place.Body k) (clause.Runs s) (place.Body k)
 unfolding follow follow_body clause_pieces
-runs_text source from n g k s h =
+runs_step k s h =
     record {
       reads = λ source from n g rest here t. runs_read source from n g k s rest h here t;
       lines = λ g n. runs_line g s n h;
       goes = refl;
     }
-
-pub runs_step : (k : BlockKind) (s : Statement) → IsPrintedStatement s → IsStep (place.Body k) (clause.Runs s) (place.Body k)
-runs_step k s h = runs_text [] 0 0 gap.Nothing k s h
 
 pub sets_step : (s : Setting) → IsPrintedSetting s → IsStep place.Settings (clause.Sets s) place.Settings
 unfolding follow follow_settings clause_pieces
@@ -256,3 +253,147 @@ component_declares d h =
       lines = λ g n. declares_line g d n h;
       goes = rw (no_date d.of.arrays d.of.of d.init h.type) (ap (λ (n : ℕ). Some (place.Shape kinds.Db n)) (same_level d.of.arrays d.of.of d.init 0 h.type));
     }
+
+-- ---- lists of clauses
+
+all_run : (k : BlockKind) (ss : List Statement) → AllByRecursion IsPrintedStatement ss → Walk (place.Body k) (map clause.Runs ss) (place.Body k)
+all_run k [] h = refl
+all_run k (s ∷ ss) h = (place.Body k, runs_step k s h.0, all_run k ss h.1)
+
+pub all_set : (ss : List Setting) → AllByRecursion IsPrintedSetting ss → Walk place.Settings (map clause.Sets ss) place.Settings
+all_set [] h = refl
+all_set (s ∷ ss) h = (place.Settings, sets_step s h.0, all_set ss h.1)
+
+all_declared : (k : BlockKind) (p : PartKind) (ds : List Declaration) → AllByRecursion (IsDeclaredIn k p) ds
+    → Walk (place.Section k p 0) (map clause.Declares ds) (place.Section k p 0)
+all_declared k p [] h = refl
+all_declared k p (d ∷ ds) h = (place.Section k p 0, section_declares k p d h.0, all_declared k p ds h.1)
+
+pub all_components : (ds : List Declaration) → AllByRecursion IsPrintedDeclaration ds
+    → Walk (place.Shape kinds.Db 0) (map clause.Declares ds) (place.Shape kinds.Db 0)
+all_components [] h = refl
+all_components (d ∷ ds) h = (place.Shape kinds.Db 0, component_declares d h.0, all_components ds h.1)
+
+all_printed : (k : BlockKind) (p : PartKind) (ds : List Declaration) → AllByRecursion (IsDeclaredIn k p) ds → AllByRecursion IsPrintedDeclaration ds
+all_printed k p [] h = tt
+all_printed k p (d ∷ ds) h = (h.0.printed, all_printed k p ds h.1)
+
+-- no structure is closed among declarations at the outermost level
+flat_declared : (ds : List Declaration) → AllByRecursion IsPrintedDeclaration ds → declared_from 0 ds ≡ map clause.Declares ds
+flat_declared [] h = refl
+flat_declared (d ∷ ds) h =
+    ap (λ (n : ℕ). structure_ends n ++ (clause.Declares d ∷ declared_from (level_behind d.level d.of.of) ds)) none
+    ∙ ap (λ (n : ℕ). clause.Declares d ∷ declared_from n ds) (same_level d.of.arrays d.of.of d.init d.level h.0.type ∙ h.0.level)
+    ∙ ap (λ (cs : List Clause). clause.Declares d ∷ cs) (flat_declared ds h.1)
+  where
+    none : 0 - d.level ≡ 0
+    none = omega arith
+
+part_walk : (at : ClausePlace) (k : BlockKind) (p : Part) → IsPrintedPart k p → follow at (clause.Section p.line p.kind) ≡ Some (place.Section k p.kind 0)
+    → Walk at (part_clauses p) (place.Between k p.kind)
+unfolding part_clauses
+part_walk at k p h goes =
+    (place.Section k p.kind 0, section_step at p.line k p.kind goes,
+    walk_joined (declared_from 0 p.items) (clause.EndSection ∷ []) (place.Section k p.kind 0) (place.Section k p.kind 0) (place.Between k p.kind)
+    (subst (λ (cs : List Clause). Walk (place.Section k p.kind 0) cs (place.Section k p.kind 0)) (sym (flat_declared p.items (all_printed k p.kind p.items h.items)))
+    (all_declared k p.kind p.items h.items))
+    (place.Between k p.kind, end_section_step k p.kind, refl))
+
+-- where sections may stand: in the head, or behind one
+abbrev section_place : BlockKind → Option PartKind → ClausePlace
+section_place k None = place.Head k
+section_place k (Some last) = place.Between k last
+
+abbrev rank_behind : Option PartKind → ℕ
+rank_behind None = 0
+rank_behind (Some last) = part_rank last + 1
+
+section_goes : (k : BlockKind) (last : Option PartKind) (line : ℕ) (p : PartKind) → may_have k p ≡ true → rank_behind last ≤ part_rank p
+    → follow (section_place k last) (clause.Section line p) ≡ Some (place.Section k p 0)
+unfolding follow follow_head follow_between
+section_goes k None line p may order = rw may refl
+section_goes k (Some last) line p may order =
+    let less : nat_lt (part_rank last) (part_rank p) ≡ true = grind (arith, nat_tests, order) in
+    rw (may, less) refl
+
+record HasWalk (k : BlockKind) (from_ : Option PartKind) (cs : List Clause) : Type 0 where
+  last : Option PartKind
+  walk : Walk (section_place k from_) cs (section_place k last)
+
+ordered : (least more : ℕ) (ps : List Part) → least ≤ more → AreInOrder more ps → AreInOrder least ps
+ordered least more [] h o = tt
+ordered least more (p ∷ ps) h o = (omega (arith, h, o.0), o.1)
+
+parts_walk : (k : BlockKind) (ps : List Part) (last : Option PartKind) → AreInOrder (rank_behind last) ps → AllByRecursion (IsPrintedPart k) ps
+    → HasWalk k last (flat_map part_clauses ps)
+parts_walk k [] last order h = record { last = last; walk = refl }
+parts_walk k (p ∷ ps) last order h =
+    let rest : HasWalk k (Some p.kind) (flat_map part_clauses ps) = parts_walk k ps (Some p.kind) order.1 h.1 in
+    record {
+      last = rest.last;
+      walk = walk_joined (part_clauses p) (flat_map part_clauses ps) (section_place k last) (place.Between k p.kind) (section_place k rest.last)
+          (part_walk (section_place k last) k p h.0 (section_goes k last p.line p.kind h.0.allowed order.0)) rest.walk;
+    }
+
+-- ---- code blocks
+
+code_begins : (k : BlockKind) (last : Option PartKind) → is_code k ≡ true → follow (section_place k last) clause.Begins ≡ Some (place.Body k)
+unfolding follow follow_head follow_between
+code_begins k None is = rw is refl
+code_begins k (Some last) is = refl
+
+code_no_type : (k : BlockKind) → is_code k ≡ true → is_data_type k ≡ false
+code_no_type kinds.Ob is = refl
+code_no_type kinds.Fc is = refl
+code_no_type kinds.Fb is = refl
+code_no_type kinds.Db is = refl
+code_no_type kinds.Sfc is = refl
+code_no_type kinds.Udt is = absurd (false≢true is)
+
+code_no_system : (k : BlockKind) → is_code k ≡ true → k ≡ kinds.Sfc → ⊥
+code_no_system k is e = false≢true (sym (ap is_code e) ∙ is)
+
+code_begin : (k : BlockKind) (last : Option PartKind) → is_code k ≡ true → Walk (section_place k last) (begin_clauses k) (place.Body k)
+code_begin k last is =
+    subst (λ (b : Bool). Walk (section_place k last) (if b then [] else clause.Begins ∷ []) (place.Body k)) (sym (code_no_type k is))
+    (place.Body k, begin_step (section_place k last) (place.Body k) (code_begins k last is), refl)
+
+-- the clauses of a code block
+abbrev pub code_clauses : Block → List Clause
+code_clauses b =
+    clause.Head b.line b.kind b.name b.result
+    ∷ (flat_map part_clauses b.parts ++ (begin_clauses b.kind ++ (map clause.Runs b.body ++ clause.Ends b.end_line b.kind ∷ [])))
+
+pub code_is : (b : Block) → IsCodeBlock b → block_clauses b ≡ code_clauses b
+unfolding block_clauses
+code_is b h =
+    ap (λ (t : Option TypeTree). with_shape (shape_clauses t b.components)) h.shape
+    ∙ ap (λ (i : Option BlockName). with_instance (instance_clauses i)) h.instance
+    ∙ ap (λ (ss : List Setting). with_settings (map clause.Sets ss)) h.settings
+  where
+    with_settings : List Clause → List Clause
+    with_settings cs =
+        clause.Head b.line b.kind b.name b.result
+        ∷ (flat_map part_clauses b.parts ++ (begin_clauses b.kind ++ (cs ++ (map clause.Runs b.body ++ clause.Ends b.end_line b.kind ∷ []))))
+
+    with_instance : List Clause → List Clause
+    with_instance cs =
+        clause.Head b.line b.kind b.name b.result
+        ∷ (flat_map part_clauses b.parts ++ (cs ++ (begin_clauses b.kind ++ (map clause.Sets b.settings ++ (map clause.Runs b.body ++ clause.Ends b.end_line b.kind ∷ [])))))
+
+    with_shape : List Clause → List Clause
+    with_shape cs =
+        clause.Head b.line b.kind b.name b.result
+        ∷ (flat_map part_clauses b.parts ++ (cs ++ (instance_clauses b.instance_of ++ (begin_clauses b.kind ++ (map clause.Sets b.settings ++ (map clause.Runs b.body ++ clause.Ends b.end_line b.kind ∷ []))))))
+
+pub code_walk : (b : Block) → IsNameOf b.kind b.name → IsCodeBlock b → Walk place.Outside (code_clauses b) place.Outside
+code_walk b named h =
+    let parts : HasWalk b.kind None (flat_map part_clauses b.parts) = parts_walk b.kind b.parts None h.order h.parts in
+    (place.Head b.kind, head_step b.line b.kind b.name b.result (code_no_system b.kind h.kind) named h.result,
+    walk_joined (flat_map part_clauses b.parts) (begin_clauses b.kind ++ (map clause.Runs b.body ++ clause.Ends b.end_line b.kind ∷ []))
+    (place.Head b.kind) (section_place b.kind parts.last) place.Outside parts.walk
+    (walk_joined (begin_clauses b.kind) (map clause.Runs b.body ++ clause.Ends b.end_line b.kind ∷ []) (section_place b.kind parts.last) (place.Body b.kind) place.Outside
+    (code_begin b.kind parts.last h.kind)
+    (walk_joined (map clause.Runs b.body) (clause.Ends b.end_line b.kind ∷ []) (place.Body b.kind) (place.Body b.kind) place.Outside
+    (all_run b.kind b.body h.body)
+    (place.Outside, body_ends b.end_line b.kind (code_no_system b.kind h.kind), refl))))
