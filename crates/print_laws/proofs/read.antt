@@ -19,3 +19,4 @@ pub mod Frames
 pub mod Heads
 pub mod Walks
 pub mod Trees
+pub mod Kept

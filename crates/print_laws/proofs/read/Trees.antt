@@ -65,7 +65,7 @@ same_kind kinds.Db = refl
 same_kind kinds.Sfc = refl
 same_kind kinds.Udt = refl
 
-head_step : (line : ℕ) (k : BlockKind) (name : BlockName) (result : Option Simple) → (k ≡ kinds.Sfc → ⊥) → IsNameOf k name → IsResultOf k result
+pub head_step : (line : ℕ) (k : BlockKind) (name : BlockName) (result : Option Simple) → (k ≡ kinds.Sfc → ⊥) → IsNameOf k name → IsResultOf k result
     → IsStep place.Outside (clause.Head line k name result) (place.Head k)
 unfolding follow follow_outside
 head_step line k name result apart is h =
@@ -97,7 +97,7 @@ body_ends line k apart =
       goes = rw (same_kind k) refl;
     }
 
-no_function : kinds.Db ≡ kinds.Sfc → ⊥
+pub no_function : kinds.Db ≡ kinds.Sfc → ⊥
 no_function e = absurd cc
 
 pub data_ends : (line : ℕ) → IsStep place.Settings (clause.Ends line kinds.Db) place.Outside
@@ -147,7 +147,7 @@ begin_line : (g : Gap) (n : ℕ) → line_past n (clause_pieces g clause.Begins)
 unfolding clause_pieces
 begin_line g n = first_line (word g (codes "BEGIN")) [] n refl refl
 
-begin_step : (at next : ClausePlace) → follow at clause.Begins ≡ Some next → IsStep at clause.Begins next
+pub begin_step : (at next : ClausePlace) → follow at clause.Begins ≡ Some next → IsStep at clause.Begins next
 begin_step at next goes =
     record {
       reads = λ source from n g rest here t. begin_read source from n g at rest t;
@@ -214,7 +214,7 @@ sets_step s h =
     }
 
 -- a declaration leaves no structure open
-same_level : (arrays : List Bounds) (e : ElementType) (init : List Init) (n : ℕ) → IsPrintedType arrays e init → level_behind n e ≡ n
+pub same_level : (arrays : List Bounds) (e : ElementType) (init : List Init) (n : ℕ) → IsPrintedType arrays e init → level_behind n e ≡ n
 same_level arrays (element.Plain k) init n h = refl
 same_level arrays (element.Udt name) init n h = refl
 same_level arrays element.DateAndTime init n h = refl
@@ -274,12 +274,12 @@ pub all_components : (ds : List Declaration) → AllByRecursion IsPrintedDeclara
 all_components [] h = refl
 all_components (d ∷ ds) h = (place.Shape kinds.Db 0, component_declares d h.0, all_components ds h.1)
 
-all_printed : (k : BlockKind) (p : PartKind) (ds : List Declaration) → AllByRecursion (IsDeclaredIn k p) ds → AllByRecursion IsPrintedDeclaration ds
+pub all_printed : (k : BlockKind) (p : PartKind) (ds : List Declaration) → AllByRecursion (IsDeclaredIn k p) ds → AllByRecursion IsPrintedDeclaration ds
 all_printed k p [] h = tt
 all_printed k p (d ∷ ds) h = (h.0.printed, all_printed k p ds h.1)
 
 -- no structure is closed among declarations at the outermost level
-flat_declared : (ds : List Declaration) → AllByRecursion IsPrintedDeclaration ds → declared_from 0 ds ≡ map clause.Declares ds
+pub flat_declared : (ds : List Declaration) → AllByRecursion IsPrintedDeclaration ds → declared_from 0 ds ≡ map clause.Declares ds
 flat_declared [] h = refl
 flat_declared (d ∷ ds) h =
     ap (λ (n : ℕ). structure_ends n ++ (clause.Declares d ∷ declared_from (level_behind d.level d.of.of) ds)) none

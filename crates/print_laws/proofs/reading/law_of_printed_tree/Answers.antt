@@ -4,7 +4,7 @@ use Rattle.print_laws.proofs.read.Words.{calm, single}
 use Rattle.print_laws.proofs.read.Blocks.{block_read}
 use Rattle.print_laws.proofs.read.Actuals.{value_is, value_counted, passed_lacks, passed_printed}
 use Rattle.print_laws.proofs.read.Shown.{until_read, lack_shown, lacks_joined}
-use Rattle.print_laws.proofs.read.Trees.{code_walk, code_is, all_set, all_components, structure_step, structure_end_step, based_step, data_ends}
+use Rattle.print_laws.proofs.read.Kept.{shape_read, code_read}
 use Rattle.print_laws.proofs.read.Walks.{walk_read, walk_joined}
 use Rattle.print_laws.proofs.read.Heads.{head_read, head_line}
 use Rattle.print_laws.proofs.read.Frames.{ends_read, section_read, end_section_read, begin_read, structure_read, structure_end_read, based_read, result_read}
