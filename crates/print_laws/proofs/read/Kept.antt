@@ -201,3 +201,97 @@ shape_read line end_line name None components (Some of_) settings named h =
     (record { walk = instance_walk line end_line name of_ [] settings named h.0 h.2; kept = instance_kept line end_line name of_ settings h.0 })
 shape_read line end_line name None components None settings named h = absurd h
 shape_read line end_line name (Some of_) components (Some i) settings named h = absurd h
+
+-- a data block by its fields
+data_is : (b : Block) → IsPrintedData b → block_clauses b ≡ data_clauses b.line b.end_line b.name b.shape b.components b.instance_of b.settings
+unfolding block_clauses
+data_is b h =
+    ap (λ (k : BlockKind). by_kind k) h.kind
+    ∙ ap (λ (r : Option Simple). by_result r) h.result
+    ∙ ap (λ (ps : List Part). by_parts ps) h.parts
+    ∙ ap (λ (ss : List Statement). by_body ss) h.body
+  where
+    by_body : List Statement → List Clause
+    by_body ss =
+        clause.Head b.line kinds.Db b.name None
+        ∷ (shape_clauses b.shape b.components ++ (instance_clauses b.instance_of ++ (clause.Begins ∷ (map clause.Sets b.settings ++ (map clause.Runs ss ++ clause.Ends b.end_line kinds.Db ∷ [])))))
+
+    by_parts : List Part → List Clause
+    by_parts ps =
+        clause.Head b.line kinds.Db b.name None
+        ∷ (flat_map part_clauses ps ++ (shape_clauses b.shape b.components ++ (instance_clauses b.instance_of ++ (clause.Begins ∷ (map clause.Sets b.settings ++ (map clause.Runs b.body ++ clause.Ends b.end_line kinds.Db ∷ []))))))
+
+    by_result : Option Simple → List Clause
+    by_result r =
+        clause.Head b.line kinds.Db b.name r
+        ∷ (flat_map part_clauses b.parts ++ (shape_clauses b.shape b.components ++ (instance_clauses b.instance_of ++ (clause.Begins ∷ (map clause.Sets b.settings ++ (map clause.Runs b.body ++ clause.Ends b.end_line kinds.Db ∷ []))))))
+
+    by_kind : BlockKind → List Clause
+    by_kind k =
+        clause.Head b.line k b.name b.result
+        ∷ (flat_map part_clauses b.parts ++ (shape_clauses b.shape b.components ++ (instance_clauses b.instance_of ++ (begin_clauses k ++ (map clause.Sets b.settings ++ (map clause.Runs b.body ++ clause.Ends b.end_line k ∷ []))))))
+
+data_spelled_is : (b : Block) → IsPrintedData b → spelled_block b ≡ data_spelled b.line b.end_line b.name b.shape b.components b.instance_of b.settings
+data_spelled_is b h =
+    ap (λ (k : BlockKind). by_kind k) h.kind
+    ∙ ap (λ (r : Option Simple). by_result r) h.result
+    ∙ ap (λ (ps : List Part). by_parts ps) h.parts
+    ∙ ap (λ (ss : List Statement). by_body ss) h.body
+  where
+    by_body : List Statement → List Clause
+    by_body ss =
+        clause.Head b.line kinds.Db b.name None
+        ∷ (spelled_shape b.shape b.instance_of b.components ++ (map clause.Sets b.settings ++ (map clause.Runs ss ++ clause.Ends b.end_line kinds.Db ∷ [])))
+
+    by_parts : List Part → List Clause
+    by_parts ps =
+        clause.Head b.line kinds.Db b.name None
+        ∷ (flat_map spelled_part ps ++ (spelled_shape b.shape b.instance_of b.components ++ (map clause.Sets b.settings ++ (map clause.Runs b.body ++ clause.Ends b.end_line kinds.Db ∷ []))))
+
+    by_result : Option Simple → List Clause
+    by_result r =
+        clause.Head b.line kinds.Db b.name r
+        ∷ (flat_map spelled_part b.parts ++ (spelled_shape b.shape b.instance_of b.components ++ (map clause.Sets b.settings ++ (map clause.Runs b.body ++ clause.Ends b.end_line kinds.Db ∷ []))))
+
+    by_kind : BlockKind → List Clause
+    by_kind k =
+        clause.Head b.line k b.name b.result
+        ∷ (flat_map spelled_part b.parts ++ (spelled_shape b.shape b.instance_of b.components ++ (map clause.Sets b.settings ++ (map clause.Runs b.body ++ clause.Ends b.end_line k ∷ []))))
+
+data_read : (b : Block) → IsNameOf b.kind b.name → IsPrintedData b → IsRead b
+data_read b named h =
+    let r : DataRead b.line b.end_line b.name b.shape b.components b.instance_of b.settings =
+    shape_read b.line b.end_line b.name b.shape b.components b.instance_of b.settings
+    (subst (λ (k : BlockKind). IsNameOf k b.name) h.kind named) h.shape
+    in
+    record {
+      walk = subst (λ (cs : List Clause). Walk place.Outside cs place.Outside) (sym (data_is b h)) r.walk;
+      spelled = data_spelled_is b h ∙ r.kept ∙ ap (filter is_kept) (sym (data_is b h));
+    }
+
+-- ---- trees
+
+block_read : (b : Block) → IsPrintedBlock b → IsRead b
+block_read b (named, inl h) = code_read b named h
+block_read b (named, inr h) = data_read b named h
+
+blocks_walk : (bs : List Block) → AllByRecursion IsPrintedBlock bs → Walk place.Outside (flat_map block_clauses bs) place.Outside
+blocks_walk [] h = refl
+blocks_walk (b ∷ bs) h =
+    walk_joined (block_clauses b) (flat_map block_clauses bs) place.Outside place.Outside place.Outside (block_read b h.0).walk (blocks_walk bs h.1)
+
+blocks_spelled : (bs : List Block) → AllByRecursion IsPrintedBlock bs → flat_map spelled_block bs ≡ filter is_kept (flat_map block_clauses bs)
+blocks_spelled [] h = refl
+blocks_spelled (b ∷ bs) h =
+    ap (λ (l : List Clause). l ++ flat_map spelled_block bs) (block_read b h.0).spelled
+    ∙ ap (λ (l : List Clause). filter is_kept (block_clauses b) ++ l) (blocks_spelled bs h.1)
+    ∙ sym (kept_joined (block_clauses b) (flat_map block_clauses bs))
+
+pub trees_read : ArePrintedTreesRead
+unfolding pieces
+trees_read source t h shown =
+    record {
+      clauses = flat_map block_clauses t.blocks;
+      reads = walk_read (flat_map block_clauses t.blocks) source 0 1 0 place.Outside place.Outside (blocks_walk t.blocks h.blocks) h.lines refl shown;
+      those = blocks_spelled t.blocks h.blocks;
+    }
