@@ -1,1 +1,1 @@
-mod read
+mod parsing

@@ -1,31 +1,23 @@
 -- Statements that are printed are read.
-use Rattle.std.proofs.Common.{◌≡◌, ◌≤◌, ◌<◌, ◌+◌, refl, sym, ◌∙◌, ap, subst, ℕ, zero, suc, Bool, true, false, List, [], ◌∷◌, ◌++◌, length, drop, Option, Some, None, ℤ, pos, negsuc, arith, append_assoc, inl, inr}
-use Rattle.std.specs.Prelude.{not, ◌&&◌, ◌||◌, if◌then◌else◌, nat_eq, nat_lt, codes, sum_by}
-use Rattle.std.specs.List.{AllByRecursion, list_all}
-use Rattle.std.specs.Option.{option_and_then, option_map, option_or}
-use Rattle.std.specs.Str.{str_eq_ignore_ascii_case}
+use Rattle.std.proofs.Common.{◌≡◌, refl, sym, ◌∙◌, ap, subst, ℕ, Bool, true, false, List, [], ◌∷◌, ◌++◌, drop, Option, Some, None, pos, negsuc}
+use Rattle.std.specs.Prelude.{not, ◌&&◌, if◌then◌else◌, nat_eq}
+use Rattle.std.specs.Option.{option_and_then}
 use Rattle.std.proofs.lemmas.Bool.{and_parts, and_from, false≢true}
 use Rattle.std.proofs.lemmas.List.{append-nil}
-use Rattle.plc_base.specs.declared.flags.Flag.{Flag}
 use Rattle.plc_base.specs.declared.flags.Flag.TheVariants as flag
-use Rattle.plc_base.specs.declared.places.Width.{Width}
 use Rattle.plc_base.specs.declared.places.Width.TheVariants as width
-use Rattle.plc_base.specs.declared.blocks.BlockKind.{BlockKind}
 use Rattle.stl_lexer.specs.Marks.{mark_text}
-use Rattle.stl_lexer.specs.Pieces.{Piece, Show, tokens_of}
+use Rattle.stl_lexer.specs.Pieces.{Piece, tokens_of}
 use Rattle.stl_lexer.specs.Tokens.{text_of}
 use Rattle.stl_lexer.specs.declared.kinds.Token.{Token}
 use Rattle.stl_lexer.specs.declared.kinds.TokenKind.{TokenKind}
 use Rattle.stl_lexer.specs.declared.kinds.TokenKind.TheVariants as kind
-use Rattle.stl_lexer.specs.declared.marks.Mark.{Mark}
 use Rattle.stl_lexer.specs.declared.marks.Mark.TheVariants as mark
 use Rattle.stl_ast.specs.declared.literals.Literal.{Literal}
 use Rattle.stl_ast.specs.declared.literals.Literal.TheVariants as literal
 use Rattle.stl_ast.specs.declared.mnemonics.Mnemonic.{Mnemonic}
 use Rattle.stl_ast.specs.declared.mnemonics.Mnemonic.TheVariants as mnemonic
-use Rattle.stl_ast.specs.declared.names.BlockName.{BlockName}
 use Rattle.stl_ast.specs.declared.names.BlockName.TheVariants as block
-use Rattle.stl_ast.specs.declared.operands.Letters.{Letters}
 use Rattle.stl_ast.specs.declared.operands.Operand.{Operand}
 use Rattle.stl_ast.specs.declared.operands.Operand.TheVariants as operand
 use Rattle.stl_ast.specs.declared.operands.PathHead.TheVariants as head
@@ -38,18 +30,17 @@ use Rattle.stl_parser.specs.declared.statements.BareStatement.{BareStatement}
 use Rattle.stl_print.specs.Gaps.{gap_text}
 use Rattle.stl_print.specs.Literals.{literal_pieces}
 use Rattle.stl_print.specs.Mnemonics.{Spelling, one, spelling, spelling_pieces, two}
-use Rattle.stl_print.specs.Names.{block_name, steps_pieces}
-use Rattle.stl_print.specs.Operands.{by_register, direct, instance_pieces, operand_pieces, opened, path_head}
+use Rattle.stl_print.specs.Names.{block_name}
+use Rattle.stl_print.specs.Operands.{by_register, direct, operand_pieces, opened, path_head}
 use Rattle.stl_print.specs.Statements.{actuals_pieces}
 use Rattle.stl_print.specs.Words.{flag_kind, flag_text}
 use Rattle.stl_print.specs.declared.gaps.Gap.{Gap}
-use Rattle.stl_print.specs.declared.gaps.Gap.TheVariants as gap
 use Rattle.print_laws.specs.Reading.{FitsSyntax, IsCalled, IsCalledAlone, IsOpened, IsPrintedLiteral, IsPrintedOperand, IsTarget, Syntax, block_call, bracket, call, empty, jump, opens, plain, syntax_of}
-use Rattle.print_laws.proofs.read.Instructions.{behind_read}
-use Rattle.print_laws.proofs.read.Operands.{Texts}
-use Rattle.print_laws.proofs.read.Shown.{behind, lack_shown, lacks, line_past, mark_is, mark_shown, shown_behind, shown_front, tokens_joined, without}
-use Rattle.print_laws.proofs.read.Tame.{actuals_tame, all_tame, called_tame, flat, opened_tame, operand_tame, tame, tame_joined, tame_lacks, tame_line, target_tame}
-use Rattle.print_laws.proofs.read.Words.{IsCalm, IsSingle, calm, first_kind, first_text, form_of, single}
+use Rattle.print_laws.proofs.parsing.Instructions.{behind_read}
+use Rattle.print_laws.proofs.parsing.Operands.{Texts}
+use Rattle.print_laws.proofs.parsing.Shown.{line_past, mark_is, mark_shown}
+use Rattle.print_laws.proofs.parsing.Tame.{actuals_tame, all_tame, called_tame, flat, opened_tame, operand_tame, tame_joined, target_tame}
+use Rattle.print_laws.proofs.parsing.Words.{IsCalm, IsSingle, calm, first_kind, first_text, form_of, single}
 
 -- ---- the first token behind a word
 
@@ -229,9 +220,10 @@ unfolding after_paren has_kind
 head_shown source from line [] t h = (refl, refl)
 head_shown source from line (p ∷ ps) t h =
     let parts = and_parts (not (mark_is p.kind p.text mark.OpenParen) && not (mark_is p.kind p.text mark.Colon)) (not (nat_eq (kind_rank p.kind) 10)) h in
-    let both = and_parts (not (mark_is p.kind p.text mark.OpenParen)) (not (mark_is p.kind p.text mark.Colon)) parts.0 in
-    (and_from _ _ (ap not (mark_shown source p.kind p.text _ mark.Colon refl t.1) ∙ both.1) parts.1,
-    no_paren (is_mark source _ mark.OpenParen) _ (ap not (mark_shown source p.kind p.text _ mark.OpenParen refl t.1) ∙ both.0))
+    let both = and_parts (not (mark_is p.kind p.text mark.OpenParen)) (not (mark_is p.kind p.text mark.Colon)) parts.0 in (
+      and_from _ _ (ap not (mark_shown source p.kind p.text _ mark.Colon refl t.1) ∙ both.1) parts.1,
+      no_paren (is_mark source _ mark.OpenParen) _ (ap not (mark_shown source p.kind p.text _ mark.OpenParen refl t.1) ∙ both.0),
+    )
   where
     no_paren : (b : Bool) (ts : List Token) → not b ≡ true → (if b then Some ts else None) ≡ None
     no_paren false ts e = refl

@@ -1,21 +1,19 @@
 -- Names of blocks that are printed are read.
-use Rattle.std.proofs.Common.{◌≡◌, ◌≤◌, refl, sym, ◌∙◌, ap, ℕ, Bool, true, false, List, [], ◌∷◌, ◌++◌, Option, Some, None, arith}
-use Rattle.std.specs.Option.{option_and_then, option_map, option_or}
+use Rattle.std.proofs.Common.{◌≡◌, ◌≤◌, refl, ℕ, List, ◌++◌, Some, None}
 use Rattle.plc_base.specs.Decimal.{decimal_up_to}
 use Rattle.plc_base.specs.declared.blocks.BlockId.{BlockId}
 use Rattle.plc_base.specs.declared.blocks.BlockKind.{BlockKind}
 use Rattle.plc_base.specs.declared.blocks.BlockKind.TheVariants as kinds
-use Rattle.stl_lexer.specs.Pieces.{Show, tokens_of}
+use Rattle.stl_lexer.specs.Pieces.{tokens_of}
 use Rattle.stl_lexer.specs.declared.kinds.Token.{Token}
-use Rattle.stl_ast.specs.declared.names.BlockName.{BlockName}
 use Rattle.stl_ast.specs.declared.names.BlockName.TheVariants as block
-use Rattle.stl_parser.specs.Addresses.{block_at, block_number_at, glued_at, numbered_at, quoted_at, separate_at}
+use Rattle.stl_parser.specs.Addresses.{block_at, block_number_at, glued_at, numbered_at, separate_at}
 use Rattle.stl_parser.specs.Numbers.{number_of, number_up_to}
 use Rattle.stl_parser.specs.Tables.{block_kinds, look_up}
 use Rattle.stl_parser.specs.Terminals.{has_kind}
 use Rattle.stl_print.specs.Names.{block_name}
 use Rattle.stl_print.specs.Words.{block_letters}
-use Rattle.print_laws.proofs.read.Operands.{Texts, read_number}
+use Rattle.print_laws.proofs.parsing.Operands.{Texts, read_number}
 
 kind_found : (k : BlockKind) → look_up block_kinds (block_letters k) ≡ Some k
 unfolding look_up block_kinds block_letters

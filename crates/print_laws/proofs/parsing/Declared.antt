@@ -1,17 +1,14 @@
 -- Declarations that are printed are read as clauses.
-use Rattle.std.proofs.Common.{◌≡◌, ◌≤◌, ◌<◌, ◌+◌, refl, sym, ◌∙◌, ap, subst, ℕ, zero, suc, Bool, true, false, List, [], ◌∷◌, ◌++◌, length, take, drop, Option, Some, None, ℤ, pos, negsuc, arith, append_assoc}
-use Rattle.std.specs.Prelude.{not, ◌&&◌, ◌||◌, if◌then◌else◌, nat_eq, codes, sum_by}
-use Rattle.std.specs.List.{AllByRecursion, flat_map, list_all}
-use Rattle.std.specs.Option.{option_and_then, option_map, option_or}
-use Rattle.std.specs.Str.{str_eq_ignore_ascii_case}
-use Rattle.std.proofs.lemmas.Bool.{and_parts, and_from}
+use Rattle.std.proofs.Common.{◌≡◌, ◌+◌, refl, sym, ◌∙◌, ap, subst, ℕ, suc, true, false, List, [], ◌∷◌, ◌++◌, length, Option, Some, None, ℤ, pos, negsuc, arith, append_assoc}
+use Rattle.std.specs.Prelude.{not, ◌&&◌, sum_by}
+use Rattle.std.specs.List.{AllByRecursion, flat_map}
+use Rattle.std.proofs.lemmas.Bool.{and_from}
 use Rattle.std.proofs.lemmas.List.{append-nil}
 use Rattle.stl_lexer.specs.Gap.{newlines_of}
 use Rattle.stl_lexer.specs.Marks.{mark_text}
-use Rattle.stl_lexer.specs.Pieces.{Piece, Show, tokens_of}
+use Rattle.stl_lexer.specs.Pieces.{Piece, tokens_of}
 use Rattle.stl_lexer.specs.Tokens.{text_of}
 use Rattle.stl_lexer.specs.declared.kinds.Token.{Token}
-use Rattle.stl_lexer.specs.declared.kinds.TokenKind.{TokenKind}
 use Rattle.stl_lexer.specs.declared.kinds.TokenKind.TheVariants as kind
 use Rattle.stl_lexer.specs.declared.marks.Mark.TheVariants as mark
 use Rattle.stl_ast.specs.Declarations.{is_elementary}
@@ -26,9 +23,9 @@ use Rattle.stl_ast.specs.declared.literals.Literal.{Literal}
 use Rattle.stl_ast.specs.declared.literals.Literal.TheVariants as literal
 use Rattle.stl_parser.specs.Clauses.{clause_at, clause_by_kind, declaration_clause, in_data_head, inside_clause, is_outer, level_at, other_clause, plain_clause, semicolon_clause, structure_clause, takes_parameters, until_semicolon}
 use Rattle.stl_parser.specs.Declarations.{after_struct, declaration_of, declared, declared_at, init_behind, structure_at}
-use Rattle.stl_parser.specs.Tables.{keywords, look_up, simple_types}
-use Rattle.stl_parser.specs.Terminals.{has_kind, is_key, is_mark, key_text, kind_rank}
-use Rattle.stl_parser.specs.Types.{array_at, arrays_at, element_at, init_list, init_of, simple_at}
+use Rattle.stl_parser.specs.Tables.{keywords, look_up}
+use Rattle.stl_parser.specs.Terminals.{has_kind, is_mark, key_text}
+use Rattle.stl_parser.specs.Types.{array_at, arrays_at, element_at, init_of, simple_at}
 use Rattle.stl_parser.specs.declared.clauses.Clause.TheVariants as clause
 use Rattle.stl_parser.specs.declared.keywords.Key.TheVariants as key
 use Rattle.stl_parser.specs.declared.places.ClausePlace.{ClausePlace}
@@ -40,12 +37,12 @@ use Rattle.stl_print.specs.Words.{type_word}
 use Rattle.stl_print.specs.declared.gaps.Gap.{Gap}
 use Rattle.stl_print.specs.declared.gaps.Gap.TheVariants as gap
 use Rattle.print_laws.specs.Reading.{IsByte, IsCountOf, IsName, IsPrintedDeclaration, IsPrintedInit, IsPrintedType}
-use Rattle.print_laws.proofs.read.Lines.{all_flat, first_line, flat_all_joined, flat_line, past_joined, semicolon, semicolon_behind, semicolon_is, semicolon_joined, tame_flat}
-use Rattle.print_laws.proofs.read.Operands.{Texts}
-use Rattle.print_laws.proofs.read.Runs.{begun, either_none, named, no_array_at, no_arrays, no_key}
-use Rattle.print_laws.proofs.read.Shown.{behind, lack_shown, lacks, lacks_joined, line_past, shown_behind, shown_front, tokens_joined, until_read, without}
-use Rattle.print_laws.proofs.read.Tame.{all_tame, flat, flat_ends, flat_number, flat_word, literal_tame, tame_joined, tame_lacks}
-use Rattle.print_laws.proofs.read.Types.{IsTypeWord, array_found, array_read, inits_read, type_found}
+use Rattle.print_laws.proofs.parsing.Lines.{first_line, flat_all_joined, semicolon, semicolon_behind, semicolon_is, semicolon_joined, tame_flat}
+use Rattle.print_laws.proofs.parsing.Operands.{Texts}
+use Rattle.print_laws.proofs.parsing.Runs.{begun, either_none, named, no_array_at, no_arrays, no_key}
+use Rattle.print_laws.proofs.parsing.Shown.{behind, lack_shown, line_past, shown_behind, shown_front, tokens_joined, until_read, without}
+use Rattle.print_laws.proofs.parsing.Tame.{all_tame, flat, flat_number, flat_word, literal_tame, tame_joined, tame_lacks}
+use Rattle.print_laws.proofs.parsing.Types.{IsTypeWord, array_found, array_read, inits_read, type_found}
 
 -- ---- a declaration by its tokens
 

@@ -1,13 +1,11 @@
 -- Actual parameters that are printed are read, each on the line of its call.
-use Rattle.std.proofs.Common.{◌≡◌, ◌≤◌, ◌<◌, ◌+◌, refl, sym, ◌∙◌, ap, subst, ℕ, zero, suc, Bool, true, false, List, [], ◌∷◌, ◌++◌, length, take, drop, Option, Some, None, arith, append_assoc}
+use Rattle.std.proofs.Common.{◌≡◌, ◌≤◌, ◌+◌, refl, ◌∙◌, ap, ℕ, zero, suc, true, List, [], ◌∷◌, ◌++◌, length, Some, arith, append_assoc}
 use Rattle.std.specs.Prelude.{sum_by}
-use Rattle.std.specs.List.{AllByRecursion, list_all}
-use Rattle.std.specs.Option.{option_and_then, option_map, option_or}
-use Rattle.std.proofs.lemmas.Bool.{and_parts}
+use Rattle.std.specs.List.{AllByRecursion}
 use Rattle.std.proofs.lemmas.List.{append-nil}
 use Rattle.stl_lexer.specs.Gap.{newlines_of}
 use Rattle.stl_lexer.specs.Marks.{mark_text}
-use Rattle.stl_lexer.specs.Pieces.{Piece, Show, tokens_of}
+use Rattle.stl_lexer.specs.Pieces.{Piece, tokens_of}
 use Rattle.stl_lexer.specs.Tokens.{text_of}
 use Rattle.stl_lexer.specs.declared.kinds.Token.{Token}
 use Rattle.stl_lexer.specs.declared.kinds.TokenKind.TheVariants as kind
@@ -15,18 +13,18 @@ use Rattle.stl_lexer.specs.declared.marks.Mark.TheVariants as mark
 use Rattle.stl_ast.specs.declared.operands.Operand.{Operand}
 use Rattle.stl_ast.specs.declared.statements.Actual.{Actual}
 use Rattle.stl_parser.specs.Parts.{parts_from, whole}
-use Rattle.stl_parser.specs.Statements.{actual_at, actuals_behind, actuals_end, actuals_of, next_actual, value_ends, value_length, value_of}
-use Rattle.stl_parser.specs.Terminals.{has_kind, is_mark, kind_rank}
+use Rattle.stl_parser.specs.Statements.{actual_at, actuals_behind, actuals_end, actuals_of, next_actual, value_ends, value_of}
+use Rattle.stl_parser.specs.Terminals.{has_kind, is_mark}
 use Rattle.stl_print.specs.Gaps.{gap_text}
 use Rattle.stl_print.specs.Operands.{operand_pieces}
 use Rattle.stl_print.specs.Pieces.{mark as mark_piece}
 use Rattle.stl_print.specs.declared.gaps.Gap.TheVariants as gap
 use Rattle.stl_print.specs.Statements.{actual_pieces, actuals_pieces, further_actuals}
 use Rattle.print_laws.specs.Reading.{IsPrintedActual}
-use Rattle.print_laws.proofs.read.Actuals.{passed_lacks, passed_printed, value_counted, value_is}
-use Rattle.print_laws.proofs.read.Operands.{Texts, operand_read}
-use Rattle.print_laws.proofs.read.Shown.{behind, front_dropped, front_taken, lack_shown, line_past, shown_behind, shown_front, tokens_joined, without}
-use Rattle.print_laws.proofs.read.Tame.{actual_tame, flat, flat_ends, tame_line}
+use Rattle.print_laws.proofs.parsing.Actuals.{passed_lacks, passed_printed, value_counted, value_is}
+use Rattle.print_laws.proofs.parsing.Operands.{Texts, operand_read}
+use Rattle.print_laws.proofs.parsing.Shown.{behind, front_dropped, front_taken, lack_shown, line_past, shown_behind, shown_front, tokens_joined, without}
+use Rattle.print_laws.proofs.parsing.Tame.{actual_tame, flat, flat_ends, tame_line}
 
 of_tokens : (source : List ℕ) (w assign : Token) (vs rest : List Token) (o : Operand) → has_kind w kind.Word ≡ true
     → is_mark source assign mark.Assign ≡ true → without source mark.Comma vs ≡ true → value_of source vs ≡ Some o

@@ -1,13 +1,12 @@
 -- Printed statements are read as clauses of a body.
-use Rattle.std.proofs.Common.{◌≡◌, ◌≤◌, ◌<◌, ◌+◌, refl, sym, ◌∙◌, ap, subst, ℕ, zero, suc, Bool, true, false, List, [], ◌∷◌, ◌++◌, length, Option, Some, None, arith, append_assoc}
-use Rattle.std.specs.Prelude.{not, ◌&&◌, sum_by, if◌then◌else◌, nat_lt}
-use Rattle.std.specs.List.{list_all}
-use Rattle.std.proofs.lemmas.Bool.{and_parts, and_from}
+use Rattle.std.proofs.Common.{◌≡◌, ◌≤◌, ◌+◌, refl, sym, ◌∙◌, ap, subst, ℕ, true, false, List, [], ◌∷◌, ◌++◌, length, Option, Some, None, arith, append_assoc}
+use Rattle.std.specs.Prelude.{sum_by}
+use Rattle.std.proofs.lemmas.Bool.{and_from}
 use Rattle.std.proofs.lemmas.Bool.Decides.{nat_tests}
 use Rattle.plc_base.specs.declared.blocks.BlockKind.{BlockKind}
 use Rattle.stl_lexer.specs.Gap.{newlines_of}
 use Rattle.stl_lexer.specs.Marks.{mark_text}
-use Rattle.stl_lexer.specs.Pieces.{Piece, Show, tokens_of}
+use Rattle.stl_lexer.specs.Pieces.{Piece, tokens_of}
 use Rattle.stl_lexer.specs.Tokens.{text_of}
 use Rattle.stl_lexer.specs.declared.kinds.Token.{Token}
 use Rattle.stl_lexer.specs.declared.kinds.TokenKind.TheVariants as kind
@@ -18,7 +17,7 @@ use Rattle.stl_ast.specs.declared.mnemonics.Mnemonic.TheVariants as mnemonic
 use Rattle.stl_ast.specs.declared.statements.Statement.{Statement}
 use Rattle.stl_parser.specs.Clauses.{clause_at}
 use Rattle.stl_parser.specs.Statements.{is_long, statement}
-use Rattle.stl_parser.specs.Terminals.{has_kind, is_mark, kind_rank}
+use Rattle.stl_parser.specs.Terminals.{has_kind, is_mark}
 use Rattle.stl_parser.specs.declared.clauses.Clause.TheVariants as clause
 use Rattle.stl_parser.specs.declared.places.ClausePlace.TheVariants as place
 use Rattle.stl_parser.specs.declared.statements.BareStatement.{BareStatement}
@@ -30,12 +29,12 @@ use Rattle.stl_print.specs.Statements.{actuals_pieces, instruction_pieces, label
 use Rattle.stl_print.specs.declared.gaps.Gap.{Gap}
 use Rattle.stl_print.specs.declared.gaps.Gap.TheVariants as gap
 use Rattle.print_laws.specs.Reading.{FitsSyntax, IsLabelOf, IsPrintedStatement, empty, syntax_of}
-use Rattle.print_laws.proofs.read.Lines.{all_flat, first_line, flat_all_joined, flat_line, head_line, past_joined, semicolon, semicolon_behind, semicolon_calm, semicolon_is, semicolon_joined, tame_flat, word_head, word_lacks, word_line, word_quiet}
-use Rattle.print_laws.proofs.read.Operands.{Texts}
-use Rattle.print_laws.proofs.read.Runs.{runs_alone, runs_labelled}
-use Rattle.print_laws.proofs.read.Shown.{lack_shown, lacks, lacks_joined, line_past, shown_front, without}
-use Rattle.print_laws.proofs.read.Statements.{IsInstruction, behind_tame, calm_head, instruction_read, no_empty}
-use Rattle.print_laws.proofs.read.Tame.{flat, flat_ends, flat_word, tame_lacks}
+use Rattle.print_laws.proofs.parsing.Lines.{flat_line, head_line, past_joined, semicolon, semicolon_behind, semicolon_calm, semicolon_is, semicolon_joined, tame_flat, word_head, word_lacks, word_line, word_quiet}
+use Rattle.print_laws.proofs.parsing.Operands.{Texts}
+use Rattle.print_laws.proofs.parsing.Runs.{runs_alone, runs_labelled}
+use Rattle.print_laws.proofs.parsing.Shown.{lack_shown, lacks_joined, line_past, shown_front, without}
+use Rattle.print_laws.proofs.parsing.Statements.{IsInstruction, behind_tame, calm_head, instruction_read, no_empty}
+use Rattle.print_laws.proofs.parsing.Tame.{flat_ends, flat_word, tame_lacks}
 
 -- an instruction without its semicolon
 inside : Gap → Statement → List Piece

@@ -1,15 +1,13 @@
 -- What a tree keeps of the clauses that are printed of it; the tree is read.
-use Rattle.std.proofs.Common.{◌≡◌, refl, sym, ◌∙◌, ap, subst, ℕ, zero, suc, Bool, true, false, List, [], ◌∷◌, ◌++◌, map, filter, Option, Some, None, arith, append_assoc, inl, inr}
-use Rattle.std.specs.Prelude.{◌⊎◌, if◌then◌else◌, max}
+use Rattle.std.proofs.Common.{◌≡◌, refl, sym, ◌∙◌, ap, subst, ℕ, Bool, true, false, List, [], ◌∷◌, ◌++◌, map, filter, Option, Some, None, append_assoc, inl, inr}
+use Rattle.std.specs.Prelude.{if◌then◌else◌}
 use Rattle.std.specs.List.{AllByRecursion, flat_map}
-use Rattle.plc_base.specs.Kinds.{is_code, is_data_type}
+use Rattle.plc_base.specs.Kinds.{is_data_type}
 use Rattle.plc_base.specs.declared.blocks.BlockKind.{BlockKind}
 use Rattle.plc_base.specs.declared.blocks.BlockKind.TheVariants as kinds
-use Rattle.stl_lexer.specs.Pieces.{Show, tokens_of}
 use Rattle.stl_ast.specs.declared.blocks.Block.{Block}
 use Rattle.stl_ast.specs.declared.blocks.Part.{Part}
 use Rattle.stl_ast.specs.declared.blocks.Setting.{Setting}
-use Rattle.stl_ast.specs.declared.blocks.Tree.{Tree}
 use Rattle.stl_ast.specs.declared.declarations.Declaration.{Declaration}
 use Rattle.stl_ast.specs.declared.declarations.ElementType.TheVariants as element
 use Rattle.stl_ast.specs.declared.declarations.Simple.{Simple}
@@ -18,16 +16,14 @@ use Rattle.stl_ast.specs.declared.names.BlockName.{BlockName}
 use Rattle.stl_ast.specs.declared.names.BlockName.TheVariants as block
 use Rattle.stl_ast.specs.declared.statements.Statement.{Statement}
 use Rattle.stl_parser.specs.Frame.{follow, follow_shaped}
-use Rattle.stl_parser.specs.Source.{IsTree}
 use Rattle.stl_parser.specs.Spelling.{is_kept, is_udt, nowhere, spelled_block, spelled_part, spelled_shape}
 use Rattle.stl_parser.specs.declared.clauses.Clause.{Clause}
 use Rattle.stl_parser.specs.declared.clauses.Clause.TheVariants as clause
-use Rattle.stl_parser.specs.declared.places.ClausePlace.{ClausePlace}
 use Rattle.stl_parser.specs.declared.places.ClausePlace.TheVariants as place
-use Rattle.stl_print.specs.Trees.{begin_clauses, block_clauses, declared_from, instance_clauses, part_clauses, pieces, shape_clauses, type_clauses}
-use Rattle.print_laws.specs.Reading.{ArePrintedTreesRead, IsCodeBlock, IsDataShape, IsFunctionBlock, IsNameOf, IsPrintedBlock, IsPrintedData, IsPrintedDeclaration, IsPrintedPart, IsPrintedSetting, IsPrintedStatement}
-use Rattle.print_laws.proofs.read.Trees.{all_components, all_printed, all_set, based_step, begin_step, code_clauses, code_is, code_walk, data_ends, flat_declared, head_step, no_function, structure_end_step, structure_step}
-use Rattle.print_laws.proofs.read.Walks.{IsStep, Walk, walk_joined, walk_read}
+use Rattle.stl_print.specs.Trees.{begin_clauses, block_clauses, instance_clauses, part_clauses, pieces, shape_clauses, type_clauses}
+use Rattle.print_laws.specs.Reading.{ArePrintedTreesRead, IsCodeBlock, IsDataShape, IsFunctionBlock, IsNameOf, IsPrintedBlock, IsPrintedData, IsPrintedDeclaration, IsPrintedPart, IsPrintedSetting}
+use Rattle.print_laws.proofs.parsing.Trees.{all_components, all_printed, all_set, based_step, begin_step, code_clauses, code_is, code_walk, data_ends, flat_declared, head_step, no_function, structure_end_step, structure_step}
+use Rattle.print_laws.proofs.parsing.Walks.{Walk, walk_joined, walk_read}
 
 -- ---- clauses that are kept
 
@@ -139,10 +135,12 @@ data_spelled line end_line name shape components instance settings =
 begins_settings : (settings : List Setting) (end_line : ℕ) → AllByRecursion IsPrintedSetting settings
     → Walk (place.Shaped kinds.Db) (clause.Begins ∷ (map clause.Sets settings ++ clause.Ends end_line kinds.Db ∷ [])) place.Outside
 unfolding follow follow_shaped
-begins_settings settings end_line h =
-    (place.Settings, begin_step (place.Shaped kinds.Db) place.Settings refl,
-    walk_joined (map clause.Sets settings) (clause.Ends end_line kinds.Db ∷ []) place.Settings place.Settings place.Outside (all_set settings h)
-    (place.Outside, data_ends end_line, refl))
+begins_settings settings end_line h = (
+  place.Settings,
+  begin_step (place.Shaped kinds.Db) place.Settings refl,
+  walk_joined (map clause.Sets settings) (clause.Ends end_line kinds.Db ∷ []) place.Settings place.Settings place.Outside (all_set settings h)
+      (place.Outside, data_ends end_line, refl),
+)
 
 abbrev structure : TypeTree
 structure = record { arrays = []; of = element.Structure }
@@ -150,16 +148,21 @@ structure = record { arrays = []; of = element.Structure }
 structure_walk : (line end_line : ℕ) (name : BlockName) (components : List Declaration) → IsNameOf kinds.Db name → AllByRecursion IsPrintedDeclaration components
     → Walk place.Outside (data_clauses line end_line name (Some structure) components None []) place.Outside
 unfolding type_clauses
-structure_walk line end_line name components named h =
-    (place.Head kinds.Db, head_step line kinds.Db name None no_function named refl,
-    (place.Shape kinds.Db 0, structure_step,
+structure_walk line end_line name components named h = (
+  place.Head kinds.Db,
+  head_step line kinds.Db name None no_function named refl,
+  (
+    place.Shape kinds.Db 0,
+    structure_step,
     subst (λ (cs : List Clause). Walk (place.Shape kinds.Db 0) ((cs ++ clause.EndStructure ∷ []) ++ (clause.Begins ∷ (clause.Ends end_line kinds.Db ∷ []))) place.Outside)
-    (sym (flat_declared components h))
-    (walk_joined (map clause.Declares components ++ clause.EndStructure ∷ []) (clause.Begins ∷ (clause.Ends end_line kinds.Db ∷ []))
-    (place.Shape kinds.Db 0) (place.Shaped kinds.Db) place.Outside
-    (walk_joined (map clause.Declares components) (clause.EndStructure ∷ []) (place.Shape kinds.Db 0) (place.Shape kinds.Db 0) (place.Shaped kinds.Db)
-    (all_components components h) (place.Shaped kinds.Db, structure_end_step, refl))
-    (begins_settings [] end_line tt))))
+        (sym (flat_declared components h))
+        (walk_joined (map clause.Declares components ++ clause.EndStructure ∷ []) (clause.Begins ∷ (clause.Ends end_line kinds.Db ∷ []))
+        (place.Shape kinds.Db 0) (place.Shaped kinds.Db) place.Outside
+        (walk_joined (map clause.Declares components) (clause.EndStructure ∷ []) (place.Shape kinds.Db 0) (place.Shape kinds.Db 0) (place.Shaped kinds.Db)
+        (all_components components h) (place.Shaped kinds.Db, structure_end_step, refl))
+        (begins_settings [] end_line tt)),
+  ),
+)
 
 structure_kept : (line end_line : ℕ) (name : BlockName) (components : List Declaration) → AllByRecursion IsPrintedDeclaration components
     → data_spelled line end_line name (Some structure) components None [] ≡ filter is_kept (data_clauses line end_line name (Some structure) components None [])

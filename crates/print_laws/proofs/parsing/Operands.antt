@@ -1,6 +1,6 @@
 -- Operands that are printed are read.
-use Rattle.std.proofs.Common.{◌≡◌, ◌≤◌, ◌<◌, ◌+◌, ◌*◌, ◌/◌, ◌%◌, refl, sym, ◌∙◌, ap, ℕ, suc, Bool, true, false, List, [], ◌∷◌, ◌++◌, Option, Some, None, drop, take, subst, arith, ℤ, pos, negsuc, inl, inr}
-use Rattle.std.specs.Option.{option_map, option_or, option_and_then}
+use Rattle.std.proofs.Common.{◌≡◌, ◌≤◌, ◌<◌, ◌+◌, ◌*◌, ◌/◌, ◌%◌, refl, sym, ◌∙◌, ap, ℕ, suc, true, false, List, [], ◌∷◌, ◌++◌, Option, Some, None, drop, take, subst, arith, pos, negsuc, inl, inr}
+use Rattle.std.specs.Option.{option_and_then}
 use Rattle.std.specs.Str.{str_eq_ignore_ascii_case}
 use Rattle.std.specs.Prelude.{◌⊎◌, codes, nat_le, decimal}
 use Rattle.std.proofs.lemmas.Bool.Decides.{nat_tests}
@@ -14,7 +14,7 @@ use Rattle.plc_base.specs.declared.places.Width.{Width}
 use Rattle.plc_base.specs.declared.places.Width.TheVariants as width
 use Rattle.stl_lexer.specs.Marks.{mark_text}
 use Rattle.stl_lexer.specs.Pieces.{Piece, Show, tokens_of}
-use Rattle.stl_ast.specs.Operands.{IsBitOf, IsNumber}
+use Rattle.stl_ast.specs.Operands.{IsBitOf}
 use Rattle.stl_lexer.specs.declared.kinds.Token.{Token}
 use Rattle.plc_base.specs.declared.blocks.BlockKind.{BlockKind}
 use Rattle.stl_ast.specs.declared.names.BlockName.{BlockName}
@@ -27,26 +27,23 @@ use Rattle.stl_ast.specs.declared.operands.Numbered.{Numbered}
 use Rattle.stl_ast.specs.declared.operands.Numbered.TheVariants as numbered_kind
 use Rattle.stl_ast.specs.declared.operands.Operand.{Operand}
 use Rattle.stl_ast.specs.declared.operands.Operand.TheVariants as operand
-use Rattle.stl_ast.specs.declared.operands.PathHead.{PathHead}
 use Rattle.stl_ast.specs.declared.operands.PathHead.TheVariants as head
 use Rattle.stl_parser.specs.declared.tables.Address.{Address}
 use Rattle.stl_parser.specs.declared.tables.Address.TheVariants as address
 use Rattle.stl_parser.specs.Terminals.{has_kind, is_mark, is_key, key_text}
-use Rattle.stl_parser.specs.Tables.{look_up, addresses, flags, registers}
+use Rattle.stl_parser.specs.Tables.{look_up, addresses, flags}
 use Rattle.stl_parser.specs.Numbers.{number_of, number_up_to, signed_at}
-use Rattle.stl_parser.specs.Parts.{parts_from, whole}
+use Rattle.stl_parser.specs.Parts.{parts_from}
 use Rattle.stl_parser.specs.Literals.{literal_of, literal_at, literal_token, truth_of, long_literal}
 use Rattle.stl_parser.specs.Addresses.{address_at, bit_of, numbered_at, glued_at, separate_at, letter_count}
-use Rattle.stl_parser.specs.Operands.{operand_of, operand_by_kind, word_operand, alone_of, with_number, direct_of, area_of, place_bit, data_block, data_block_name, behind_block, in_block, block_place, place_of, with_pointer, indirect_of, area_by, memory_pointer, pointer_end, pointer_close, holds_pointer, by_register, register_pointer, register_of, offset_of, number_by, mark_operand, sized_by_register, pointer_of, plain_pointer, area_pointer, local_path, path_of, steps_from, path_end, condition_of, other_of, sign_operand}
-use Rattle.stl_print.specs.Literals.{based, literal_pieces}
-use Rattle.stl_print.specs.Mnemonics.{plain}
-use Rattle.stl_print.specs.Names.{block_name, steps_pieces}
-use Rattle.stl_print.specs.Operands.{numbered, address as address_pieces, bit_pieces, direct, in_memory, in_register, by_register as register_pieces, operand_pieces, path_head, pointer, pointer_byte}
-use Rattle.stl_print.specs.Pieces.{word, mark, number}
+use Rattle.stl_parser.specs.Operands.{operand_of, operand_by_kind, word_operand, alone_of, with_number, direct_of, area_of, place_bit, data_block, behind_block, in_block, block_place, place_of, with_pointer, indirect_of, area_by, memory_pointer, pointer_end, pointer_close, holds_pointer, by_register, register_pointer, register_of, offset_of, number_by, mark_operand, sized_by_register, pointer_of, plain_pointer, area_pointer, local_path, path_of, steps_from, path_end, condition_of, other_of, sign_operand}
+use Rattle.stl_print.specs.Literals.{literal_pieces}
+use Rattle.stl_print.specs.Names.{block_name}
+use Rattle.stl_print.specs.Operands.{numbered, address as address_pieces, bit_pieces, direct, by_register as register_pieces, operand_pieces, path_head, pointer, pointer_byte}
 use Rattle.stl_print.specs.Words.{address_letters, area_letters, size_letter, bit_letter, width_letter, block_letters, numbered_letters, flag_text, flag_kind, truth_word}
-use Rattle.print_laws.specs.Reading.{IsArea, IsAreaOf, IsDataBlock, IsPrintedLiteral, IsPrintedOperand, IsRegister}
-use Rattle.print_laws.proofs.read.Constants.{byte_value, word_value, dword_value, long_constant, time_constant}
-use Rattle.print_laws.proofs.read.Numbers.{minus, number_read}
+use Rattle.print_laws.specs.Reading.{IsArea, IsAreaOf, IsPrintedLiteral, IsPrintedOperand, IsRegister}
+use Rattle.print_laws.proofs.parsing.Constants.{byte_value, word_value, dword_value, long_constant, time_constant}
+use Rattle.print_laws.proofs.parsing.Numbers.{minus, number_read}
 
 -- a source has these pieces from a place on
 abbrev pub Texts : (source : List ℕ) (from line : ℕ) → List Piece → Type 0

@@ -1,20 +1,16 @@
 -- Settings that are printed are read as clauses.
-use Rattle.std.proofs.Common.{◌≡◌, ◌≤◌, ◌<◌, ◌+◌, refl, sym, ◌∙◌, ap, subst, ℕ, zero, suc, Bool, true, false, List, [], ◌∷◌, ◌++◌, length, take, drop, Option, Some, None, ℤ, pos, negsuc, arith, append_assoc}
-use Rattle.std.specs.Prelude.{not, ◌&&◌, ◌||◌, if◌then◌else◌, nat_eq, codes, sum_by}
-use Rattle.std.specs.List.{flat_map, list_all}
-use Rattle.std.specs.Option.{option_and_then, option_map, option_or}
-use Rattle.std.proofs.lemmas.Bool.{and_parts, and_from}
-use Rattle.std.proofs.lemmas.List.{append-nil}
+use Rattle.std.proofs.Common.{◌≡◌, ◌≤◌, ◌<◌, ◌+◌, refl, sym, ◌∙◌, ap, subst, ℕ, suc, true, false, List, [], ◌∷◌, ◌++◌, length, drop, Option, Some, None, pos, negsuc, arith, append_assoc}
+use Rattle.std.specs.Prelude.{not, nat_eq, sum_by}
+use Rattle.std.specs.Option.{option_and_then}
+use Rattle.std.proofs.lemmas.Bool.{and_from}
 use Rattle.stl_lexer.specs.Gap.{newlines_of}
 use Rattle.stl_lexer.specs.Marks.{mark_text}
-use Rattle.stl_lexer.specs.Pieces.{Piece, Show, tokens_of}
+use Rattle.stl_lexer.specs.Pieces.{Piece, tokens_of}
 use Rattle.stl_lexer.specs.Tokens.{text_of}
 use Rattle.stl_lexer.specs.declared.kinds.Token.{Token}
 use Rattle.stl_lexer.specs.declared.kinds.TokenKind.{TokenKind}
 use Rattle.stl_lexer.specs.declared.kinds.TokenKind.TheVariants as kind
 use Rattle.stl_lexer.specs.declared.marks.Mark.TheVariants as mark
-use Rattle.plc_base.specs.declared.places.Width.TheVariants as width
-use Rattle.stl_ast.specs.Literals.{IsDecimal}
 use Rattle.stl_ast.specs.declared.blocks.PathStep.{PathStep}
 use Rattle.stl_ast.specs.declared.blocks.PathStep.TheVariants as step
 use Rattle.stl_ast.specs.declared.blocks.Setting.{Setting}
@@ -23,35 +19,33 @@ use Rattle.stl_ast.specs.declared.literals.Literal.TheVariants as literal
 use Rattle.stl_ast.specs.declared.mnemonics.Mnemonic.{Mnemonic}
 use Rattle.stl_parser.specs.Addresses.{block_at, block_number_at, numbered_at, quoted_at}
 use Rattle.stl_parser.specs.Clauses.{clause_at, clause_by_kind, declaration_clause, first_step, inside_clause, other_clause, plain_clause, semicolon_clause, setting_clause, setting_of, statement_clause, structure_clause, until_semicolon, value_behind}
-use Rattle.stl_parser.specs.Declarations.{declaration_of, structure_at}
 use Rattle.stl_parser.specs.Literals.{literal_at, literal_of, literal_token, long_literal}
 use Rattle.stl_parser.specs.Numbers.{int_at, number_of, number_up_to, signed_at}
 use Rattle.stl_parser.specs.Operands.{by_register, index_end, mark_operand, operand_by_kind, operand_of, path_end, register_pointer, step_at, steps_from}
-use Rattle.stl_parser.specs.Parts.{parts_from, whole}
+use Rattle.stl_parser.specs.Parts.{parts_from}
 use Rattle.stl_parser.specs.Statements.{after_paren, behind_word, block_call_of, call_of, closed_of, instruction_of, jump_of, open_of, opening_of, statement_of, unlabelled, with_operand, zone_end_of}
 use Rattle.stl_parser.specs.Tables.{keywords, look_up, mnemonics, opening_mnemonics}
 use Rattle.stl_parser.specs.Terminals.{has_kind, is_mark, kind_rank}
 use Rattle.stl_parser.specs.declared.clauses.Clause.TheVariants as clause
 use Rattle.stl_parser.specs.declared.places.ClausePlace.TheVariants as place
-use Rattle.stl_parser.specs.declared.statements.BareStatement.{BareStatement}
 use Rattle.stl_parser.specs.declared.tables.OperandSyntax.{OperandSyntax}
 use Rattle.stl_parser.specs.declared.tables.OperandSyntax.TheVariants as form
 use Rattle.stl_print.specs.Declarations.{setting_pieces}
 use Rattle.stl_print.specs.Gaps.{gap_text}
 use Rattle.stl_print.specs.Literals.{literal_pieces}
-use Rattle.stl_print.specs.Names.{first_step as first_step_pieces, path_pieces, step_pieces, steps_pieces}
+use Rattle.stl_print.specs.Names.{first_step as first_step_pieces, path_pieces, step_pieces}
 use Rattle.stl_print.specs.Pieces.{mark as mark_piece, number, word}
 use Rattle.stl_print.specs.declared.gaps.Gap.{Gap}
 use Rattle.stl_print.specs.declared.gaps.Gap.TheVariants as gap
 use Rattle.print_laws.specs.Reading.{IsName, IsPrintedLiteral, IsPrintedPath, IsPrintedSetting}
-use Rattle.print_laws.proofs.read.Lines.{all_flat, first_line, flat_all_joined, semicolon, semicolon_behind, semicolon_calm, semicolon_is, semicolon_joined, tame_flat}
-use Rattle.print_laws.proofs.read.Numbers.{minus, number_read}
-use Rattle.print_laws.proofs.read.Operands.{Texts, literal_read, read_number}
-use Rattle.print_laws.proofs.read.Runs.{apart_read, begun, head_joined, no_declaration, no_structure}
-use Rattle.print_laws.proofs.read.Shown.{behind, lack_shown, lacks, lacks_joined, line_past, mark_shown, shown_behind, shown_front, tokens_joined, until_read, without}
-use Rattle.print_laws.proofs.read.Statements.{calm_head, none_chained}
-use Rattle.print_laws.proofs.read.Tame.{all_tame, flat, flat_ends, flat_number, flat_word, literal_tame, tame_joined, tame_lacks}
-use Rattle.print_laws.proofs.read.Types.{parts_end}
+use Rattle.print_laws.proofs.parsing.Lines.{all_flat, first_line, flat_all_joined, semicolon, semicolon_behind, semicolon_is, semicolon_joined, tame_flat}
+use Rattle.print_laws.proofs.parsing.Numbers.{minus, number_read}
+use Rattle.print_laws.proofs.parsing.Operands.{Texts, literal_read, read_number}
+use Rattle.print_laws.proofs.parsing.Runs.{apart_read, begun, no_declaration, no_structure}
+use Rattle.print_laws.proofs.parsing.Shown.{behind, lack_shown, line_past, mark_shown, shown_front, until_read, without}
+use Rattle.print_laws.proofs.parsing.Statements.{calm_head, none_chained}
+use Rattle.print_laws.proofs.parsing.Tame.{flat_number, flat_word, literal_tame, tame_lacks}
+use Rattle.print_laws.proofs.parsing.Types.{parts_end}
 
 -- ---- no statement
 
@@ -149,8 +143,13 @@ settled : (source : List ℕ) (line : ℕ) (s : Setting) (w u : Token) (us rest 
     → other_clause source place.Settings line (w ∷ u ∷ (us ++ semi ∷ rest)) ≡ Some (clause.Sets s, rest, false)
 unfolding other_clause plain_clause structure_clause semicolon_clause inside_clause declaration_clause statement_clause setting_clause
 settled source line s w u us rest semi h apart few is cut =
-    rw (no_structure source 0 w (u ∷ (us ++ semi ∷ rest)) (idle_calm source u (us ++ semi ∷ rest) h), cut,
-    no_declaration source 0 w (u ∷ us) (idle_calm source u us h), no_statement source line w u us h apart few, is) refl
+    rw (
+      no_structure source 0 w (u ∷ (us ++ semi ∷ rest)) (idle_calm source u (us ++ semi ∷ rest) h),
+      cut,
+      no_declaration source 0 w (u ∷ us) (idle_calm source u us h),
+      no_statement source line w u us h apart few,
+      is,
+    ) refl
 
 pub sets_clause : (source : List ℕ) (s : Setting) (w u : Token) (us rest : List Token) (semi : Token) (name : List ℕ) → w.kind ≡ kind.Word → text_of source w ≡ name
     → look_up keywords name ≡ None → IsIdle source u → is_mark source w mark.CloseParen ≡ false → length (u ∷ us) ≤ 7
@@ -192,9 +191,6 @@ short_literal g (literal.Count v) h = absurd h
 short_literal g (literal.S5time v) h = absurd h
 short_literal g (literal.Characters v) h = absurd h
 short_literal g (literal.Bytes v) h = absurd h
-
-few_values : (from line : ℕ) (g : Gap) (l : Literal) → IsPrintedLiteral l → length (tokens_of from line (literal_pieces g l)) ≤ 2
-few_values from line g l h = omega (arith, short_literal g l h, counted_tokens (literal_pieces g l) from line)
 
 steps_end : (source : List ℕ) (path : List PathStep) (n : ℕ) (u : Token) (us : List Token) → is_mark source u mark.Assign ≡ true
     → parts_from (path_end source) (step_at source) path n (u ∷ us) ≡ Some (path, u ∷ us)
@@ -315,7 +311,6 @@ below_read source from line g name n value rest is m h t =
     (set_is source _ (token_at from line (word g name)) u us vs name (step.Named name ∷ step.Index (negsuc n) ∷ []) value refl front.1 (rw (front.2.1, front.2.2.1, front.2.2.2.1, number_read 32768 (suc n) m (omega arith), minus n, front.2.2.2.2.1) (steps_end source (step.Named name ∷ step.Index (negsuc n) ∷ []) (length (drop 1 us)) u vs is_assign)) is_assign (literal_read source _ _ gap.Blank value h front.2.2.2.2.2.2))
     (lack_shown source from line mark.Semicolon (inside g (step.Named name ∷ step.Index (negsuc n) ∷ []) value) front (and_from _ _ refl (and_from _ _ refl (and_from _ _ refl (and_from _ _ refl (and_from _ _ refl (and_from _ _ refl (tame_lacks (literal_pieces gap.Blank value) (literal_tame gap.Blank value refl h)))))))))
     (semicolon_is source from line (inside g (step.Named name ∷ step.Index (negsuc n) ∷ []) value) t)
-
 
 grouped : (g : Gap) (path : List PathStep) (value : Literal)
     → path_pieces g path ++ (mark_piece gap.Blank mark.Assign ∷ (literal_pieces gap.Blank value ++ semicolon ∷ [])) ≡ inside g path value ++ semicolon ∷ []

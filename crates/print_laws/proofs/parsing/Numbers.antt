@@ -1,5 +1,5 @@
 -- Numbers that are printed are read.
-use Rattle.std.proofs.Common.{◌≡◌, ◌≤◌, ◌<◌, ◌+◌, ◌-◌, ◌*◌, ◌/◌, ◌%◌, ◌^◌, ℕ, zero, suc, true, eqb, List, [], ◌∷◌, ◌++◌, length, Some, refl, ◌∙◌, arith, decimal, nat_le, fold, ap, ℤ, pos, negsuc, Bool, false}
+use Rattle.std.proofs.Common.{◌≡◌, ◌≤◌, ◌<◌, ◌+◌, ◌-◌, ◌*◌, ◌/◌, ◌%◌, ◌^◌, ℕ, suc, true, List, [], ◌∷◌, ◌++◌, length, Some, refl, arith, decimal, nat_le, fold, ap, pos, negsuc, Bool, false}
 use Rattle.std.specs.Prelude.{nat_lt, ◌-ℤ◌, if◌then◌else◌}
 use Rattle.std.specs.Char.{is_ascii_digit}
 use Rattle.std.specs.List.{list_all}

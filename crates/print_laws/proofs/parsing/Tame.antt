@@ -1,6 +1,6 @@
 -- Printed texts have no end of a line in them, and no semicolon.
-use Rattle.std.proofs.Common.{◌≡◌, ◌≤◌, ◌<◌, ◌+◌, ◌^◌, ◌/◌, ◌%◌, refl, sym, ◌∙◌, ap, ℕ, zero, suc, Bool, true, false, List, [], ◌∷◌, ◌++◌, length, fold, Option, Some, None, ℤ, pos, negsuc, arith, decimal, inl, inr}
-use Rattle.std.specs.Prelude.{◌⊎◌, ◌&&◌, ◌==◌, not, sum_by, if◌then◌else◌, codes, nat_eq}
+use Rattle.std.proofs.Common.{◌≡◌, ◌≤◌, ◌<◌, ◌+◌, ◌^◌, ◌/◌, ◌%◌, refl, ◌∙◌, ℕ, zero, suc, Bool, true, false, List, [], ◌∷◌, ◌++◌, fold, Option, Some, None, ℤ, pos, negsuc, arith, decimal, inl, inr}
+use Rattle.std.specs.Prelude.{◌⊎◌, ◌&&◌, ◌==◌, not, sum_by, if◌then◌else◌, codes}
 use Rattle.std.specs.Char.{is_ascii_digit}
 use Rattle.std.specs.Fmt.{signed_decimal}
 use Rattle.std.specs.List.{AllByRecursion, list_all}
@@ -12,8 +12,8 @@ use Rattle.plc_base.specs.declared.flags.Flag.{Flag}
 use Rattle.plc_base.specs.declared.flags.Flag.TheVariants as flag
 use Rattle.plc_base.specs.declared.places.Width.{Width}
 use Rattle.plc_base.specs.declared.places.Width.TheVariants as width
-use Rattle.stl_lexer.specs.Bytes.{is_word_byte, is_word_start, newline, underscore}
-use Rattle.stl_lexer.specs.Forms.{is_run, is_word}
+use Rattle.stl_lexer.specs.Bytes.{is_word_byte, is_word_start, newline}
+use Rattle.stl_lexer.specs.Forms.{is_word}
 use Rattle.stl_lexer.specs.Gap.{newlines_of}
 use Rattle.stl_lexer.specs.Marks.{mark_text}
 use Rattle.stl_lexer.specs.Pieces.{Piece}
@@ -34,16 +34,14 @@ use Rattle.stl_ast.specs.declared.statements.Actual.{Actual}
 use Rattle.stl_print.specs.Digits.{digit, digits}
 use Rattle.stl_print.specs.Gaps.{gap_text}
 use Rattle.stl_print.specs.Literals.{literal_pieces}
-use Rattle.stl_print.specs.Names.{block_name, steps_pieces}
+use Rattle.stl_print.specs.Names.{block_name}
 use Rattle.stl_print.specs.Operands.{bit_pieces, by_register, direct, instance_pieces, operand_pieces, opened, path_head, pointer_byte}
-use Rattle.stl_print.specs.Pieces.{mark as mark_piece}
 use Rattle.stl_print.specs.Statements.{actual_pieces, actuals_pieces, further_actuals}
 use Rattle.stl_print.specs.Words.{address_letters, area_letters, bit_letter, block_letters, flag_kind, flag_text, numbered_letters, size_letter, truth_word, width_letter}
-use Rattle.print_laws.specs.Reading.{IsCalled, IsCalledAlone, IsDataBlock, IsFunctionBlock, IsNumbered, IsOpened, IsPassed, IsPrintedActual, IsPrintedLiteral, IsPrintedOperand, IsTarget}
-use Rattle.print_laws.proofs.read.Numbers.{numeral}
-use Rattle.print_laws.proofs.read.Actuals.{passed_printed}
-use Rattle.print_laws.proofs.read.Operands.{Texts}
-use Rattle.print_laws.proofs.read.Shown.{lacks, line_past, mark_is}
+use Rattle.print_laws.specs.Reading.{IsCalled, IsDataBlock, IsFunctionBlock, IsNumbered, IsOpened, IsPrintedActual, IsPrintedLiteral, IsPrintedOperand, IsTarget}
+use Rattle.print_laws.proofs.parsing.Numbers.{numeral}
+use Rattle.print_laws.proofs.parsing.Actuals.{passed_printed}
+use Rattle.print_laws.proofs.parsing.Shown.{lacks, line_past, mark_is}
 
 -- no end of a line is among these bytes
 abbrev pub flat : List ℕ → Bool

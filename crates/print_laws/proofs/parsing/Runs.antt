@@ -1,32 +1,25 @@
 -- Statements that are printed are the clauses of a body.
-use Rattle.std.proofs.Common.{◌≡◌, ◌≤◌, ◌<◌, ◌+◌, refl, sym, ◌∙◌, ap, subst, ℕ, zero, suc, Bool, true, false, List, [], ◌∷◌, ◌++◌, length, take, drop, Option, Some, None, arith}
-use Rattle.std.specs.Prelude.{not, ◌&&◌, ◌||◌, if◌then◌else◌, nat_eq, codes}
-use Rattle.std.specs.List.{list_all}
-use Rattle.std.specs.Option.{option_and_then, option_map, option_or}
+use Rattle.std.proofs.Common.{◌≡◌, refl, sym, ◌∙◌, ap, ℕ, Bool, true, false, List, [], ◌∷◌, ◌++◌, take, Option, Some, None}
+use Rattle.std.specs.Prelude.{not, ◌&&◌, if◌then◌else◌, nat_eq}
+use Rattle.std.specs.Option.{option_or}
 use Rattle.std.specs.Str.{str_eq_ignore_ascii_case}
-use Rattle.std.proofs.lemmas.Bool.{and_parts, and_from, false≢true}
-use Rattle.plc_base.specs.Decimal.{decimal_up_to}
+use Rattle.std.proofs.lemmas.Bool.{and_parts, false≢true}
 use Rattle.plc_base.specs.declared.blocks.BlockKind.{BlockKind}
-use Rattle.stl_lexer.specs.Limits.{greatest_number}
 use Rattle.stl_lexer.specs.Tokens.{text_of}
 use Rattle.stl_lexer.specs.declared.kinds.Token.{Token}
 use Rattle.stl_lexer.specs.declared.kinds.TokenKind.{TokenKind}
 use Rattle.stl_lexer.specs.declared.kinds.TokenKind.TheVariants as kind
-use Rattle.stl_lexer.specs.declared.marks.Mark.{Mark}
 use Rattle.stl_lexer.specs.declared.marks.Mark.TheVariants as mark
-use Rattle.stl_ast.specs.declared.declarations.Bounds.{Bounds}
-use Rattle.stl_ast.specs.declared.declarations.Declaration.{Declaration}
 use Rattle.stl_ast.specs.declared.declarations.ElementType.{ElementType}
 use Rattle.stl_ast.specs.declared.statements.Statement.{Statement}
 use Rattle.stl_parser.specs.Addresses.{block_at, block_number_at, glued_at, letter_count, numbered_at, quoted_at, separate_at}
-use Rattle.stl_parser.specs.Clauses.{clause_at, clause_by_kind, declaration_clause, free_word_clause, inside_clause, is_outer, other_clause, plain_clause, semicolon_clause, statement_clause, structure_clause, until_semicolon, word_clause}
+use Rattle.stl_parser.specs.Clauses.{clause_at, clause_by_kind, declaration_clause, free_word_clause, inside_clause, is_outer, other_clause, plain_clause, semicolon_clause, statement_clause, structure_clause, word_clause}
 use Rattle.stl_parser.specs.Declarations.{after_attribute, after_colon, after_struct, declaration_of, declared_at, structure_at}
 use Rattle.stl_parser.specs.Parts.{parts_from}
 use Rattle.stl_parser.specs.Statements.{instruction_of, is_long, labelled, statement, statement_of, unlabelled}
-use Rattle.stl_parser.specs.Tables.{block_kinds, head_words, keywords, look_up, simple_types}
+use Rattle.stl_parser.specs.Tables.{block_kinds, head_words, keywords, look_up}
 use Rattle.stl_parser.specs.Terminals.{has_kind, is_key, is_mark, key_text, kind_rank}
 use Rattle.stl_parser.specs.Types.{array_at, arrays_at, arrays_end, element_at, simple_at, udt_at}
-use Rattle.stl_parser.specs.declared.clauses.Clause.{Clause}
 use Rattle.stl_parser.specs.declared.clauses.Clause.TheVariants as clause
 use Rattle.stl_parser.specs.declared.keywords.Key.{Key}
 use Rattle.stl_parser.specs.declared.keywords.Key.TheVariants as key
@@ -34,9 +27,9 @@ use Rattle.stl_parser.specs.declared.places.ClausePlace.{ClausePlace}
 use Rattle.stl_parser.specs.declared.places.ClausePlace.TheVariants as place
 use Rattle.stl_parser.specs.declared.statements.BareStatement.{BareStatement}
 use Rattle.stl_parser.specs.declared.tables.HeadWord.{HeadWord}
-use Rattle.print_laws.proofs.read.Shown.{until_read, without}
-use Rattle.print_laws.proofs.read.Statements.{IsInstruction, calm_head}
-use Rattle.print_laws.proofs.read.Words.{IsCalm, begins}
+use Rattle.print_laws.proofs.parsing.Shown.{until_read, without}
+use Rattle.print_laws.proofs.parsing.Statements.{IsInstruction, calm_head}
+use Rattle.print_laws.proofs.parsing.Words.{IsCalm, begins}
 
 -- ---- a clause that begins with no keyword
 
@@ -189,8 +182,12 @@ no_element : (source : List ℕ) (t : Token) (ts : List Token) (text : List ℕ)
     → element_at source (t ∷ ts) ≡ None
 unfolding element_at simple_at udt_at key_text
 no_element source t ts text h is =
-    rw (no_key source t text key.DateAndTime is h.no_date, is, h.no_simple,
-    no_block source t ts text is h.no_block h.no_number (kind_apart t h.begin)) (by (has_kind t kind.Word) _ refl)
+    rw (
+      no_key source t text key.DateAndTime is h.no_date,
+      is,
+      h.no_simple,
+      no_block source t ts text is h.no_block h.no_number (kind_apart t h.begin),
+    ) (by (has_kind t kind.Word) _ refl)
   where
     by : (b : Bool) (o : Option (ElementType × List Token)) → o ≡ None → option_or (if b then o else None) None ≡ None
     by true o e = ap (λ z. option_or z None) e
@@ -207,16 +204,22 @@ labelled_no_structure : (source : List ℕ) (w colon t : Token) (ts : List Token
     → structure_at source 0 (w ∷ colon ∷ t ∷ ts) ≡ None
 unfolding structure_at after_struct key_text
 labelled_no_structure source w colon t ts text h is word mark_is apart =
-    rw (named source w colon (t ∷ ts) word mark_is apart, no_arrays source t ts (no_key source t text key.Array is h.no_array),
-    no_key source t text key.Struct is h.no_struct) refl
+    rw (
+      named source w colon (t ∷ ts) word mark_is apart,
+      no_arrays source t ts (no_key source t text key.Array is h.no_array),
+      no_key source t text key.Struct is h.no_struct,
+    ) refl
 
 labelled_no_declaration : (source : List ℕ) (w colon t : Token) (ts : List Token) (text : List ℕ) → IsCalm t.kind text → text_of source t ≡ text
     → has_kind w kind.Word ≡ true → is_mark source colon mark.Colon ≡ true → has_kind colon kind.Attribute ≡ false
     → declaration_of source 0 (w ∷ colon ∷ t ∷ ts) ≡ None
 unfolding declaration_of key_text
 labelled_no_declaration source w colon t ts text h is word mark_is apart =
-    rw (named source w colon (t ∷ ts) word mark_is apart, no_arrays source t ts (no_key source t text key.Array is h.no_array),
-    no_element source t ts text h is) refl
+    rw (
+      named source w colon (t ∷ ts) word mark_is apart,
+      no_arrays source t ts (no_key source t text key.Array is h.no_array),
+      no_element source t ts text h is,
+    ) refl
 
 pub runs_labelled : (source : List ℕ) (k : BlockKind) (b : BareStatement) (w colon : Token) (label : List ℕ) (ts rest : List Token) (semi : Token)
     → (i : IsInstruction source b ts) → w.kind ≡ kind.Word → text_of source w ≡ label → look_up keywords label ≡ None

@@ -1,6 +1,6 @@
 -- Printed trees are read.
-use Rattle.std.proofs.Common.{◌≡◌, ◌≤◌, ◌<◌, ◌+◌, ◌-◌, refl, sym, ◌∙◌, ap, subst, ℕ, zero, suc, Bool, true, false, List, [], ◌∷◌, ◌++◌, map, filter, length, Option, Some, None, arith, append_assoc, inl, inr}
-use Rattle.std.specs.Prelude.{◌⊎◌, not, ◌&&◌, if◌then◌else◌, nat_eq, nat_lt, codes, sum_by}
+use Rattle.std.proofs.Common.{◌≡◌, ◌≤◌, ◌+◌, ◌-◌, refl, sym, ◌∙◌, ap, subst, ℕ, Bool, true, false, List, [], ◌∷◌, ◌++◌, map, Option, Some, None, arith}
+use Rattle.std.specs.Prelude.{not, ◌&&◌, if◌then◌else◌, nat_eq, nat_lt, codes}
 use Rattle.std.specs.List.{AllByRecursion, flat_map}
 use Rattle.std.proofs.lemmas.Bool.{false≢true}
 use Rattle.std.proofs.lemmas.Bool.Decides.{nat_tests}
@@ -8,9 +8,8 @@ use Rattle.plc_base.specs.Kinds.{is_code, is_data_type, kind_order}
 use Rattle.plc_base.specs.declared.blocks.BlockKind.{BlockKind}
 use Rattle.plc_base.specs.declared.blocks.BlockKind.TheVariants as kinds
 use Rattle.stl_lexer.specs.Marks.{mark_text}
-use Rattle.stl_lexer.specs.Pieces.{Show, tokens_of}
 use Rattle.stl_lexer.specs.declared.marks.Mark.TheVariants as mark
-use Rattle.stl_ast.specs.Blocks.{has_shape, is_date_and_time, is_parameter, may_declare, may_have, part_rank}
+use Rattle.stl_ast.specs.Blocks.{is_date_and_time, is_parameter, may_have, part_rank}
 use Rattle.stl_ast.specs.Declarations.{is_elementary}
 use Rattle.stl_ast.specs.Outline.{level_behind}
 use Rattle.stl_ast.specs.WellFormed.{AreInOrder}
@@ -19,7 +18,6 @@ use Rattle.stl_ast.specs.declared.blocks.Part.{Part}
 use Rattle.stl_ast.specs.declared.blocks.PartKind.{PartKind}
 use Rattle.stl_ast.specs.declared.blocks.PartKind.TheVariants as part
 use Rattle.stl_ast.specs.declared.blocks.Setting.{Setting}
-use Rattle.stl_ast.specs.declared.blocks.Tree.{Tree}
 use Rattle.stl_ast.specs.declared.declarations.Bounds.{Bounds}
 use Rattle.stl_ast.specs.declared.declarations.Declaration.{Declaration}
 use Rattle.stl_ast.specs.declared.declarations.ElementType.{ElementType}
@@ -30,9 +28,7 @@ use Rattle.stl_ast.specs.declared.declarations.TypeTree.{TypeTree}
 use Rattle.stl_ast.specs.declared.names.BlockName.{BlockName}
 use Rattle.stl_ast.specs.declared.names.BlockName.TheVariants as block
 use Rattle.stl_ast.specs.declared.statements.Statement.{Statement}
-use Rattle.stl_parser.specs.Frame.{follow, follow_between, follow_body, follow_head, follow_outside, follow_section, follow_settings, follow_shape, follow_shaped}
-use Rattle.stl_parser.specs.Source.{IsTree}
-use Rattle.stl_parser.specs.Spelling.{is_kept, spelled_block, spelled_part, spelled_shape}
+use Rattle.stl_parser.specs.Frame.{follow, follow_between, follow_body, follow_head, follow_outside, follow_section, follow_settings, follow_shape}
 use Rattle.stl_parser.specs.declared.clauses.Clause.{Clause}
 use Rattle.stl_parser.specs.declared.clauses.Clause.TheVariants as clause
 use Rattle.stl_parser.specs.declared.places.ClausePlace.{ClausePlace}
@@ -40,20 +36,20 @@ use Rattle.stl_parser.specs.declared.places.ClausePlace.TheVariants as place
 use Rattle.stl_print.specs.Clauses.{clause_pieces}
 use Rattle.stl_print.specs.Names.{block_name}
 use Rattle.stl_print.specs.Pieces.{mark as mark_piece, number, word}
-use Rattle.stl_print.specs.Trees.{begin_clauses, block_clauses, declared_from, instance_clauses, part_clauses, pieces, shape_clauses, structure_ends, type_clauses}
+use Rattle.stl_print.specs.Trees.{begin_clauses, block_clauses, declared_from, instance_clauses, part_clauses, shape_clauses, structure_ends}
 use Rattle.stl_print.specs.Words.{block_letters, end_word, section_word}
 use Rattle.stl_print.specs.declared.gaps.Gap.{Gap}
 use Rattle.stl_print.specs.declared.gaps.Gap.TheVariants as gap
-use Rattle.print_laws.specs.Reading.{ArePrintedTreesRead, IsCodeBlock, IsDataShape, IsDeclaredIn, IsFunctionBlock, IsNameOf, IsPrintedBlock, IsPrintedData, IsPrintedDeclaration, IsPrintedPart, IsPrintedSetting, IsPrintedStatement, IsPrintedType, IsResultOf}
-use Rattle.print_laws.proofs.read.Bodies.{runs_line, runs_read}
-use Rattle.print_laws.proofs.read.Declared.{declares_line, declares_read}
-use Rattle.print_laws.proofs.read.Frames.{based_read, begin_read, end_section_read, ends_read, section_read, structure_end_read, structure_read}
-use Rattle.print_laws.proofs.read.Heads.{head_line, head_read}
-use Rattle.print_laws.proofs.read.Lines.{first_line}
-use Rattle.print_laws.proofs.read.Settings.{sets_line, sets_read}
-use Rattle.print_laws.proofs.read.Shown.{line_past}
-use Rattle.print_laws.proofs.read.Tame.{flat, flat_block, flat_number}
-use Rattle.print_laws.proofs.read.Walks.{IsStep, Walk, gap_line, walk_joined, walk_read}
+use Rattle.print_laws.specs.Reading.{IsCodeBlock, IsDeclaredIn, IsFunctionBlock, IsNameOf, IsPrintedDeclaration, IsPrintedPart, IsPrintedSetting, IsPrintedStatement, IsPrintedType, IsResultOf}
+use Rattle.print_laws.proofs.parsing.Bodies.{runs_line, runs_read}
+use Rattle.print_laws.proofs.parsing.Declared.{declares_line, declares_read}
+use Rattle.print_laws.proofs.parsing.Frames.{based_read, begin_read, end_section_read, ends_read, section_read, structure_end_read, structure_read}
+use Rattle.print_laws.proofs.parsing.Heads.{head_line, head_read}
+use Rattle.print_laws.proofs.parsing.Lines.{first_line}
+use Rattle.print_laws.proofs.parsing.Settings.{sets_line, sets_read}
+use Rattle.print_laws.proofs.parsing.Shown.{line_past}
+use Rattle.print_laws.proofs.parsing.Tame.{flat, flat_block, flat_number}
+use Rattle.print_laws.proofs.parsing.Walks.{IsStep, Walk, gap_line, walk_joined}
 
 -- ---- steps
 
@@ -292,12 +288,14 @@ flat_declared (d ∷ ds) h =
 part_walk : (at : ClausePlace) (k : BlockKind) (p : Part) → IsPrintedPart k p → follow at (clause.Section p.line p.kind) ≡ Some (place.Section k p.kind 0)
     → Walk at (part_clauses p) (place.Between k p.kind)
 unfolding part_clauses
-part_walk at k p h goes =
-    (place.Section k p.kind 0, section_step at p.line k p.kind goes,
-    walk_joined (declared_from 0 p.items) (clause.EndSection ∷ []) (place.Section k p.kind 0) (place.Section k p.kind 0) (place.Between k p.kind)
-    (subst (λ (cs : List Clause). Walk (place.Section k p.kind 0) cs (place.Section k p.kind 0)) (sym (flat_declared p.items (all_printed k p.kind p.items h.items)))
-    (all_declared k p.kind p.items h.items))
-    (place.Between k p.kind, end_section_step k p.kind, refl))
+part_walk at k p h goes = (
+  place.Section k p.kind 0,
+  section_step at p.line k p.kind goes,
+  walk_joined (declared_from 0 p.items) (clause.EndSection ∷ []) (place.Section k p.kind 0) (place.Section k p.kind 0) (place.Between k p.kind)
+      (subst (λ (cs : List Clause). Walk (place.Section k p.kind 0) cs (place.Section k p.kind 0)) (sym (flat_declared p.items (all_printed k p.kind p.items h.items)))
+      (all_declared k p.kind p.items h.items))
+      (place.Between k p.kind, end_section_step k p.kind, refl),
+)
 
 -- where sections may stand: in the head, or behind one
 abbrev section_place : BlockKind → Option PartKind → ClausePlace
@@ -319,10 +317,6 @@ section_goes k (Some last) line p may order =
 record HasWalk (k : BlockKind) (from_ : Option PartKind) (cs : List Clause) : Type 0 where
   last : Option PartKind
   walk : Walk (section_place k from_) cs (section_place k last)
-
-ordered : (least more : ℕ) (ps : List Part) → least ≤ more → AreInOrder more ps → AreInOrder least ps
-ordered least more [] h o = tt
-ordered least more (p ∷ ps) h o = (omega (arith, h, o.0), o.1)
 
 parts_walk : (k : BlockKind) (ps : List Part) (last : Option PartKind) → AreInOrder (rank_behind last) ps → AllByRecursion (IsPrintedPart k) ps
     → HasWalk k last (flat_map part_clauses ps)
@@ -388,12 +382,14 @@ code_is b h =
 
 pub code_walk : (b : Block) → IsNameOf b.kind b.name → IsCodeBlock b → Walk place.Outside (code_clauses b) place.Outside
 code_walk b named h =
-    let parts : HasWalk b.kind None (flat_map part_clauses b.parts) = parts_walk b.kind b.parts None h.order h.parts in
-    (place.Head b.kind, head_step b.line b.kind b.name b.result (code_no_system b.kind h.kind) named h.result,
-    walk_joined (flat_map part_clauses b.parts) (begin_clauses b.kind ++ (map clause.Runs b.body ++ clause.Ends b.end_line b.kind ∷ []))
-    (place.Head b.kind) (section_place b.kind parts.last) place.Outside parts.walk
-    (walk_joined (begin_clauses b.kind) (map clause.Runs b.body ++ clause.Ends b.end_line b.kind ∷ []) (section_place b.kind parts.last) (place.Body b.kind) place.Outside
-    (code_begin b.kind parts.last h.kind)
-    (walk_joined (map clause.Runs b.body) (clause.Ends b.end_line b.kind ∷ []) (place.Body b.kind) (place.Body b.kind) place.Outside
-    (all_run b.kind b.body h.body)
-    (place.Outside, body_ends b.end_line b.kind (code_no_system b.kind h.kind), refl))))
+    let parts : HasWalk b.kind None (flat_map part_clauses b.parts) = parts_walk b.kind b.parts None h.order h.parts in (
+      place.Head b.kind,
+      head_step b.line b.kind b.name b.result (code_no_system b.kind h.kind) named h.result,
+      walk_joined (flat_map part_clauses b.parts) (begin_clauses b.kind ++ (map clause.Runs b.body ++ clause.Ends b.end_line b.kind ∷ []))
+          (place.Head b.kind) (section_place b.kind parts.last) place.Outside parts.walk
+          (walk_joined (begin_clauses b.kind) (map clause.Runs b.body ++ clause.Ends b.end_line b.kind ∷ []) (section_place b.kind parts.last) (place.Body b.kind) place.Outside
+          (code_begin b.kind parts.last h.kind)
+          (walk_joined (map clause.Runs b.body) (clause.Ends b.end_line b.kind ∷ []) (place.Body b.kind) (place.Body b.kind) place.Outside
+          (all_run b.kind b.body h.body)
+          (place.Outside, body_ends b.end_line b.kind (code_no_system b.kind h.kind), refl))),
+    )

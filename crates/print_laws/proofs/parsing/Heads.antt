@@ -1,16 +1,13 @@
 -- The heads of blocks that are printed are read.
-use Rattle.std.proofs.Common.{◌≡◌, ◌≤◌, ◌<◌, ◌+◌, refl, sym, ◌∙◌, ap, subst, ℕ, Bool, true, false, List, [], ◌∷◌, ◌++◌, length, Option, Some, None, arith, append_assoc}
-use Rattle.std.specs.Prelude.{if◌then◌else◌, nat_eq, codes, sum_by}
-use Rattle.std.specs.Option.{option_and_then, option_map, option_or}
-use Rattle.std.proofs.lemmas.Bool.Decides.{nat_tests}
+use Rattle.std.proofs.Common.{◌≡◌, ◌≤◌, ◌+◌, refl, ◌∙◌, ap, ℕ, true, false, List, ◌++◌, Option, Some, None, append_assoc}
+use Rattle.std.specs.Prelude.{nat_eq, sum_by}
 use Rattle.plc_base.specs.Kinds.{kind_order}
 use Rattle.plc_base.specs.declared.blocks.BlockId.{BlockId}
 use Rattle.plc_base.specs.declared.blocks.BlockKind.{BlockKind}
 use Rattle.plc_base.specs.declared.blocks.BlockKind.TheVariants as kinds
 use Rattle.stl_lexer.specs.Gap.{newlines_of}
 use Rattle.stl_lexer.specs.Marks.{mark_text}
-use Rattle.stl_lexer.specs.Pieces.{Piece, Show, tokens_of}
-use Rattle.stl_lexer.specs.Tokens.{text_of}
+use Rattle.stl_lexer.specs.Pieces.{tokens_of}
 use Rattle.stl_lexer.specs.declared.kinds.Token.{Token}
 use Rattle.stl_ast.specs.declared.declarations.Simple.{Simple}
 use Rattle.stl_ast.specs.declared.names.BlockName.{BlockName}
@@ -23,17 +20,17 @@ use Rattle.stl_print.specs.Clauses.{clause_pieces, result_pieces}
 use Rattle.stl_print.specs.Gaps.{gap_text}
 use Rattle.stl_print.specs.Names.{block_name}
 use Rattle.stl_print.specs.Pieces.{word}
-use Rattle.stl_print.specs.Words.{block_letters, head_word, result_word, type_word}
+use Rattle.stl_print.specs.Words.{head_word}
 use Rattle.stl_print.specs.declared.gaps.Gap.{Gap}
 use Rattle.stl_print.specs.declared.gaps.Gap.TheVariants as gap
 use Rattle.print_laws.specs.Reading.{IsNameOf, IsResultOf}
-use Rattle.print_laws.proofs.read.Blocks.{block_read}
-use Rattle.print_laws.proofs.read.Frames.{result_read}
-use Rattle.print_laws.proofs.read.Lines.{all_flat, first_line, flat_all_joined}
-use Rattle.print_laws.proofs.read.Operands.{Texts}
-use Rattle.print_laws.proofs.read.Shown.{behind, line_past, shown_behind, shown_front, tokens_joined}
-use Rattle.print_laws.proofs.read.Tame.{flat, flat_block, flat_number}
-use Rattle.print_laws.proofs.read.Types.{type_found}
+use Rattle.print_laws.proofs.parsing.Blocks.{block_read}
+use Rattle.print_laws.proofs.parsing.Frames.{result_read}
+use Rattle.print_laws.proofs.parsing.Lines.{all_flat, first_line, flat_all_joined}
+use Rattle.print_laws.proofs.parsing.Operands.{Texts}
+use Rattle.print_laws.proofs.parsing.Shown.{line_past, shown_behind, shown_front, tokens_joined}
+use Rattle.print_laws.proofs.parsing.Tame.{flat, flat_block, flat_number}
+use Rattle.print_laws.proofs.parsing.Types.{type_found}
 
 same_kind : (k : BlockKind) → nat_eq (kind_order k) (kind_order k) ≡ true
 same_kind kinds.Ob = refl

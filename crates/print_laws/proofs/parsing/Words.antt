@@ -1,6 +1,6 @@
 -- Instruction words that are printed are found again, and begin nothing but a statement.
-use Rattle.std.proofs.Common.{◌≡◌, refl, ℕ, Bool, true, false, List, [], ◌∷◌, Some, None, take}
-use Rattle.std.specs.Prelude.{codes, nat_eq, ◌&&◌}
+use Rattle.std.proofs.Common.{◌≡◌, refl, ℕ, Bool, true, false, List, Some, None, take}
+use Rattle.std.specs.Prelude.{codes}
 use Rattle.std.specs.Str.{str_eq_ignore_ascii_case}
 use Rattle.stl_lexer.specs.Marks.{mark_text}
 use Rattle.stl_lexer.specs.declared.kinds.TokenKind.{TokenKind}
@@ -10,12 +10,11 @@ use Rattle.stl_ast.specs.declared.mnemonics.Mnemonic.{Mnemonic}
 use Rattle.stl_ast.specs.declared.mnemonics.Mnemonic.TheVariants as mnemonic
 use Rattle.stl_parser.specs.Addresses.{letter_count}
 use Rattle.stl_parser.specs.Tables.{block_kinds, keywords, look_up, mnemonics, simple_types}
-use Rattle.stl_parser.specs.Terminals.{kind_rank}
 use Rattle.stl_parser.specs.declared.tables.OperandSyntax.{OperandSyntax}
 use Rattle.stl_parser.specs.declared.tables.OperandSyntax.TheVariants as form
 use Rattle.stl_print.specs.Mnemonics.{Spelling, one, spelling, two}
 use Rattle.print_laws.specs.Reading.{Syntax, block_call, bracket, call, empty, jump, opens, plain, syntax_of}
-use Rattle.print_laws.proofs.read.Shown.{mark_is}
+use Rattle.print_laws.proofs.parsing.Shown.{mark_is}
 
 -- the kinds of tokens that an instruction begins with
 abbrev pub begins : TokenKind → Bool

@@ -1,48 +1,36 @@
 -- The clauses of a block that begin with a keyword are read, and stand where they may.
-use Rattle.std.proofs.Common.{◌≡◌, ◌≤◌, ◌<◌, ◌+◌, refl, sym, ◌∙◌, ap, subst, ℕ, zero, suc, Bool, true, false, List, [], ◌∷◌, ◌++◌, length, Option, Some, None, Result, Ok, Err, arith}
-use Rattle.std.specs.Prelude.{not, ◌&&◌, if◌then◌else◌, nat_eq, nat_lt, codes, sum_by}
-use Rattle.std.specs.Option.{option_and_then, option_map, option_or}
-use Rattle.std.specs.Str.{str_eq_ignore_ascii_case}
-use Rattle.plc_base.specs.Kinds.{is_code, kind_order}
+use Rattle.std.proofs.Common.{◌≡◌, ◌≤◌, ◌+◌, refl, sym, ap, ℕ, false, List, ◌++◌, Option, Some, None}
+use Rattle.std.specs.Prelude.{sum_by}
+use Rattle.std.specs.Option.{option_map}
 use Rattle.plc_base.specs.declared.blocks.BlockId.{BlockId}
 use Rattle.plc_base.specs.declared.blocks.BlockKind.{BlockKind}
 use Rattle.plc_base.specs.declared.blocks.BlockKind.TheVariants as kinds
 use Rattle.stl_lexer.specs.Gap.{newlines_of}
 use Rattle.stl_lexer.specs.Marks.{mark_text}
-use Rattle.stl_lexer.specs.Pieces.{Piece, Show, tokens_of}
-use Rattle.stl_lexer.specs.Tokens.{text_of}
+use Rattle.stl_lexer.specs.Pieces.{tokens_of}
 use Rattle.stl_lexer.specs.declared.kinds.Token.{Token}
-use Rattle.stl_lexer.specs.declared.marks.Mark.TheVariants as mark
-use Rattle.stl_ast.specs.Blocks.{may_declare, may_have, part_rank}
 use Rattle.stl_ast.specs.declared.blocks.PartKind.{PartKind}
 use Rattle.stl_ast.specs.declared.blocks.PartKind.TheVariants as part
 use Rattle.stl_ast.specs.declared.declarations.Simple.{Simple}
 use Rattle.stl_ast.specs.declared.declarations.Simple.TheVariants as simple
 use Rattle.stl_ast.specs.declared.names.BlockName.{BlockName}
 use Rattle.stl_ast.specs.declared.names.BlockName.TheVariants as block
-use Rattle.stl_parser.specs.Clauses.{based_at, clause_at, clause_by_kind, free_word_clause, head_of, in_data_head, is_base, is_of_kind, keyword_clause, level_at, named_at, other_clause, result_at, result_type, skip_semicolon, structure_end, word_clause}
+use Rattle.stl_parser.specs.Clauses.{based_at, clause_at, clause_by_kind, free_word_clause, keyword_clause, other_clause, result_at, result_type, skip_semicolon, structure_end, word_clause}
 use Rattle.stl_parser.specs.Declarations.{after_colon}
-use Rattle.stl_parser.specs.Tables.{head_words, keywords, look_up, simple_types}
+use Rattle.stl_parser.specs.Tables.{head_words, keywords, look_up}
 use Rattle.stl_parser.specs.Terminals.{has_kind, is_key, is_mark, key_text}
-use Rattle.stl_parser.specs.declared.clauses.Clause.{Clause}
 use Rattle.stl_parser.specs.declared.clauses.Clause.TheVariants as clause
-use Rattle.stl_parser.specs.declared.keywords.Key.TheVariants as key
 use Rattle.stl_parser.specs.declared.places.ClausePlace.{ClausePlace}
 use Rattle.stl_parser.specs.declared.places.ClausePlace.TheVariants as place
 use Rattle.stl_print.specs.Clauses.{clause_pieces, result_pieces}
 use Rattle.stl_print.specs.Gaps.{gap_text}
 use Rattle.stl_print.specs.Names.{block_name}
-use Rattle.stl_print.specs.Pieces.{mark as mark_piece, word}
-use Rattle.stl_print.specs.Words.{block_letters, end_word, head_word, result_word, section_word, type_word}
+use Rattle.stl_print.specs.Words.{block_letters, end_word, section_word, type_word}
 use Rattle.stl_print.specs.declared.gaps.Gap.{Gap}
-use Rattle.stl_print.specs.declared.gaps.Gap.TheVariants as gap
-use Rattle.print_laws.specs.Reading.{IsFunctionBlock, IsNameOf, IsResultOf}
-use Rattle.print_laws.proofs.read.Blocks.{block_read}
-use Rattle.print_laws.proofs.read.Lines.{first_line}
-use Rattle.print_laws.proofs.read.Operands.{Texts, of_kind}
-use Rattle.print_laws.proofs.read.Shown.{line_past}
-use Rattle.print_laws.proofs.read.Tame.{flat, flat_ends, flat_block, flat_number}
-use Rattle.print_laws.proofs.read.Types.{IsTypeWord, type_found}
+use Rattle.print_laws.specs.Reading.{IsFunctionBlock, IsResultOf}
+use Rattle.print_laws.proofs.parsing.Blocks.{block_read}
+use Rattle.print_laws.proofs.parsing.Operands.{Texts, of_kind}
+use Rattle.print_laws.proofs.parsing.Types.{type_found}
 
 -- ---- keywords alone
 

@@ -1,48 +1,39 @@
 -- Declarations that are printed are read.
-use Rattle.std.proofs.Common.{◌≡◌, ◌≤◌, ◌<◌, ◌+◌, refl, sym, ◌∙◌, ap, subst, ℕ, zero, suc, Bool, true, false, List, [], ◌∷◌, ◌++◌, length, take, drop, Option, Some, None, ℤ, pos, negsuc, arith, append_assoc}
-use Rattle.std.specs.Prelude.{not, ◌&&◌, ◌||◌, if◌then◌else◌, nat_eq, codes, sum_by}
-use Rattle.std.specs.List.{AllByRecursion, flat_map, list_all}
-use Rattle.std.specs.Option.{option_and_then, option_map, option_or}
+use Rattle.std.proofs.Common.{◌≡◌, ◌≤◌, refl, sym, ◌∙◌, ap, ℕ, zero, suc, Bool, true, false, List, [], ◌∷◌, ◌++◌, length, Option, Some, None, ℤ, pos, negsuc, arith, append_assoc}
+use Rattle.std.specs.Prelude.{if◌then◌else◌, codes}
+use Rattle.std.specs.List.{AllByRecursion}
 use Rattle.std.specs.Str.{str_eq_ignore_ascii_case}
-use Rattle.std.proofs.lemmas.Bool.{and_parts, and_from, false≢true}
 use Rattle.std.proofs.lemmas.List.{append-nil}
-use Rattle.stl_lexer.specs.Gap.{newlines_of}
 use Rattle.stl_lexer.specs.Marks.{mark_text}
-use Rattle.stl_lexer.specs.Pieces.{Piece, Show, tokens_of}
-use Rattle.stl_lexer.specs.Tokens.{text_of}
+use Rattle.stl_lexer.specs.Pieces.{Piece, tokens_of}
 use Rattle.stl_lexer.specs.declared.kinds.Token.{Token}
-use Rattle.stl_lexer.specs.declared.kinds.TokenKind.TheVariants as kind
 use Rattle.stl_lexer.specs.declared.marks.Mark.TheVariants as mark
 use Rattle.stl_ast.specs.Literals.{IsDecimal}
 use Rattle.stl_ast.specs.declared.declarations.Bounds.{Bounds}
-use Rattle.stl_ast.specs.declared.declarations.ElementType.{ElementType}
-use Rattle.stl_ast.specs.declared.declarations.ElementType.TheVariants as element
 use Rattle.stl_ast.specs.declared.declarations.Init.{Init}
 use Rattle.stl_ast.specs.declared.declarations.Simple.{Simple}
 use Rattle.stl_ast.specs.declared.declarations.Simple.TheVariants as simple
 use Rattle.stl_ast.specs.declared.literals.Literal.{Literal}
 use Rattle.stl_ast.specs.declared.literals.Literal.TheVariants as literal
-use Rattle.stl_parser.specs.Literals.{literal_at, literal_of, literal_token, long_literal}
+use Rattle.stl_parser.specs.Literals.{literal_at, literal_token}
 use Rattle.stl_parser.specs.Numbers.{int_at, number_of, number_up_to, signed_at}
 use Rattle.stl_parser.specs.Parts.{parts_from, whole}
 use Rattle.stl_parser.specs.Statements.{after_paren}
 use Rattle.stl_parser.specs.Tables.{look_up, simple_types}
-use Rattle.stl_parser.specs.Terminals.{has_kind, is_key, is_mark, key_text, kind_rank}
-use Rattle.stl_parser.specs.Types.{array_at, array_end, array_high, arrays_at, arrays_end, at_end, counted_at, counted_end, element_at, init_at, init_list, init_of, next_init, simple_at}
-use Rattle.stl_parser.specs.declared.keywords.Key.TheVariants as key
-use Rattle.stl_print.specs.Declarations.{array_pieces, behind_type, element_pieces, further_inits, init_pieces, inits_pieces, value_pieces}
-use Rattle.stl_print.specs.Gaps.{gap_text}
+use Rattle.stl_parser.specs.Terminals.{has_kind, is_key, is_mark, key_text}
+use Rattle.stl_parser.specs.Types.{array_at, array_end, array_high, arrays_at, arrays_end, at_end, counted_at, counted_end, init_at, init_list, next_init}
+use Rattle.stl_print.specs.Declarations.{array_pieces, further_inits, init_pieces, value_pieces}
 use Rattle.stl_print.specs.Literals.{literal_pieces}
-use Rattle.stl_print.specs.Pieces.{mark as mark_piece, word}
+use Rattle.stl_print.specs.Pieces.{mark as mark_piece}
 use Rattle.stl_print.specs.Words.{type_word}
 use Rattle.stl_print.specs.declared.gaps.Gap.{Gap}
 use Rattle.stl_print.specs.declared.gaps.Gap.TheVariants as gap
 use Rattle.print_laws.specs.Reading.{IsByte, IsCountOf, IsPrintedInit}
-use Rattle.print_laws.proofs.read.Constants.{byte_value}
-use Rattle.print_laws.proofs.read.Numbers.{minus, number_read}
-use Rattle.print_laws.proofs.read.Operands.{Texts, read_number}
-use Rattle.print_laws.proofs.read.Shown.{behind, line_past, shown_behind, shown_front, tokens_joined}
-use Rattle.print_laws.proofs.read.Tame.{all_tame, flat, flat_number, literal_tame, tame_joined}
+use Rattle.print_laws.proofs.parsing.Constants.{byte_value}
+use Rattle.print_laws.proofs.parsing.Numbers.{minus, number_read}
+use Rattle.print_laws.proofs.parsing.Operands.{Texts, read_number}
+use Rattle.print_laws.proofs.parsing.Shown.{behind, line_past, shown_behind, shown_front, tokens_joined}
+use Rattle.print_laws.proofs.parsing.Tame.{flat}
 
 -- ---- types
 

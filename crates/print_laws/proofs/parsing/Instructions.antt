@@ -1,26 +1,18 @@
 -- Instructions that are printed are read.
-use Rattle.std.proofs.Common.{◌≡◌, ◌≤◌, ◌<◌, ◌+◌, refl, sym, ◌∙◌, ap, subst, ℕ, zero, suc, Bool, true, false, List, [], ◌∷◌, ◌++◌, length, take, drop, Option, Some, None, arith, append_assoc}
-use Rattle.std.specs.Prelude.{not, ◌&&◌, ◌||◌, if◌then◌else◌, nat_lt, nat_eq, codes, sum_by}
+use Rattle.std.proofs.Common.{◌≡◌, ◌≤◌, refl, sym, ◌∙◌, ap, subst, ℕ, Bool, true, false, List, [], ◌∷◌, ◌++◌, length, Option, Some, None, arith, append_assoc}
+use Rattle.std.specs.Prelude.{not, if◌then◌else◌, nat_lt}
 use Rattle.std.specs.List.{AllByRecursion}
-use Rattle.std.specs.Option.{option_and_then, option_map, option_or}
-use Rattle.std.specs.Str.{str_eq_ignore_ascii_case}
 use Rattle.std.proofs.lemmas.Bool.Decides.{nat_tests}
 use Rattle.std.proofs.lemmas.List.{append-nil}
 use Rattle.plc_base.specs.Decimal.{decimal_up_to}
-use Rattle.plc_base.specs.Kinds.{is_data_block, is_function_block}
+use Rattle.plc_base.specs.Kinds.{is_function_block}
 use Rattle.plc_base.specs.declared.blocks.BlockId.{BlockId}
-use Rattle.plc_base.specs.declared.blocks.BlockKind.{BlockKind}
 use Rattle.plc_base.specs.declared.blocks.BlockKind.TheVariants as kinds
 use Rattle.stl_lexer.specs.Marks.{mark_text}
-use Rattle.stl_lexer.specs.Pieces.{Piece, Show, tokens_of}
-use Rattle.stl_lexer.specs.Tokens.{text_of}
+use Rattle.stl_lexer.specs.Pieces.{Piece, tokens_of}
 use Rattle.stl_lexer.specs.declared.kinds.Token.{Token}
-use Rattle.stl_lexer.specs.declared.kinds.TokenKind.{TokenKind}
-use Rattle.stl_lexer.specs.declared.kinds.TokenKind.TheVariants as kind
-use Rattle.stl_lexer.specs.declared.marks.Mark.{Mark}
 use Rattle.stl_lexer.specs.declared.marks.Mark.TheVariants as mark
 use Rattle.stl_ast.specs.declared.mnemonics.Mnemonic.{Mnemonic}
-use Rattle.stl_ast.specs.declared.mnemonics.Mnemonic.TheVariants as mnemonic
 use Rattle.stl_ast.specs.declared.names.BlockName.{BlockName}
 use Rattle.stl_ast.specs.declared.names.BlockName.TheVariants as block
 use Rattle.stl_ast.specs.declared.operands.Operand.{Operand}
@@ -30,27 +22,25 @@ use Rattle.stl_parser.specs.Addresses.{address_at, block_at, glued_at, numbered_
 use Rattle.stl_parser.specs.Literals.{literal_at, literal_of, literal_token, long_literal, truth_of}
 use Rattle.stl_parser.specs.Numbers.{number_of, number_up_to, signed_at}
 use Rattle.stl_parser.specs.Operands.{alone_of, data_block, direct_of, operand_by_kind, operand_of, with_number, word_operand}
-use Rattle.stl_parser.specs.Parts.{whole}
 use Rattle.stl_parser.specs.Statements.{actuals_of, behind_word, block_call_of, call_of, data_block_at, instance_at, is_long, jump_of, may_be, open_of, plain as bare, with_operand}
 use Rattle.stl_parser.specs.Tables.{addresses, look_up}
-use Rattle.stl_parser.specs.Terminals.{has_kind, is_key, is_mark, key_text, kind_rank}
-use Rattle.stl_parser.specs.declared.statements.BareStatement.{BareStatement}
+use Rattle.stl_parser.specs.Terminals.{has_kind, is_key, is_mark, key_text}
 use Rattle.stl_parser.specs.declared.tables.OperandSyntax.{OperandSyntax}
 use Rattle.stl_parser.specs.declared.tables.OperandSyntax.TheVariants as form
 use Rattle.stl_print.specs.Gaps.{gap_text}
 use Rattle.stl_print.specs.Names.{block_name}
 use Rattle.stl_print.specs.Operands.{instance_pieces, operand_pieces, opened}
-use Rattle.stl_print.specs.Statements.{actual_pieces, actuals_pieces, further_actuals}
-use Rattle.stl_print.specs.Words.{block_letters, numbered_letters}
+use Rattle.stl_print.specs.Statements.{actuals_pieces}
+use Rattle.stl_print.specs.Words.{block_letters}
 use Rattle.stl_print.specs.declared.gaps.Gap.{Gap}
 use Rattle.stl_print.specs.declared.gaps.Gap.TheVariants as gap
-use Rattle.print_laws.specs.Reading.{FitsSyntax, IsCalled, IsCalledAlone, IsDataBlock, IsFunctionBlock, IsNumbered, IsOpened, IsPrintedActual, IsPrintedOperand, IsTarget, Syntax, block_call, bracket, call, empty, jump, opens, plain}
-use Rattle.print_laws.proofs.read.Blocks.{block_read}
-use Rattle.print_laws.proofs.read.Operands.{Texts, number_by_read, of_kind, operand_read, read_number}
-use Rattle.print_laws.proofs.read.Passed.{actuals_read}
-use Rattle.print_laws.proofs.read.Shown.{behind, line_past, shown_behind, shown_front, tokens_joined}
-use Rattle.print_laws.proofs.read.Tame.{all_tame, called_tame, flat, numbered_tame, tame_line}
-use Rattle.print_laws.proofs.read.Words.{form_of}
+use Rattle.print_laws.specs.Reading.{FitsSyntax, IsCalled, IsCalledAlone, IsDataBlock, IsFunctionBlock, IsOpened, IsPrintedActual, IsPrintedOperand, IsTarget, Syntax, block_call, bracket, call, empty, jump, opens, plain}
+use Rattle.print_laws.proofs.parsing.Blocks.{block_read}
+use Rattle.print_laws.proofs.parsing.Operands.{Texts, number_by_read, of_kind, operand_read, read_number}
+use Rattle.print_laws.proofs.parsing.Passed.{actuals_read}
+use Rattle.print_laws.proofs.parsing.Shown.{behind, line_past, shown_behind, shown_front, tokens_joined}
+use Rattle.print_laws.proofs.parsing.Tame.{all_tame, called_tame, flat, numbered_tame, tame_line}
+use Rattle.print_laws.proofs.parsing.Words.{form_of}
 
 -- the tokens of an operand and of no actual parameters are those of the operand
 pub nothing_behind : (source : List ℕ) (from line : ℕ) (g : _) (f : OperandSyntax) (code : Mnemonic) (o : Operand) (actuals : List Actual) → actuals ≡ []
@@ -209,11 +199,13 @@ unfolding behind_word call_of
 alone_call source from line at g code id actuals here h all one t =
     let rest : Texts source (behind from (block_name g (block.Number id))) (line_past line (block_name g (block.Number id))) (actuals_pieces actuals) =
     shown_behind source from line (block_name g (block.Number id)) (actuals_pieces actuals) t in
-    rw (tokens_joined from line (block_name g (block.Number id)) (actuals_pieces actuals),
-    block_read source from line g id (tokens_of (behind from (block_name g (block.Number id))) (line_past line (block_name g (block.Number id))) (actuals_pieces actuals)) h
-    (shown_front source from line (block_name g (block.Number id)) (actuals_pieces actuals) t),
-    no_instance source (block.Number id) _ (actuals_apart source _ _ actuals rest),
-    actuals_read source _ _ at actuals (tame_line line (block_name g (block.Number id)) one ∙ here) all rest) refl
+    rw (
+      tokens_joined from line (block_name g (block.Number id)) (actuals_pieces actuals),
+      block_read source from line g id (tokens_of (behind from (block_name g (block.Number id))) (line_past line (block_name g (block.Number id))) (actuals_pieces actuals)) h
+          (shown_front source from line (block_name g (block.Number id)) (actuals_pieces actuals) t),
+      no_instance source (block.Number id) _ (actuals_apart source _ _ actuals rest),
+      actuals_read source _ _ at actuals (tame_line line (block_name g (block.Number id)) one ∙ here) all rest,
+    ) refl
 
 data_behind : (source : List ℕ) (from line : ℕ) (g : _) (name : BlockName) (rest : List Token) → IsDataBlock name → Texts source from line (block_name g name)
     → data_block_at source (tokens_of from line (block_name g name) ++ rest) ≡ Some (name, rest)
@@ -312,7 +304,6 @@ called source from line at g code (operand.Label name) actuals here one h all t 
 called source from line at g code (operand.OfStatus f) actuals here one h all t = absurd h
 called source from line at g code (operand.Other name) actuals here one h all t = absurd h
 called source from line at g code (operand.OpenBlock di name) actuals here one h all t = absurd h
-
 
 pub behind_read : (source : List ℕ) (from line at : ℕ) (g : Gap) (s : Syntax) (code : Mnemonic) (o : Operand) (actuals : List Actual) → line ≡ at
     → flat (gap_text g) ≡ true → (s ≡ bracket → ⊥) → FitsSyntax at s o actuals → Texts source from line (operand_pieces g o ++ actuals_pieces actuals)

@@ -1,28 +1,27 @@
 -- The lines of printed clauses.
-use Rattle.std.proofs.Common.{◌≡◌, ◌≤◌, ◌<◌, ◌+◌, refl, sym, ◌∙◌, ap, subst, ℕ, zero, suc, Bool, true, false, List, [], ◌∷◌, ◌++◌, length, Option, Some, None, arith, append_assoc}
-use Rattle.std.specs.Prelude.{not, ◌&&◌, sum_by, if◌then◌else◌, codes, nat_eq}
+use Rattle.std.proofs.Common.{◌≡◌, ◌+◌, refl, ◌∙◌, ap, ℕ, Bool, true, List, [], ◌∷◌, ◌++◌, arith, append_assoc}
+use Rattle.std.specs.Prelude.{not, ◌&&◌, sum_by}
 use Rattle.std.specs.List.{list_all}
 use Rattle.std.proofs.lemmas.Bool.{and_parts, and_from}
 use Rattle.stl_lexer.specs.Gap.{newlines_of}
 use Rattle.stl_lexer.specs.Marks.{mark_text}
-use Rattle.stl_lexer.specs.Pieces.{Piece, Show, tokens_of}
-use Rattle.stl_lexer.specs.Tokens.{text_of}
+use Rattle.stl_lexer.specs.Pieces.{Piece, tokens_of}
 use Rattle.stl_lexer.specs.declared.kinds.Token.{Token}
 use Rattle.stl_lexer.specs.declared.kinds.TokenKind.TheVariants as kind
 use Rattle.stl_lexer.specs.declared.marks.Mark.TheVariants as mark
 use Rattle.stl_ast.specs.declared.mnemonics.Mnemonic.{Mnemonic}
 use Rattle.stl_ast.specs.declared.mnemonics.Mnemonic.TheVariants as mnemonic
-use Rattle.stl_parser.specs.Terminals.{has_kind, is_mark, kind_rank}
+use Rattle.stl_parser.specs.Terminals.{has_kind, is_mark}
 use Rattle.stl_print.specs.Gaps.{gap_text}
 use Rattle.stl_print.specs.Mnemonics.{Spelling, one, spelling, spelling_pieces, two}
 use Rattle.stl_print.specs.Pieces.{mark as mark_piece}
 use Rattle.stl_print.specs.declared.gaps.Gap.{Gap}
 use Rattle.stl_print.specs.declared.gaps.Gap.TheVariants as gap
 use Rattle.print_laws.specs.Reading.{empty, syntax_of}
-use Rattle.print_laws.proofs.read.Operands.{Texts}
-use Rattle.print_laws.proofs.read.Shown.{behind, lacks, line_past, mark_is, shown_behind, tokens_joined}
-use Rattle.print_laws.proofs.read.Statements.{calm_head}
-use Rattle.print_laws.proofs.read.Tame.{all_tame, flat, flat_ends, tame}
+use Rattle.print_laws.proofs.parsing.Operands.{Texts}
+use Rattle.print_laws.proofs.parsing.Shown.{behind, lacks, line_past, mark_is, shown_behind, tokens_joined}
+use Rattle.print_laws.proofs.parsing.Statements.{calm_head}
+use Rattle.print_laws.proofs.parsing.Tame.{all_tame, flat, flat_ends, tame}
 
 -- no line ends in these pieces
 abbrev pub all_flat : List Piece → Bool

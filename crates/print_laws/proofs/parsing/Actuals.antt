@@ -1,15 +1,11 @@
 -- Actual parameters that are printed are read.
-use Rattle.std.proofs.Common.{◌≡◌, ◌≤◌, ◌<◌, ◌+◌, refl, sym, ◌∙◌, ap, subst, ℕ, zero, suc, Bool, true, false, List, [], ◌∷◌, ◌++◌, length, take, drop, Option, Some, None, ℤ, pos, negsuc, arith, append_assoc}
-use Rattle.std.specs.Prelude.{◌&&◌, not, sum_by, if◌then◌else◌, codes, nat_eq}
-use Rattle.std.specs.List.{AllByRecursion, list_all}
-use Rattle.std.specs.Option.{option_and_then, option_map, option_or}
+use Rattle.std.proofs.Common.{◌≡◌, refl, ℕ, Bool, true, false, List, [], ◌∷◌, ◌++◌, length, Some, None, pos, negsuc, arith}
+use Rattle.std.specs.Prelude.{◌&&◌, not}
 use Rattle.std.proofs.lemmas.Bool.{and_parts}
 use Rattle.plc_base.specs.declared.places.Width.{Width}
 use Rattle.plc_base.specs.declared.places.Width.TheVariants as width
-use Rattle.stl_lexer.specs.Gap.{newlines_of}
 use Rattle.stl_lexer.specs.Marks.{mark_text}
-use Rattle.stl_lexer.specs.Pieces.{Piece, Show, tokens_of}
-use Rattle.stl_lexer.specs.Tokens.{text_of}
+use Rattle.stl_lexer.specs.Pieces.{tokens_of}
 use Rattle.stl_lexer.specs.declared.kinds.Token.{Token}
 use Rattle.stl_lexer.specs.declared.kinds.TokenKind.TheVariants as kind
 use Rattle.stl_lexer.specs.declared.marks.Mark.TheVariants as mark
@@ -18,19 +14,14 @@ use Rattle.stl_ast.specs.declared.names.BlockName.TheVariants as block
 use Rattle.stl_ast.specs.declared.operands.Operand.{Operand}
 use Rattle.stl_ast.specs.declared.operands.Operand.TheVariants as operand
 use Rattle.stl_ast.specs.declared.operands.PathHead.TheVariants as head
-use Rattle.stl_ast.specs.declared.statements.Actual.{Actual}
 use Rattle.stl_parser.specs.Operands.{operand_of}
-use Rattle.stl_parser.specs.Parts.{parts_from, whole}
-use Rattle.stl_parser.specs.Statements.{actual_at, actuals_behind, actuals_end, actuals_of, next_actual, value_ends, value_length, value_of}
-use Rattle.stl_parser.specs.Terminals.{has_kind, is_mark, kind_rank}
+use Rattle.stl_parser.specs.Statements.{value_ends, value_length, value_of}
+use Rattle.stl_parser.specs.Terminals.{has_kind, is_mark}
 use Rattle.stl_print.specs.Literals.{literal_pieces}
-use Rattle.stl_print.specs.Names.{block_name, steps_pieces}
+use Rattle.stl_print.specs.Names.{block_name}
 use Rattle.stl_print.specs.Operands.{bit_pieces, direct, operand_pieces, path_head}
-use Rattle.stl_print.specs.Pieces.{word}
-use Rattle.stl_print.specs.Statements.{actual_pieces, actuals_pieces, further_actuals}
-use Rattle.print_laws.specs.Reading.{IsPassed, IsPrintedActual, IsPrintedOperand}
-use Rattle.print_laws.proofs.read.Operands.{Texts, operand_read}
-use Rattle.print_laws.proofs.read.Shown.{behind, front_dropped, front_taken, lack_shown, lacks, lacks_joined, line_past, mark_is, mark_shown, shown_behind, shown_front, tokens_joined, without}
+use Rattle.print_laws.specs.Reading.{IsPassed, IsPrintedOperand}
+use Rattle.print_laws.proofs.parsing.Shown.{lacks, without}
 
 -- what is passed is an operand
 pub passed_printed : (o : Operand) → IsPassed o → IsPrintedOperand o

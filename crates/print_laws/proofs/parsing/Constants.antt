@@ -1,27 +1,25 @@
 -- Constants that are printed are read.
-use Rattle.std.proofs.Common.{◌≡◌, ◌≤◌, ◌<◌, ◌+◌, ◌-◌, ◌*◌, ◌/◌, ◌%◌, ◌^◌, ℕ, zero, suc, Bool, true, false, eqb, List, [], ◌∷◌, ◌++◌, length, drop, take, get_or, Option, Some, None, ℤ, pos, negsuc, refl, sym, ◌∙◌, ap, arith, decimal}
-use Rattle.std.specs.Prelude.{◌==◌, nat_lt, nat_le, ◌&&◌, not, if◌then◌else◌, codes, ◌-ℤ◌}
+use Rattle.std.proofs.Common.{◌≡◌, ◌≤◌, ◌<◌, ◌+◌, ◌-◌, ◌*◌, ◌/◌, ◌%◌, ◌^◌, ℕ, zero, suc, Bool, true, false, List, [], ◌∷◌, ◌++◌, length, drop, take, get_or, Some, None, ℤ, pos, negsuc, refl, ◌∙◌, ap, arith, decimal}
+use Rattle.std.specs.Prelude.{◌==◌, nat_lt, nat_le, ◌&&◌, not, if◌then◌else◌, codes}
 use Rattle.std.specs.Char.{digit_value, is_ascii_digit}
 use Rattle.std.specs.Fmt.{signed_decimal}
 use Rattle.std.specs.List.{list_all, prefix_len, suffix_len}
-use Rattle.std.specs.Option.{option_map, option_and_then}
-use Rattle.std.proofs.Math.Nat.{div-lt_iff_lt-mul, pow-succ'}
+use Rattle.std.specs.Option.{option_and_then}
+use Rattle.std.proofs.Math.Nat.{pow-succ'}
 use Rattle.std.proofs.lemmas.Bool.{and_parts, and_from}
 use Rattle.std.proofs.lemmas.Bool.Decides.{nat_tests}
-use Rattle.std.proofs.lemmas.Grind.{common_steps}
 use Rattle.std.proofs.lemmas.List.Sums.{suffix_len_is}
 use Rattle.plc_base.specs.Decimal.{decimal_value, decimal_up_to}
 use Rattle.stl_lexer.specs.Bytes.{hash, minus_sign, plus, underscore}
 use Rattle.stl_lexer.specs.Forms.{first_letter}
 use Rattle.stl_lexer.specs.Limits.{greatest_long}
 use Rattle.stl_lexer.specs.Rules.{behind_prefix, within}
-use Rattle.stl_lexer.specs.TimeLiteral.{behind_part, is_part, length_of, letters_of, milliseconds, part_value, units}
+use Rattle.stl_lexer.specs.TimeLiteral.{is_part, length_of, letters_of, milliseconds, units}
 use Rattle.stl_ast.specs.Literals.{IsLong}
-use Rattle.stl_ast.specs.declared.literals.Literal.{Literal}
 use Rattle.stl_ast.specs.declared.literals.Literal.TheVariants as literal
 use Rattle.stl_parser.specs.Values.{based_literal, based_value, duration, long_or_count, long_value, time_value, value_from}
 use Rattle.stl_print.specs.Digits.{digit, digits}
-use Rattle.print_laws.proofs.read.Numbers.{IsNumeral, minus, number_read, numeral}
+use Rattle.print_laws.proofs.parsing.Numbers.{IsNumeral, minus, number_read, numeral}
 
 -- ---- behind a prefix
 

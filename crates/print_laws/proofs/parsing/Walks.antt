@@ -1,10 +1,10 @@
 -- Clauses one behind the other, each on its line, are read one behind the other.
-use Rattle.std.proofs.Common.{◌≡◌, ◌≤◌, ◌<◌, ◌+◌, ◌-◌, refl, sym, ◌∙◌, ap, subst, ℕ, zero, suc, Bool, true, false, List, [], ◌∷◌, ◌++◌, length, Option, Some, None, Result, Ok, Err, arith, append_assoc}
-use Rattle.std.specs.Prelude.{not, ◌&&◌, ◌==◌, if◌then◌else◌, nat_eq, nat_lt, max, codes, sum_by, replicate, fold}
+use Rattle.std.proofs.Common.{◌≡◌, ◌+◌, ◌-◌, refl, sym, ◌∙◌, ap, subst, ℕ, zero, suc, Bool, true, false, List, [], ◌∷◌, ◌++◌, Some, Ok, arith}
+use Rattle.std.specs.Prelude.{◌==◌, if◌then◌else◌, nat_lt, max, sum_by, replicate, fold}
 use Rattle.std.proofs.lemmas.Bool.Decides.{nat_tests}
 use Rattle.stl_lexer.specs.Bytes.{newline}
 use Rattle.stl_lexer.specs.Gap.{newlines_of}
-use Rattle.stl_lexer.specs.Pieces.{Piece, Show, tokens_of}
+use Rattle.stl_lexer.specs.Pieces.{tokens_of}
 use Rattle.stl_lexer.specs.declared.kinds.Token.{Token}
 use Rattle.stl_parser.specs.Clauses.{clause_at}
 use Rattle.stl_parser.specs.Frame.{follow}
@@ -12,14 +12,13 @@ use Rattle.stl_parser.specs.Source.{Reads, step_of}
 use Rattle.stl_parser.specs.declared.clauses.Clause.{Clause}
 use Rattle.stl_parser.specs.declared.clauses.Clause.TheVariants as clause
 use Rattle.stl_parser.specs.declared.places.ClausePlace.{ClausePlace}
-use Rattle.stl_parser.specs.declared.places.ClausePlace.TheVariants as place
 use Rattle.stl_print.specs.Clauses.{clause_pieces, line_of, pieces_from}
 use Rattle.stl_print.specs.Gaps.{clause_gap, gap_text, line_behind}
 use Rattle.stl_print.specs.declared.gaps.Gap.{Gap}
 use Rattle.stl_print.specs.declared.gaps.Gap.TheVariants as gap
 use Rattle.print_laws.specs.Reading.{AreOnLines, IsOnLine}
-use Rattle.print_laws.proofs.read.Operands.{Texts}
-use Rattle.print_laws.proofs.read.Shown.{behind, line_past, shown_behind, shown_front, tokens_joined}
+use Rattle.print_laws.proofs.parsing.Operands.{Texts}
+use Rattle.print_laws.proofs.parsing.Shown.{behind, line_past, shown_behind, shown_front, tokens_joined}
 
 -- the line of a clause, where a tree has it
 abbrev pub IsHere : ℕ → Clause → Type 0
@@ -113,14 +112,15 @@ walk_read [] source from line reached p q w on is t = (w, refl)
 walk_read (c ∷ cs) source from line reached p q w on is t =
     let g : Gap = clause_gap reached (line_of c) in
     let there : gap_line line g ≡ line_behind reached (line_of c) = gap_is reached (line_of c) line is in
-    let past : line_past line (clause_pieces g c) ≡ line_behind reached (line_of c) = w.1.lines g line ∙ there in
-    (tokens_of (behind from (clause_pieces g c)) (line_past line (clause_pieces g c)) (pieces_from (line_behind reached (line_of c)) cs),
-    w.0,
-    ap (step_of source p) (tokens_joined from line (clause_pieces g c) (pieces_from (line_behind reached (line_of c)) cs))
-    ∙ step_made source p w.0 c _ _
-    (w.1.reads source from line g _ (here_by reached (gap_line line g) c there on.0)
-    (shown_front source from line (clause_pieces g c) (pieces_from (line_behind reached (line_of c)) cs) t))
-    w.1.goes,
-    walk_read cs source (behind from (clause_pieces g c)) (line_past line (clause_pieces g c)) (line_behind reached (line_of c)) w.0 q w.2 on.1
-    (past ∙ behind_is reached (line_of c))
-    (shown_behind source from line (clause_pieces g c) (pieces_from (line_behind reached (line_of c)) cs) t))
+    let past : line_past line (clause_pieces g c) ≡ line_behind reached (line_of c) = w.1.lines g line ∙ there in (
+      tokens_of (behind from (clause_pieces g c)) (line_past line (clause_pieces g c)) (pieces_from (line_behind reached (line_of c)) cs),
+      w.0,
+      ap (step_of source p) (tokens_joined from line (clause_pieces g c) (pieces_from (line_behind reached (line_of c)) cs))
+          ∙ step_made source p w.0 c _ _
+          (w.1.reads source from line g _ (here_by reached (gap_line line g) c there on.0)
+          (shown_front source from line (clause_pieces g c) (pieces_from (line_behind reached (line_of c)) cs) t))
+          w.1.goes,
+      walk_read cs source (behind from (clause_pieces g c)) (line_past line (clause_pieces g c)) (line_behind reached (line_of c)) w.0 q w.2 on.1
+          (past ∙ behind_is reached (line_of c))
+          (shown_behind source from line (clause_pieces g c) (pieces_from (line_behind reached (line_of c)) cs) t),
+    )
