@@ -9,7 +9,7 @@ use Rattle.s7_cli.specs.declared.failures.Failure.TheVariants.{WordsRefused, Rea
 use Rattle.s7_cli.specs.Answer.{Answer, Outcome, done, refused, refused_image, says_no, read_fault, too_long}
 use Rattle.s7_cli.specs.Command.{Command, Input, inputs_of, outputs_of}
 use Rattle.s7_cli.specs.Ends.{Taking, taking, Answers, ChangesOutputs, WritesOutputs}
-use Rattle.s7_cli.specs.Inner.{OnlyReads, FileRead, HasRead, StopsAmong, AllRead, RefusedBy, TextWritten, Comes}
+use Rattle.s7_cli.specs.Inner.{OnlyReads, FileRead, HasRead, StopsAmong, AllRead, RefusedBy, TextWritten, Comes, ComesOf}
 use Rattle.s7_cli.specs.Reading.{Disk, disk, Holds, HoldAll, StopsAt, Reads}
 use Rattle.s7_cli.specs.Says.{Says}
 use Rattle.s7_cli.proofs.ReadingLemmas.{reads-all}
@@ -321,3 +321,25 @@ comes-written c start now s contents text came none read said took =
     writes c start now s text came read.same none
     (reads-all (disk start now) (inputs_of c) contents (Says c) (done text) read.hold said)
     took
+
+-- ---- what comes behind the reading of all input files
+
+-- of one, whose bytes are lent
+pub behind-one : {V : Type 0} (view : V → List ℕ) (c : Command) (i : Input) (start middle now : FilesAt) (v : V) (lent : List ℕ) (s : Taking) (came : Outcome)
+    → inputs_of c ≡ i ∷ [] → lent ≡ view v → FileRead view (disk start middle) i (Ok v) → ComesOf c (lent ∷ []) (disk middle now) s came
+    → Comes (Some c) (disk start now) s came
+behind-one view c i start middle now v lent s came are is read comes =
+    comes start
+    (subst (λ (bytes : List ℕ). HasRead start middle (inputs_of c) (bytes ∷ [])) (sym is)
+    (subst (λ (inputs : List Input). HasRead start middle inputs (view v ∷ [])) (sym are) (file-read view start middle i v read)))
+
+-- of two
+pub behind-two : {V : Type 0} (view : V → List ℕ) (c : Command) (i j : Input) (start middle now : FilesAt) (v w : V) (one two : List ℕ) (s : Taking)
+    (came : Outcome) → inputs_of c ≡ i ∷ j ∷ [] → one ≡ view v → two ≡ view w → FileRead view (disk start middle) i (Ok v)
+    → FileRead view (disk middle now) j (Ok w) → ComesOf c (one ∷ two ∷ []) (disk now now) s came → Comes (Some c) (disk start now) s came
+behind-two view c i j start middle now v w one two s came are first second read then comes =
+    comes start
+    (subst (λ (bytes : List ℕ). HasRead start now (inputs_of c) (bytes ∷ two ∷ [])) (sym first)
+    (subst (λ (bytes : List ℕ). HasRead start now (inputs_of c) (view v ∷ bytes ∷ [])) (sym second)
+    (subst (λ (inputs : List Input). HasRead start now inputs (view v ∷ view w ∷ [])) (sym are)
+    (read-then start middle now (i ∷ []) (j ∷ []) (view v ∷ []) (view w ∷ []) (file-read view start middle i v read) (file-read view middle now j w then)))))

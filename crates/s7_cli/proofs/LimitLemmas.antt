@@ -2,7 +2,7 @@
 use Rattle.std.proofs.Common.{◌≡◌, ◌≤◌, sym, subst, ℕ, Bool, List, [], ◌∷◌, arith, codes, length, nat_le, nat_lt}
 use Rattle.std.proofs.lemmas.Bool.{and_parts}
 use Rattle.std.proofs.lemmas.Bool.Decides.{nat_tests}
-use Rattle.std.specs.Prelude.{◌&&◌, not, Option, Some, None, IfSome, bytes_eq, is_some, unwrap_or}
+use Rattle.std.specs.Prelude.{◌&&◌, Option, Some, None, IfSome, bytes_eq, unwrap_or}
 use Rattle.clap.specs.Walk.{Row, is_empty}
 use Rattle.clap.specs.Words.{all_of, fault_of, first_of, matches_of}
 use Rattle.plc_base.specs.Decimal.{decimal_up_to, decimal_value, is_decimal}

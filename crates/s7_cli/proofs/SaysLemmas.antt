@@ -1,7 +1,6 @@
 -- What commands say of the contents of their files.
-use Rattle.std.proofs.Common.{◌≡◌, ◌≤◌, ◌⊎◌, inl, inr, refl, sym, ◌∙◌, ap, subst, ℕ, Bool, true, false, List, [], ◌∷◌, ◌++◌, length, Option, Some, None, Ok, Err, Result, arith}
+use Rattle.std.proofs.Common.{◌≡◌, ◌≤◌, inl, inr, refl, sym, ◌∙◌, ap, subst, ℕ, Bool, true, false, List, [], ◌∷◌, ◌++◌, length, Option, Some, None, Ok, Err, Result, arith}
 use Rattle.std.specs.Prelude.{option_to_list, unwrap_or}
-use Rattle.plc_base.specs.declared.Profile.{Profile}
 use Rattle.plc_base.specs.declared.Profile.TheVariants.{Large}
 use Rattle.plc_base.specs.declared.Refusal.{Refusal}
 use Rattle.plc_io.specs.Contents.{Contents}
@@ -31,13 +30,11 @@ use Rattle.s7_cli.specs.run_text.RunText.{run_text}
 use Rattle.s7_cli.specs.Compiling.{RefusesBy, RefusesIn, RefusesSymbols, RefusesWith}
 use Rattle.s7_cli.specs.declared.faults.CompileFault.{CompileFault}
 use Rattle.s7_cli.specs.declared.faults.CompileFault.TheVariants as compiling
-use Rattle.s7_cli.specs.declared.failures.File.{File}
 use Rattle.s7_cli.specs.declared.failures.File.TheVariants.{Source, Symbols, History, Stimuli, Script}
 use Rattle.s7_cli.specs.declared.failures.Failure.{Failure}
 use Rattle.s7_cli.specs.declared.files.ProgramText.{ProgramText}
-use Rattle.s7_cli.specs.Answer.{Answer, done, refused, refused_image}
-use Rattle.s7_cli.specs.BoundSays.{BoundSays, RecheckSays}
-use Rattle.s7_cli.specs.Command.{Command, Go, Check, Compile, Translate, Run, Gen, Live, Watch, Upgrade, Bound, Recheck, symbols_inputs, program_inputs}
+use Rattle.s7_cli.specs.Answer.{Answer, done, refused}
+use Rattle.s7_cli.specs.Command.{Command, Input, Go, Check, Compile, Translate, Run, Gen, Live, Watch, Upgrade, Bound, Recheck, symbols_inputs, program_inputs}
 use Rattle.s7_cli.specs.Faults.{failure_of_compiling, failure_of_history, failure_of_loading}
 use Rattle.s7_cli.specs.GenText.{summary_text}
 use Rattle.s7_cli.specs.Inner.{RefusedBy}
@@ -53,7 +50,7 @@ use Rattle.s7_cli.proofs.BoundLemmas.{bound-outcome, bound-verdict, recheck-one,
 use Rattle.s7_cli.proofs.LoadLemmas.{loads-one}
 use Rattle.s7_cli.proofs.RefusedLemmas.{refused-more}
 use Rattle.s7_cli.proofs.ReadingLemmas.{AnswersAlike}
-use Rattle.s7_cli.proofs.TranslatingLemmas.{SaysOne, SaysVerdict, TranslatesOne, english-one, english-verdict, english-weaker, german-so, in-english, translated-one, translated-verdict}
+use Rattle.s7_cli.proofs.TranslatingLemmas.{SaysOne, TranslatesOne, english-one, english-verdict, english-weaker, german-so, in-english, translated-one, translated-verdict}
 use Rattle.s7_cli.proofs.Verdicts.{IsVerdict}
 use Rattle.s7_cli.proofs.WatchSaysLemmas.{watch-one, watch-verdict}
 
@@ -324,6 +321,14 @@ pub within : (c : Contents) (source : List ℕ) (symbols : Option (List ℕ)) (t
     → HoldAll c (program_inputs source symbols) (contents_of text) → IsWithin text
 within c source symbols text hold =
     record { source = hold.0.within; symbols = symbols-within c symbols (symbols_file text) hold.1 }
+
+-- the symbols file, in front of another one
+pub symbols-held : (c : Contents) (symbols bytes : Option (List ℕ)) (i : Input) (other : List ℕ)
+    → HoldAll c (symbols_inputs symbols ++ i ∷ []) (option_to_list bytes ++ other ∷ []) → HoldAll c (symbols_inputs symbols) (option_to_list bytes)
+symbols-held c None None i other hold = tt
+symbols-held c None (Some bytes) i other hold = absurd hold.1
+symbols-held c (Some name) None i other hold = absurd hold.1
+symbols-held c (Some name) (Some bytes) i other hold = (hold.0, tt)
 
 pub go-said : (c : Contents) (src : List ℕ) (symbols : Option (List ℕ)) (german : Bool) (hist source : List ℕ) (bytes : Option (List ℕ))
     (history : List ℕ) (a : Answer) → HoldAll c (symbols_inputs symbols) (option_to_list bytes)

@@ -3,9 +3,7 @@ use Rattle.std.proofs.Common.{◌≡◌, ◌<◌, refl, sym, subst, ℕ, List, g
 use Rattle.flat_code.specs.Loading.{IsLoadable, faults_of}
 use Rattle.flat_code.specs.declared.stamps.Stamp.TheVariants.{Two}
 use Rattle.image_file.specs.Laws.{GivesExactlyImages, ImagesAreOfOne}
-use Rattle.image_file.specs.Loaded.{LoadedProgram}
 use Rattle.image_file.specs.Refusing.{IsRefusedBy}
-use Rattle.image_file.specs.declared.faults.LoadFault.{LoadFault}
 use Rattle.image_file.specs.declared.refusing.LoadError.{LoadError}
 use Rattle.image_file.specs.declared.refusing.LoadError.TheVariants as loading
 use Rattle.s7_cli.specs.declared.failures.Failure.{Failure}

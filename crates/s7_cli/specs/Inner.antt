@@ -8,11 +8,12 @@ use Rattle.plc_io.specs.Taken.{Took, TookPrefix}
 use Rattle.plc_io.specs.declared.faults.IoFault.TheVariants as fault
 use Rattle.s7_cli.specs.declared.failures.Failure.{Failure}
 use Rattle.s7_cli.specs.declared.failures.Failure.TheVariants.{ReadFault, TooLong, Refused, ImageRefused, SaysNo, TooDeep, WriteFault, NoMemory}
-use Rattle.s7_cli.specs.Answer.{Answer, Outcome, refused, refused_image, says_no, too_long, read_fault}
-use Rattle.s7_cli.specs.Command.{Command, Input}
+use Rattle.s7_cli.specs.Answer.{Answer, Outcome, done, refused, refused_image, says_no, too_long, read_fault}
+use Rattle.s7_cli.specs.Command.{Command, Input, inputs_of, outputs_of}
 use Rattle.s7_cli.specs.Ends.{Taking, Answers, CountsReads, IsSaid, IsWriteFault, IsNoMemory}
-use Rattle.s7_cli.specs.Lines.{line_of}
-use Rattle.s7_cli.specs.Reading.{Disk, Holds, HoldAll, StopsAt}
+use Rattle.s7_cli.specs.Lines.{line_of, ok_line}
+use Rattle.s7_cli.specs.Reading.{Disk, disk, Holds, HoldAll, StopsAt}
+use Rattle.s7_cli.specs.Says.{Says, Writes}
 
 -- a reading has ended, and only counts of failed reads may have changed
 pub record OnlyReads (d : Disk) : Type 0 where
@@ -95,6 +96,18 @@ Comes c d s (Err NoMemory) = IsNoMemory c d s
 Comes c d s (Err TooDeep) =
     (text : List ℕ) × IsSaid c d s (record { outcome = Err TooDeep; text = text })
 Comes c d s (Err failure) = Fails c d s failure
+
+-- how a command comes out behind the reading of its input files, which held this
+abbrev pub ComesOf : Command → (contents : List (List ℕ)) → Disk → Taking → Outcome → Type 0
+ComesOf c contents d s came =
+    (start : FilesAt) → HasRead start d.before (inputs_of c) contents
+    → Comes (Some c) (disk start d.after) s came
+
+-- a command whose input files hold this writes these bytes to this file, its only one, and `OK`
+pub record IsOutput (c : Command) (contents : List (List ℕ)) (name bytes : List ℕ) : Type 0 where
+  pub outputs : outputs_of c ≡ name ∷ []
+  pub writes : Writes c contents name bytes
+  pub says : Says c contents (done ok_line)
 
 -- the writing of a failure's line, if it has one
 abbrev pub LineWritten : Option (List ℕ) → Failure → Taking → Failure → Type 0

@@ -1,4 +1,5 @@
 pub mod Answer
+pub mod Asking
 pub mod BoundSays
 pub mod BoundTexts
 pub mod Command

@@ -1,15 +1,16 @@
-ghost use Rattle.std.specs.Prelude.{Some, IfOk};
+ghost use Rattle.std.specs.Prelude.{ℕ, List, [], ◌∷◌, Some, IfOk};
+ghost use Rattle.plc_io.specs.Moments.{FilesAt};
 ghost use Rattle.s7_cli.specs.BoundSays.{BoundSays};
-ghost use Rattle.s7_cli.specs.BoundTexts.{IsToldOf, TellsOf};
+ghost use Rattle.s7_cli.specs.BoundTexts.{IsChainLine, IsToldOf, TellsOf};
 ghost use Rattle.s7_cli.specs.Command.{Bound};
 ghost use Rattle.s7_cli.specs.Ends.{Ended, taking};
-ghost use Rattle.s7_cli.specs.Inner.{Comes, RefusedBy};
+ghost use Rattle.s7_cli.specs.Inner.{Comes, ComesOf, RefusedBy};
 ghost use Rattle.s7_cli.specs.Reading.{disk};
 ghost use Rattle.s7_cli.specs.StatusTable.{StatusTable};
 
 use crate::failures::{Failure, File, Status};
-use crate::files::{read_file, write_file};
-use crate::finish::{OK_LINE, end_command, write_text};
+use crate::files::read_file;
+use crate::finish::{end_command, write_output, write_text};
 use crate::judging::loaded;
 use plc_base::NoMemory;
 use plc_io::{Files, Sink};
@@ -53,6 +54,35 @@ fn judge_bound(alloc: Global, image: &[u8]) -> Result<Told, Failure>
     Ok(told_of(alloc, &found)?)
 }
 
+/// Writes the line of a chain that is too deep.
+fn write_deep<K: Sink>(out: &mut K, line: &[u8]) -> Result<(), Failure>
+    ensures { let took = taking (K.shown out.old) (K.shown out.new) in
+        (img cert image : List ℕ) (at : FilesAt) → IsChainLine line.now image
+        → ComesOf (Bound img cert) (image ∷ []) (disk at at) took result }
+{
+    write_text(out, line)?;
+    Err(Failure::TooDeep)
+}
+
+/// Writes the certificate of an image and then `OK`, or the line of a chain.
+fn bound_image<F: Files, K: Sink>(
+    alloc: Global,
+    image: &[u8],
+    cert: &str,
+    files: &mut F,
+    out: &mut K,
+) -> Result<(), Failure>
+    ensures { let went = disk (F.shown files.old) (F.shown files.new) in
+        let took = taking (K.shown out.old) (K.shown out.new) in
+        (img : List ℕ) → ComesOf (Bound img cert.now) (image.now ∷ []) went took result }
+{
+    match judge_bound(alloc, image) {
+        Ok(Told::Fits { certificate }) => write_output(files, out, cert, &certificate),
+        Ok(Told::Deep { line }) => write_deep(out, &line),
+        Err(failure) => Err(failure),
+    }
+}
+
 /// Reads an image, and writes its certificate and then `OK`, or the line of a chain.
 fn bound<F: Files, K: Sink>(
     alloc: Global,
@@ -66,17 +96,7 @@ fn bound<F: Files, K: Sink>(
         Comes (Some (Bound img.now cert.now)) went took result }
 {
     let image = read_file(alloc, files, File::Image, img)?;
-    let told = judge_bound(alloc, &image)?;
-    match told {
-        Told::Fits { certificate } => {
-            write_file(files, cert, &certificate)?;
-            write_text(out, OK_LINE)
-        }
-        Told::Deep { line } => {
-            write_text(out, &line)?;
-            Err(Failure::TooDeep)
-        }
-    }
+    bound_image(alloc, &image, cert, files, out)
 }
 
 /// Loads the image in the file `img`, makes the least certificate of its stacks the whole of the

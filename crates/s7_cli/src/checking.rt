@@ -1,17 +1,35 @@
-ghost use Rattle.std.specs.Prelude.{Some};
+ghost use Rattle.std.specs.Prelude.{ℕ, List, Option, Some};
 ghost use Rattle.std.specs.Option.{option_map};
+ghost use Rattle.plc_io.specs.Moments.{FilesAt};
 ghost use Rattle.s7_cli.specs.Command.{Check};
 ghost use Rattle.s7_cli.specs.Ends.{Ended, taking};
-ghost use Rattle.s7_cli.specs.Inner.{Comes};
+ghost use Rattle.s7_cli.specs.Inner.{Comes, ComesOf};
 ghost use Rattle.s7_cli.specs.Reading.{disk};
 ghost use Rattle.s7_cli.specs.StatusTable.{StatusTable};
+ghost use Rattle.s7_cli.specs.Texts.{IsWithin, contents_of};
 
 use crate::failures::{Failure, Status};
-use crate::files::read_program;
+use crate::files::{ProgramText, read_program};
 use crate::finish::{OK_LINE, end_command, write_text};
 use crate::judging::judge_program;
 use plc_io::{Files, Sink};
 use std::alloc::Global;
+
+/// Checks a source with its symbols, and writes `OK`.
+fn check_text<K: Sink>(
+    alloc: Global,
+    text: &ProgramText,
+    german: bool,
+    out: &mut K,
+) -> Result<(), Failure>
+    requires { IsWithin text.now }
+    ensures { let took = taking (K.shown out.old) (K.shown out.new) in
+        (src : List ℕ) (symbols : Option (List ℕ)) (at : FilesAt)
+        → ComesOf (Check src symbols german) (contents_of text.now) (disk at at) took result }
+{
+    judge_program(alloc, text, german)?;
+    write_text(out, OK_LINE)
+}
 
 /// Reads a source with its symbols, checks it, and writes `OK`.
 fn check<F: Files, K: Sink>(
@@ -27,8 +45,7 @@ fn check<F: Files, K: Sink>(
         (taking (K.shown out.old) (K.shown out.new)) result }
 {
     let text = read_program(alloc, files, src, symbols)?;
-    judge_program(alloc, &text, german)?;
-    write_text(out, OK_LINE)
+    check_text(alloc, &text, german, out)
 }
 
 /// Checks the source in the file `src`, with the symbols in the file `symbols` if there is one, both

@@ -1,17 +1,37 @@
-ghost use Rattle.std.specs.Prelude.{Some};
+ghost use Rattle.std.specs.Prelude.{ℕ, List, Option, Some};
 ghost use Rattle.std.specs.Option.{option_map};
 ghost use Rattle.s7_cli.specs.Command.{Compile};
 ghost use Rattle.s7_cli.specs.Ends.{Ended, taking};
-ghost use Rattle.s7_cli.specs.Inner.{Comes};
+ghost use Rattle.s7_cli.specs.Inner.{Comes, ComesOf};
 ghost use Rattle.s7_cli.specs.Reading.{disk};
 ghost use Rattle.s7_cli.specs.StatusTable.{StatusTable};
+ghost use Rattle.s7_cli.specs.Texts.{IsWithin, contents_of};
 
 use crate::failures::{Failure, Status};
-use crate::files::{read_program, write_file};
-use crate::finish::{OK_LINE, end_command, write_text};
+use crate::files::{ProgramText, read_program};
+use crate::finish::{end_command, write_output};
 use crate::judging::judge_image;
 use plc_io::{Files, Sink};
 use std::alloc::Global;
+
+/// Writes the image of a source with its symbols, and then `OK`.
+fn compile_text<F: Files, K: Sink>(
+    alloc: Global,
+    text: &ProgramText,
+    img: &str,
+    german: bool,
+    files: &mut F,
+    out: &mut K,
+) -> Result<(), Failure>
+    requires { IsWithin text.now }
+    ensures { let went = disk (F.shown files.old) (F.shown files.new) in
+        let took = taking (K.shown out.old) (K.shown out.new) in
+        (src : List ℕ) (symbols : Option (List ℕ))
+        → ComesOf (Compile src symbols german img.now) (contents_of text.now) went took result }
+{
+    let image = judge_image(alloc, text, german)?;
+    write_output(files, out, img, &image)
+}
 
 /// Reads a source with its symbols, writes its image, and then `OK`.
 fn compile<F: Files, K: Sink>(
@@ -29,9 +49,7 @@ fn compile<F: Files, K: Sink>(
         took result }
 {
     let text = read_program(alloc, files, src, symbols)?;
-    let image = judge_image(alloc, &text, german)?;
-    write_file(files, img, &image)?;
-    write_text(out, OK_LINE)
+    compile_text(alloc, &text, img, german, files, out)
 }
 
 /// Compiles the source in the file `src`, with the symbols in the file `symbols` if there is one,

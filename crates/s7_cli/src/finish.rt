@@ -3,14 +3,15 @@ ghost use Rattle.plc_io.specs.Moments.{SinkAt};
 ghost use Rattle.plc_io.specs.Taken.{Wrote};
 ghost use Rattle.s7_cli.specs.Command.{Command};
 ghost use Rattle.s7_cli.specs.Ends.{Ended, Ends, taking};
-ghost use Rattle.s7_cli.specs.Inner.{Comes, LineWritten, TextWritten};
+ghost use Rattle.s7_cli.specs.Inner.{Comes, ComesOf, IsOutput, LineWritten, TextWritten};
 ghost use Rattle.s7_cli.specs.Lines.{line_of};
-ghost use Rattle.s7_cli.specs.Reading.{Disk};
+ghost use Rattle.s7_cli.specs.Reading.{Disk, disk};
 ghost use Rattle.s7_cli.specs.StatusTable.{StatusTable};
 
 use crate::failures::{Failure, Status};
+use crate::files::write_file;
 use crate::texts::failure_line;
-use plc_io::{IoFault, Sink, push_all};
+use plc_io::{Files, IoFault, Sink, push_all};
 
 /// What `check` writes for a source that is accepted, `recheck` for a certificate that holds, and
 /// `compile`, `english`, `german`, `upgrade` and `bound` behind their file.
@@ -33,6 +34,22 @@ pub fn write_text<K: Sink>(out: &mut K, text: &[u8]) -> Result<(), Failure>
     ensures { TextWritten text.now (taking (K.shown out.old) (K.shown out.new)) result }
 {
     written(push_all(out, text))
+}
+
+/// Makes bytes the whole of a command's output file, and then writes `OK`.
+pub fn write_output<F: Files, K: Sink>(
+    files: &mut F,
+    out: &mut K,
+    name: &str,
+    bytes: &[u8],
+) -> Result<(), Failure>
+    ensures { let went = disk (F.shown files.old) (F.shown files.new) in
+        let took = taking (K.shown out.old) (K.shown out.new) in
+        (c : Command) (contents : List (List ℕ)) → IsOutput c contents name.now bytes.now
+        → ComesOf c contents went took result }
+{
+    write_file(files, name, bytes)?;
+    write_text(out, OK_LINE)
 }
 
 /// Writes the line of a failure, if it has one, and answers the failure, or that of the writing.

@@ -1,18 +1,41 @@
-ghost use Rattle.std.specs.Prelude.{Some};
+ghost use Rattle.std.specs.Prelude.{ℕ, ◌≤◌, List, [], ◌∷◌, ◌++◌, Option, length, Some};
 ghost use Rattle.std.specs.Option.{option_map};
+ghost use Rattle.plc_io.specs.Moments.{FilesAt};
 ghost use Rattle.s7_cli.specs.Command.{Go};
 ghost use Rattle.s7_cli.specs.Ends.{Ended, taking};
-ghost use Rattle.s7_cli.specs.Inner.{Comes};
+ghost use Rattle.s7_cli.specs.Inner.{Comes, ComesOf};
 ghost use Rattle.s7_cli.specs.Reading.{disk};
 ghost use Rattle.s7_cli.specs.StatusTable.{StatusTable};
+ghost use Rattle.s7_cli.specs.Texts.{IsWithin, contents_of};
 
 use crate::failures::{Failure, File, Status};
-use crate::files::{read_file, read_program};
+use crate::files::{ProgramText, read_file, read_program};
 use crate::finish::{end_command, written};
 use crate::judging::judge;
 use crate::run_text::replay_text;
 use plc_io::{Files, Sink};
 use std::alloc::Global;
+
+/// Checks a source with its symbols and a history, and writes the run.
+fn go_along<K: Sink>(
+    alloc: Global,
+    text: &ProgramText,
+    german: bool,
+    history: &[u8],
+    out: &mut K,
+) -> Result<(), Failure>
+    requires text { IsWithin text.now }
+    requires history { length history.now ≤ 4194304 }
+    ensures { let took = taking (K.shown out.old) (K.shown out.new) in
+        (src hist : List ℕ) (symbols : Option (List ℕ)) (at : FilesAt)
+        → ComesOf (Go src symbols german hist) (contents_of text.now ++ history.now ∷ [])
+        (disk at at) took result }
+{
+    let (program, entries) = judge(alloc, text, german, history)?;
+    // programs that no history tells apart have one text
+    controller::laws::continues_replay();
+    written(replay_text(alloc, program, &entries, out))
+}
 
 /// Reads a source with its symbols and a history, checks all, and writes the run.
 fn go<F: Files, K: Sink>(
@@ -31,10 +54,7 @@ fn go<F: Files, K: Sink>(
 {
     let text = read_program(alloc, files, src, symbols)?;
     let history = read_file(alloc, files, File::History, hist)?;
-    let (program, entries) = judge(alloc, &text, german, &history)?;
-    // programs that no history tells apart have one text
-    controller::laws::continues_replay();
-    written(replay_text(alloc, program, &entries, out))
+    go_along(alloc, &text, german, &history, out)
 }
 
 /// Runs the source in the file `src`, with the symbols in the file `symbols` if there is one, both of

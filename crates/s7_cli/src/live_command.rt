@@ -1,17 +1,21 @@
 //! A live run: several workers run an image, and the history that they made is written, and its run.
-ghost use Rattle.std.specs.Prelude.{◌≡◌, ◌^◌, ◌<◌, ◌≤◌, length, map, All, IfOk, Some};
+ghost use Rattle.std.specs.Prelude.{◌≡◌, ℕ, ◌^◌, ◌<◌, ◌≤◌, List, ◌++◌, codes, length, map, All, IfOk, Some};
+ghost use Rattle.plc_io.specs.Moments.{FilesAt};
 ghost use Rattle.plc_io.specs.Taken.{Wrote};
+ghost use Rattle.machine.specs.Flat.{code_of};
 ghost use Rattle.var_access.specs.Entry.{IsValid};
 ghost use Rattle.var_access.specs.Runs.{AreRuns, written_out};
+ghost use Rattle.event_text.specs.HistoryText.{history_text};
 ghost use Rattle.s7_cli.specs.Answer.{done};
 ghost use Rattle.s7_cli.specs.Command.{Live};
 ghost use Rattle.s7_cli.specs.Ends.{Ended, taking};
-ghost use Rattle.s7_cli.specs.Inner.{Comes, RefusedBy};
+ghost use Rattle.s7_cli.specs.Inner.{Comes, ComesOf, RefusedBy};
 ghost use Rattle.s7_cli.specs.LiveSays.{live_text};
-ghost use Rattle.s7_cli.specs.LiveTexts.{IsLiveText, TextSays};
+ghost use Rattle.s7_cli.specs.LiveTexts.{IsLiveText, TextSays, live_contents};
 ghost use Rattle.s7_cli.specs.Reading.{disk};
 ghost use Rattle.s7_cli.specs.StatusTable.{StatusTable};
 ghost use Rattle.s7_cli.specs.run_text.Behind.{program_of};
+ghost use Rattle.s7_cli.specs.run_text.RunText.{run_text};
 
 use crate::failures::{Failure, Status};
 use crate::files::{LiveText, read_live};
@@ -65,6 +69,33 @@ fn entries_of(alloc: Global, runs: &[Run]) -> Result<Entries, NoMemory>
     Ok(entries)
 }
 
+/// Writes the history of a controller, and a line `---`.
+fn push_history<K: Sink>(alloc: Global, controller: &Controller, out: &mut K) -> Result<(), IoFault>
+    ensures { Wrote (K.shown out.old) (K.shown out.new)
+        (history_text controller.now.history ++ codes "---\n") result }
+{
+    let history = write_history(alloc, controller)?;
+    push_all(out, &history)?;
+    push_all(out, b"---\n")
+}
+
+/// Writes the text of the run of a controller's history.
+fn replay_history<K: Sink>(
+    alloc: Global,
+    controller: Controller,
+    out: &mut K,
+) -> Result<(), IoFault>
+    requires { All IsValid controller.history }
+    ensures { Wrote (K.shown out.old) (K.shown out.new)
+        (let p = program_of controller in
+        run_text p.profile (code_of p.program) controller.history) result }
+{
+    // a history has fewer than 2^64 entries
+    let _len = controller.history_len();
+    let entries = entries_of(alloc, controller.runs())?;
+    replay_text(alloc, controller.into_program(), &entries, out)
+}
+
 /// Writes the history of a controller, a line `---`, and the text of the history's run.
 pub fn write_live<K: Sink>(
     alloc: Global,
@@ -75,13 +106,27 @@ pub fn write_live<K: Sink>(
     ensures { Wrote (K.shown out.old) (K.shown out.new)
         (live_text (program_of controller) controller.history) result }
 {
-    // a history has fewer than 2^64 entries
-    let _len = controller.history_len();
-    let history = write_history(alloc, &controller)?;
-    push_all(out, &history)?;
-    push_all(out, b"---\n")?;
-    let entries = entries_of(alloc, controller.runs())?;
-    replay_text(alloc, controller.into_program(), &entries, out)
+    push_history(alloc, &controller, out)?;
+    replay_history(alloc, controller, out)
+}
+
+/// Checks what the files of a live run hold, lets the workers work, and writes what they made.
+fn live_read<R: Threads + Wait + Sync, K: Sink, G: Gate + Sync>(
+    rt: &R,
+    alloc: Global,
+    text: &LiveText,
+    steps: u32,
+    out: &mut K,
+    gate: &G,
+) -> Result<(), Failure>
+    requires text { IsLiveText text.now }
+    requires steps { steps ≤ 1000000 }
+    ensures { let took = taking (K.shown out.old) (K.shown out.new) in
+        (img stim : List ℕ) (ops : List (List ℕ)) (at : FilesAt)
+        → ComesOf (Live img stim ops steps) (live_contents text.now) (disk at at) took result }
+{
+    let controller = lived(rt, alloc, text, steps, gate)?;
+    written(write_live(alloc, controller, out))
 }
 
 /// Reads an image, stimuli and scripts, checks all, lets the workers work, and writes what they made.
@@ -103,8 +148,7 @@ fn live<R: Threads + Wait + Sync, F: Files, K: Sink, G: Gate + Sync>(
         Comes (Some (Live img.now stim.now (map (λ w. w.now) ops.now) steps)) went took result }
 {
     let text = read_live(alloc, files, img, stim, ops)?;
-    let controller = lived(rt, alloc, &text, steps, gate)?;
-    written(write_live(alloc, controller, out))
+    live_read(rt, alloc, &text, steps, out, gate)
 }
 
 /// Lets several workers run the image in the file `img` beside each other: a stepper makes `steps`

@@ -1,5 +1,6 @@
-ghost use Rattle.std.specs.Prelude.{◌≡◌, map, string_bytes};
-ghost use Rattle.s7_cli.specs.Words.{command_of};
+ghost use Rattle.std.specs.Prelude.{◌≡◌, true, map, string_bytes, Some};
+ghost use Rattle.s7_cli.specs.Asking.{compiles, has_workers, takes_image};
+ghost use Rattle.s7_cli.specs.Words.{KeepsLimits, command_of, command_value};
 ghost use Rattle.s7_cli.specs.Ends.{Ended, taking};
 ghost use Rattle.s7_cli.specs.Reading.{disk};
 ghost use Rattle.s7_cli.specs.StatusTable.{StatusTable};
@@ -14,7 +15,7 @@ use crate::going::cmd_go;
 use crate::live_command::cmd_live;
 use crate::recheck_command::cmd_recheck;
 use crate::run_command::cmd_run;
-use crate::translate_command::{cmd_english, cmd_german};
+use crate::translate_command::cmd_translate;
 use crate::upgrade_command::cmd_upgrade;
 use crate::watch_command::cmd_watch;
 use crate::words::{Asked, read_words};
@@ -22,7 +23,161 @@ use plc_io::{Files, Gate, Sink};
 use std::alloc::Global;
 use std::sync::Wait;
 use std::thread::Threads;
-use stl_symbols::Language;
+
+/// Does what is asked for of a source that is compiled.
+fn with_source<F: Files, K: Sink>(
+    alloc: Global,
+    asked: Asked<'_>,
+    files: &mut F,
+    out: &mut K,
+) -> Status
+    requires { compiles asked ≡ true }
+    ensures ends { let went = disk (F.shown files.old) (F.shown files.new) in
+        let took = taking (K.shown out.old) (K.shown out.new) in
+        Ended (Some (command_value asked.entry)) went took result.code }
+    ensures table { let went = disk (F.shown files.old) (F.shown files.new) in
+        let took = taking (K.shown out.old) (K.shown out.new) in
+        StatusTable (Some (command_value asked.entry)) went took result.code }
+{
+    match asked {
+        Asked::Go {
+            source,
+            symbols,
+            german,
+            history,
+        } => cmd_go(alloc, source, history, symbols, german, files, out),
+        Asked::Check {
+            source,
+            symbols,
+            german,
+        } => cmd_check(alloc, source, symbols, german, files, out),
+        Asked::Compile {
+            source,
+            symbols,
+            german,
+            image,
+        } => cmd_compile(alloc, source, image, symbols, german, files, out),
+        _ => unreachable!(),
+    }
+}
+
+/// Does what is asked for with an image and no workers.
+fn with_image<F: Files, K: Sink>(
+    alloc: Global,
+    asked: Asked<'_>,
+    files: &mut F,
+    out: &mut K,
+) -> Status
+    requires { takes_image asked ≡ true }
+    ensures ends { let went = disk (F.shown files.old) (F.shown files.new) in
+        let took = taking (K.shown out.old) (K.shown out.new) in
+        Ended (Some (command_value asked.entry)) went took result.code }
+    ensures table { let went = disk (F.shown files.old) (F.shown files.new) in
+        let took = taking (K.shown out.old) (K.shown out.new) in
+        StatusTable (Some (command_value asked.entry)) went took result.code }
+{
+    match asked {
+        Asked::Run { image, history } => cmd_run(alloc, image, history, files, out),
+        Asked::Upgrade { image, upgraded } => cmd_upgrade(alloc, image, upgraded, files, out),
+        Asked::Bound { image, certificate } => cmd_bound(alloc, image, certificate, files, out),
+        Asked::Recheck { image, certificate } => {
+            cmd_recheck(alloc, image, certificate, files, out)
+        }
+        _ => unreachable!(),
+    }
+}
+
+/// Does what is asked for of workers.
+fn with_workers<R: Threads + Wait + Sync, F: Files, K: Sink, G: Gate + Sync>(
+    rt: &R,
+    alloc: Global,
+    asked: Asked<'_>,
+    files: &mut F,
+    out: &mut K,
+    gate: &G,
+) -> Status
+    requires workers { has_workers asked ≡ true }
+    requires limits { KeepsLimits (command_value asked) }
+    ensures ends { let went = disk (F.shown files.old) (F.shown files.new) in
+        let took = taking (K.shown out.old) (K.shown out.new) in
+        Ended (Some (command_value asked.entry)) went took result.code }
+    ensures table { let went = disk (F.shown files.old) (F.shown files.new) in
+        let took = taking (K.shown out.old) (K.shown out.new) in
+        StatusTable (Some (command_value asked.entry)) went took result.code }
+{
+    match asked {
+        Asked::Live {
+            image,
+            stimuli,
+            scripts,
+            steps,
+        } => cmd_live(
+            rt,
+            alloc,
+            image,
+            stimuli,
+            scripts.as_slice(),
+            steps,
+            files,
+            out,
+            gate,
+        ),
+        Asked::Watch {
+            image,
+            stimuli,
+            vars,
+            scripts,
+            steps,
+        } => cmd_watch(
+            rt,
+            alloc,
+            image,
+            stimuli,
+            vars,
+            scripts.as_slice(),
+            steps,
+            files,
+            out,
+            gate,
+        ),
+        _ => unreachable!(),
+    }
+}
+
+/// Does what is asked for.
+fn carry_out<R: Threads + Wait + Sync, F: Files, K: Sink, G: Gate + Sync>(
+    rt: &R,
+    alloc: Global,
+    asked: Asked<'_>,
+    files: &mut F,
+    out: &mut K,
+    gate: &G,
+) -> Status
+    requires { KeepsLimits (command_value asked) }
+    ensures ends { let went = disk (F.shown files.old) (F.shown files.new) in
+        let took = taking (K.shown out.old) (K.shown out.new) in
+        Ended (Some (command_value asked.entry)) went took result.code }
+    ensures table { let went = disk (F.shown files.old) (F.shown files.new) in
+        let took = taking (K.shown out.old) (K.shown out.new) in
+        StatusTable (Some (command_value asked.entry)) went took result.code }
+{
+    match asked {
+        Asked::Go { .. } | Asked::Check { .. } | Asked::Compile { .. } => {
+            with_source(alloc, asked, files, out)
+        }
+        Asked::Translate {
+            language,
+            source,
+            translation,
+        } => cmd_translate(alloc, language, source, translation, files, out),
+        Asked::Run { .. } | Asked::Upgrade { .. } | Asked::Bound { .. } | Asked::Recheck { .. } =>
+            with_image(alloc, asked, files, out),
+        Asked::Live { .. } | Asked::Watch { .. } => {
+            with_workers(rt, alloc, asked, files, out, gate)
+        }
+        Asked::Gen { number } => cmd_gen(alloc, number, out),
+    }
+}
 
 /// Does what the words of a call ask for, without the program's name: `go SRC HIST` runs a source
 /// along a history, `check SRC` checks a source, `compile SRC IMG` writes its image;
@@ -66,106 +221,7 @@ pub fn s7_main<R: Threads + Wait + Sync, F: Files, K: Sink, G: Gate + Sync>(
         StatusTable (command_of (map string_bytes words.now)) went took result.code }
 {
     match read_words(alloc, words) {
-        Ok(
-            Some(
-                Asked::Go {
-                    source,
-                    symbols,
-                    german,
-                    history,
-                },
-            ),
-        ) => cmd_go(alloc, source, history, symbols, german, files, out),
-        Ok(
-            Some(
-                Asked::Check {
-                    source,
-                    symbols,
-                    german,
-                },
-            ),
-        ) => cmd_check(alloc, source, symbols, german, files, out),
-        Ok(
-            Some(
-                Asked::Compile {
-                    source,
-                    symbols,
-                    german,
-                    image,
-                },
-            ),
-        ) => cmd_compile(alloc, source, image, symbols, german, files, out),
-        Ok(
-            Some(
-                Asked::Translate {
-                    language: Language::English,
-                    source,
-                    translation,
-                },
-            ),
-        ) => cmd_english(alloc, source, translation, files, out),
-        Ok(
-            Some(
-                Asked::Translate {
-                    language: Language::German,
-                    source,
-                    translation,
-                },
-            ),
-        ) => cmd_german(alloc, source, translation, files, out),
-        Ok(Some(Asked::Run { image, history })) => cmd_run(alloc, image, history, files, out),
-        Ok(Some(Asked::Gen { number })) => cmd_gen(alloc, number, out),
-        Ok(
-            Some(
-                Asked::Live {
-                    image,
-                    stimuli,
-                    scripts,
-                    steps,
-                },
-            ),
-        ) => cmd_live(
-            rt,
-            alloc,
-            image,
-            stimuli,
-            scripts.as_slice(),
-            steps,
-            files,
-            out,
-            gate,
-        ),
-        Ok(
-            Some(
-                Asked::Watch {
-                    image,
-                    stimuli,
-                    vars,
-                    scripts,
-                    steps,
-                },
-            ),
-        ) => cmd_watch(
-            rt,
-            alloc,
-            image,
-            stimuli,
-            vars,
-            scripts.as_slice(),
-            steps,
-            files,
-            out,
-            gate,
-        ),
-        Ok(Some(Asked::Upgrade { image, upgraded })) => {
-            cmd_upgrade(alloc, image, upgraded, files, out)
-        }
-        Ok(Some(Asked::Bound { image, certificate })) => {
-            cmd_bound(alloc, image, certificate, files, out)
-        }
-        Ok(Some(Asked::Recheck { image, certificate })) => {
-            cmd_recheck(alloc, image, certificate, files, out)
-        }
+        Ok(Some(asked)) => carry_out(rt, alloc, asked, files, out, gate),
         Ok(None) => end_command(out, Err(Failure::WordsRefused)),
         Err(_) => end_command(out, Err(Failure::NoMemory)),
     }

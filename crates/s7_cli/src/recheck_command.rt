@@ -1,9 +1,10 @@
-ghost use Rattle.std.specs.Prelude.{◌≤◌, length, Some, OnOk};
+ghost use Rattle.std.specs.Prelude.{ℕ, ◌≤◌, List, [], ◌∷◌, length, Some, OnOk};
+ghost use Rattle.plc_io.specs.Moments.{FilesAt};
 ghost use Rattle.s7_cli.specs.BoundSays.{RecheckSays};
 ghost use Rattle.s7_cli.specs.BoundTexts.{IsHeld};
 ghost use Rattle.s7_cli.specs.Command.{Recheck};
 ghost use Rattle.s7_cli.specs.Ends.{Ended, taking};
-ghost use Rattle.s7_cli.specs.Inner.{Comes, RefusedBy};
+ghost use Rattle.s7_cli.specs.Inner.{Comes, ComesOf, RefusedBy};
 ghost use Rattle.s7_cli.specs.Reading.{disk};
 ghost use Rattle.s7_cli.specs.StatusTable.{StatusTable};
 
@@ -29,6 +30,22 @@ fn judge_recheck(alloc: Global, image: &[u8], certificate: &[u8]) -> Result<(), 
     Err(Failure::SaysNo)
 }
 
+/// Checks an image and a certificate, and writes `OK`.
+fn recheck_image<K: Sink>(
+    alloc: Global,
+    image: &[u8],
+    certificate: &[u8],
+    out: &mut K,
+) -> Result<(), Failure>
+    requires { length certificate.now ≤ 4194304 }
+    ensures { let took = taking (K.shown out.old) (K.shown out.new) in
+        (img cert : List ℕ) (at : FilesAt)
+        → ComesOf (Recheck img cert) (image.now ∷ certificate.now ∷ []) (disk at at) took result }
+{
+    judge_recheck(alloc, image, certificate)?;
+    write_text(out, OK_LINE)
+}
+
 /// Reads an image and a certificate, checks both, and writes `OK`.
 fn recheck<F: Files, K: Sink>(
     alloc: Global,
@@ -43,8 +60,7 @@ fn recheck<F: Files, K: Sink>(
 {
     let image = read_file(alloc, files, File::Image, img)?;
     let certificate = read_file(alloc, files, File::Certificate, cert)?;
-    judge_recheck(alloc, &image, &certificate)?;
-    write_text(out, OK_LINE)
+    recheck_image(alloc, &image, &certificate, out)
 }
 
 /// Loads the image in the file `img`, reads the certificate in the file `cert`, and writes `OK`

@@ -1,7 +1,8 @@
-ghost use Rattle.std.specs.Prelude.{Some};
+ghost use Rattle.std.specs.Prelude.{ℕ, ◌≤◌, List, [], ◌∷◌, length, Some};
+ghost use Rattle.plc_io.specs.Moments.{FilesAt};
 ghost use Rattle.s7_cli.specs.Command.{Run};
 ghost use Rattle.s7_cli.specs.Ends.{Ended, taking};
-ghost use Rattle.s7_cli.specs.Inner.{Comes};
+ghost use Rattle.s7_cli.specs.Inner.{Comes, ComesOf};
 ghost use Rattle.s7_cli.specs.Reading.{disk};
 ghost use Rattle.s7_cli.specs.StatusTable.{StatusTable};
 
@@ -12,6 +13,22 @@ use crate::judging::judge_run;
 use crate::run_text::replay_text;
 use plc_io::{Files, Sink};
 use std::alloc::Global;
+
+/// Checks an image and a history, and writes the run.
+fn run_along<K: Sink>(
+    alloc: Global,
+    image: &[u8],
+    history: &[u8],
+    out: &mut K,
+) -> Result<(), Failure>
+    requires { length history.now ≤ 4194304 }
+    ensures { let took = taking (K.shown out.old) (K.shown out.new) in
+        (img hist : List ℕ) (at : FilesAt)
+        → ComesOf (Run img hist) (image.now ∷ history.now ∷ []) (disk at at) took result }
+{
+    let (program, entries) = judge_run(alloc, image, history)?;
+    written(replay_text(alloc, program, &entries, out))
+}
 
 /// Reads an image and a history, checks both, and writes the run.
 fn run<F: Files, K: Sink>(
@@ -27,8 +44,7 @@ fn run<F: Files, K: Sink>(
 {
     let image = read_file(alloc, files, File::Image, img)?;
     let history = read_file(alloc, files, File::History, hist)?;
-    let (program, entries) = judge_run(alloc, &image, &history)?;
-    written(replay_text(alloc, program, &entries, out))
+    run_along(alloc, &image, &history, out)
 }
 
 /// Runs the image in the file `img` along the history in the file `hist`, which may name the

@@ -1,18 +1,38 @@
-ghost use Rattle.std.specs.Prelude.{Some};
+ghost use Rattle.std.specs.Prelude.{ℕ, ◌≤◌, List, [], ◌∷◌, length, Some};
+ghost use Rattle.stl_lexer.specs.Limits.{source_limit};
 ghost use Rattle.stl_symbols.specs.declared.languages.Language.TheVariants.{English, German};
 ghost use Rattle.s7_cli.specs.Command.{Translate};
 ghost use Rattle.s7_cli.specs.Ends.{Ended, taking};
-ghost use Rattle.s7_cli.specs.Inner.{Comes};
+ghost use Rattle.s7_cli.specs.Inner.{Comes, ComesOf};
 ghost use Rattle.s7_cli.specs.Reading.{disk};
 ghost use Rattle.s7_cli.specs.StatusTable.{StatusTable};
 
 use crate::failures::{Failure, File, Status};
-use crate::files::{read_file, write_file};
-use crate::finish::{OK_LINE, end_command, write_text};
+use crate::files::read_file;
+use crate::finish::{end_command, write_output};
 use crate::translating::translated;
 use plc_io::{Files, Sink};
 use std::alloc::Global;
 use stl_symbols::Language;
+
+/// Writes the translation of a source, and then `OK`.
+fn translate_text<F: Files, K: Sink>(
+    alloc: Global,
+    language: Language,
+    source: &[u8],
+    translation: &str,
+    files: &mut F,
+    out: &mut K,
+) -> Result<(), Failure>
+    requires { length source.now ≤ source_limit }
+    ensures { let went = disk (F.shown files.old) (F.shown files.new) in
+        let took = taking (K.shown out.old) (K.shown out.new) in
+        (src : List ℕ)
+        → ComesOf (Translate language src translation.now) (source.now ∷ []) went took result }
+{
+    let text = translated(alloc, language, source)?;
+    write_output(files, out, translation, &text)
+}
 
 /// Reads a source, writes its translation, and then `OK`.
 fn translate<F: Files, K: Sink>(
@@ -28,9 +48,28 @@ fn translate<F: Files, K: Sink>(
         Comes (Some (Translate language src.now translation.now)) went took result }
 {
     let source = read_file(alloc, files, File::Source, src)?;
-    let text = translated(alloc, language, &source)?;
-    write_file(files, translation, &text)?;
-    write_text(out, OK_LINE)
+    translate_text(alloc, language, &source, translation, files, out)
+}
+
+/// Makes the translation of the source in the file `src` to the mnemonics of a language the whole of
+/// the file `translation`, and then writes `OK`; or writes the line of a refusal, and no file.
+pub fn cmd_translate<F: Files, K: Sink>(
+    alloc: Global,
+    language: Language,
+    src: &str,
+    translation: &str,
+    files: &mut F,
+    out: &mut K,
+) -> Status
+    ensures ends { let went = disk (F.shown files.old) (F.shown files.new) in
+        Ended (Some (Translate language src.now translation.now)) went
+        (taking (K.shown out.old) (K.shown out.new)) result.code }
+    ensures table { let went = disk (F.shown files.old) (F.shown files.new) in
+        StatusTable (Some (Translate language src.now translation.now)) went
+        (taking (K.shown out.old) (K.shown out.new)) result.code }
+{
+    let came = translate(alloc, language, src, translation, files, out);
+    end_command(out, came)
 }
 
 /// Makes the translation of the source in the file `src` from German mnemonics to English ones the
@@ -50,8 +89,7 @@ pub fn cmd_english<F: Files, K: Sink>(
         StatusTable (Some (Translate English src.now translation.now)) went
         (taking (K.shown out.old) (K.shown out.new)) result.code }
 {
-    let came = translate(alloc, Language::English, src, translation, files, out);
-    end_command(out, came)
+    cmd_translate(alloc, Language::English, src, translation, files, out)
 }
 
 /// The same from English mnemonics to German ones.
@@ -69,6 +107,5 @@ pub fn cmd_german<F: Files, K: Sink>(
         StatusTable (Some (Translate German src.now translation.now)) went
         (taking (K.shown out.old) (K.shown out.new)) result.code }
 {
-    let came = translate(alloc, Language::German, src, translation, files, out);
-    end_command(out, came)
+    cmd_translate(alloc, Language::German, src, translation, files, out)
 }

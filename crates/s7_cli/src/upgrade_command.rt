@@ -1,16 +1,32 @@
-ghost use Rattle.std.specs.Prelude.{Some};
+ghost use Rattle.std.specs.Prelude.{ℕ, List, [], ◌∷◌, Some};
 ghost use Rattle.s7_cli.specs.Command.{Upgrade};
 ghost use Rattle.s7_cli.specs.Ends.{Ended, taking};
-ghost use Rattle.s7_cli.specs.Inner.{Comes};
+ghost use Rattle.s7_cli.specs.Inner.{Comes, ComesOf};
 ghost use Rattle.s7_cli.specs.Reading.{disk};
 ghost use Rattle.s7_cli.specs.StatusTable.{StatusTable};
 
 use crate::failures::{Failure, File, Status};
-use crate::files::{read_file, write_file};
-use crate::finish::{OK_LINE, end_command, write_text};
+use crate::files::read_file;
+use crate::finish::{end_command, write_output};
 use crate::judging::judge_upgrade;
 use plc_io::{Files, Sink};
 use std::alloc::Global;
+
+/// Writes the image of version 2 of what an image holds, and then `OK`.
+fn upgrade_image<F: Files, K: Sink>(
+    alloc: Global,
+    image: &[u8],
+    img2: &str,
+    files: &mut F,
+    out: &mut K,
+) -> Result<(), Failure>
+    ensures { let went = disk (F.shown files.old) (F.shown files.new) in
+        let took = taking (K.shown out.old) (K.shown out.new) in
+        (img : List ℕ) → ComesOf (Upgrade img img2.now) (image.now ∷ []) went took result }
+{
+    let upgraded = judge_upgrade(alloc, image)?;
+    write_output(files, out, img2, &upgraded)
+}
 
 /// Reads an image, writes the image of version 2 of what it holds, and then `OK`.
 fn upgrade<F: Files, K: Sink>(
@@ -25,9 +41,7 @@ fn upgrade<F: Files, K: Sink>(
         Comes (Some (Upgrade img.now img2.now)) went took result }
 {
     let image = read_file(alloc, files, File::Image, img)?;
-    let upgraded = judge_upgrade(alloc, &image)?;
-    write_file(files, img2, &upgraded)?;
-    write_text(out, OK_LINE)
+    upgrade_image(alloc, &image, img2, files, out)
 }
 
 /// Loads the image in the file `img`, makes the image of version 2 of its program, names and profile

@@ -1,16 +1,17 @@
 //! A watch: workers run an image while a viewer views what one of them reads, and the history that
 //! they made is written, its run, and the views.
-ghost use Rattle.std.specs.Prelude.{◌≡◌, ◌++◌, ◌≤◌, length, map, All, IfOk, OnOk, Some};
+ghost use Rattle.std.specs.Prelude.{◌≡◌, ℕ, List, ◌++◌, ◌≤◌, codes, length, map, All, IfOk, OnOk, Some};
+ghost use Rattle.plc_io.specs.Moments.{FilesAt};
 ghost use Rattle.plc_io.specs.Taken.{Wrote};
 ghost use Rattle.var_access.specs.Entry.{IsValid};
 ghost use Rattle.s7_cli.specs.Answer.{done};
 ghost use Rattle.s7_cli.specs.Command.{Watch};
 ghost use Rattle.s7_cli.specs.Ends.{Ended, taking};
-ghost use Rattle.s7_cli.specs.Inner.{Comes, RefusedBy};
+ghost use Rattle.s7_cli.specs.Inner.{Comes, ComesOf, RefusedBy};
 ghost use Rattle.s7_cli.specs.Reading.{disk};
 ghost use Rattle.s7_cli.specs.StatusTable.{StatusTable};
 ghost use Rattle.s7_cli.specs.WatchSays.{seen_line, seen_reply, seen_text, watch_text};
-ghost use Rattle.s7_cli.specs.WatchTexts.{IsWatchText, WatchTextSays};
+ghost use Rattle.s7_cli.specs.WatchTexts.{IsWatchText, WatchTextSays, watch_contents};
 ghost use Rattle.s7_cli.specs.run_text.Behind.{program_of};
 
 use crate::failures::{Failure, Status};
@@ -113,6 +114,21 @@ fn view_lines(alloc: Global, vars: &Vars, views: &[Shown]) -> Result<Vec<u8>, No
     Ok(text)
 }
 
+/// Writes a line `---`, and the lines of the views.
+fn write_views<K: Sink>(
+    alloc: Global,
+    vars: &Vars,
+    views: &[Shown],
+    out: &mut K,
+) -> Result<(), IoFault>
+    ensures { Wrote (K.shown out.old) (K.shown out.new)
+        (codes "---\n" ++ seen_text vars.now views.now) result }
+{
+    push_all(out, b"---\n")?;
+    let lines = view_lines(alloc, vars, views)?;
+    push_all(out, &lines)
+}
+
 /// Writes the text of a live run, a line `---`, and the lines of the views.
 fn write_watch<K: Sink>(alloc: Global, watched: Watched, out: &mut K) -> Result<(), IoFault>
     requires { All IsValid watched.controller.history }
@@ -126,9 +142,28 @@ fn write_watch<K: Sink>(alloc: Global, watched: Watched, out: &mut K) -> Result<
         views,
     } = watched;
     write_live(alloc, controller, out)?;
-    push_all(out, b"---\n")?;
-    let lines = view_lines(alloc, &vars, &views)?;
-    push_all(out, &lines)
+    write_views(alloc, &vars, &views, out)
+}
+
+/// Checks what the files of a watch hold, lets the workers work and the viewer view, and writes what
+/// they made and saw.
+fn watch_read<R: Threads + Wait + Sync, K: Sink, G: Gate + Sync>(
+    rt: &R,
+    alloc: Global,
+    text: &WatchText,
+    steps: u32,
+    out: &mut K,
+    gate: &G,
+) -> Result<(), Failure>
+    requires text { IsWatchText text.now }
+    requires steps { steps ≤ 1000000 }
+    ensures { let took = taking (K.shown out.old) (K.shown out.new) in
+        (img stim vars : List ℕ) (ops : List (List ℕ)) (at : FilesAt)
+        → ComesOf (Watch img stim vars ops steps) (watch_contents text.now) (disk at at) took
+        result }
+{
+    let watched = run_watch(rt, alloc, text, steps, gate)?;
+    written(write_watch(alloc, watched, out))
 }
 
 /// Reads an image, stimuli, variables and scripts, checks all, lets the workers work and the viewer
@@ -153,8 +188,7 @@ fn watch<R: Threads + Wait + Sync, F: Files, K: Sink, G: Gate + Sync>(
         Comes (Some asked) went took result }
 {
     let text = read_watch(alloc, files, img, stim, vars, ops)?;
-    let watched = run_watch(rt, alloc, &text, steps, gate)?;
-    written(write_watch(alloc, watched, out))
+    watch_read(rt, alloc, &text, steps, out, gate)
 }
 
 /// Lets several workers run the image in the file `img` beside each other, as `live` does, with an

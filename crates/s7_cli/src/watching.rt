@@ -122,8 +122,8 @@ fn publish_beside_views<R: Threads + Wait + Sync, G: Gate + Sync>(
     requires valid { IsRequest (ReadVars vars.now) }
     requires opening { publisher.old.list ≡ opening ∷ [] }
     requires none { views.old.items ≡ [] }
-    ensures published { Publishes s.now (reading p.old.number vars.now) PUBLISHED p.new publisher.old
-        publisher.new result.0 }
+    ensures published { Publishes s.now (reading p.old.number vars.now) PUBLISHED p.new
+        publisher.old publisher.new result.0 }
     ensures viewed { Views VIEWED viewer.old viewer.new views.new.items result.1 }
 {
     join_mut(
@@ -175,8 +175,8 @@ fn work_beside_watch<R: Threads + Wait + Sync, G: Gate + Sync>(
     ensures made { HasWorked s.now passes.items steps stimuli.now
         (map (λ v. v.items) scripts.now) result.0.0 (is_ok result.0.1) }
     ensures fault { KnowsFault s.now result.0.0.seen result.0.1 }
-    ensures published { Publishes s.now (reading p.old.number vars.now) PUBLISHED p.new publisher.old
-        publisher.new result.1.0 }
+    ensures published { Publishes s.now (reading p.old.number vars.now) PUBLISHED p.new
+        publisher.old publisher.new result.1.0 }
     ensures viewed { Views VIEWED viewer.old viewer.new views.new.items result.1.1 }
 {
     join_mut(

@@ -1,5 +1,5 @@
 //! The workers of a station, each in a thread of its own: the stepper, the feeder and the operators.
-ghost use Rattle.std.specs.Prelude.{◌≡◌, ◌+◌, ◌<◌, true, false, List, [], ◌∷◌, ◌++◌, length, map, is_ok, All, IfErr, IsOk, OnOk};
+ghost use Rattle.std.specs.Prelude.{◌≡◌, ◌+◌, ◌<◌, false, List, [], ◌∷◌, ◌++◌, length, map, is_ok, All, IfErr, IsOk, OnOk};
 ghost use Rattle.std.specs.Thread.{IsSync};
 ghost use mathlib.Core.List.{IsPrefix};
 ghost use Rattle.var_access.specs.Entry.{IsInRange};

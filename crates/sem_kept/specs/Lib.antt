@@ -2,6 +2,7 @@ pub mod Accepted
 pub mod Agreement
 pub mod Back
 pub mod Coded
+pub mod Compiles
 pub mod Initial
 pub mod Jumps
 pub mod Kept

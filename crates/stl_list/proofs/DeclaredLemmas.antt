@@ -1,13 +1,10 @@
 -- The outline of plain declarations.
-use Rattle.std.proofs.Common.{◌≡◌, ℕ, ◌≤◌, eqb, Bool, true, false, cond, not, ◌&&◌, List, [], ◌∷◌, ◌++◌, refl, arith}
-use Rattle.stl_ast.specs.Blocks.{part_rank}
+use Rattle.std.proofs.Common.{◌≡◌, ℕ, eqb, Bool, true, false, cond, List, [], ◌∷◌, ◌++◌, refl, arith}
 use Rattle.stl_ast.specs.Outline.{IsOutline}
 use Rattle.stl_ast.specs.declared.blocks.PartKind.{PartKind}
-use Rattle.stl_ast.specs.declared.declarations.Declaration.{Declaration}
 use Rattle.stl_ast.specs.declared.declarations.Init.{Init}
 use Rattle.stl_types.specs.declared.parameters.Formal.{Formal}
-use Rattle.stl_list.specs.Parameters.{is_return}
-use Rattle.stl_list.specs.Sections.{bytes_here, declared_here, declared_in, is_declared_in, plain_declaration}
+use Rattle.stl_list.specs.Sections.{bytes_here, declared_in, is_declared_in, plain_declaration}
 
 -- the parameters of a section stand at level 0
 pub declared_outline : (line : ℕ) (formals : List Formal) (kind : PartKind) → IsOutline 0 (declared_in line formals kind)

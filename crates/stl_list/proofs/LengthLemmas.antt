@@ -1,10 +1,11 @@
 -- A listing is longer than each line of its program.
-use Rattle.std.proofs.Common.{◌≡◌, ℕ, zero, suc, ◌+◌, ◌-◌, ◌<◌, ◌≤◌, eqb, ltb, Bool, true, false, cond, ◌||◌, List, [], ◌∷◌, ◌++◌, length, replicate, Option, Some, None, refl, sym, ap, ◌∙◌, append_assoc, length-append, length-replicate, map, arith}
+use Rattle.std.proofs.Common.{◌≡◌, ℕ, zero, suc, ◌+◌, ◌-◌, ◌<◌, ◌≤◌, eqb, ltb, Bool, true, false, cond, ◌||◌, List, [], ◌∷◌, ◌++◌, length, Option, Some, None, refl, sym, ap, ◌∙◌, append_assoc, length-append, map, arith}
 use Rattle.std.specs.List.{AllByRecursion, flat_map, fold, list_any}
 use Rattle.std.specs.Prelude.{max}
 use Rattle.std.proofs.lemmas.Bool.Decides.{nat_tests}
+use Rattle.std.proofs.lemmas.List.{length-replicate}
 use Rattle.plc_base.proofs.ListLemmas.{all_append}
-use Rattle.flat_code.specs.Programs.{CodeBlock, DataBlock, Program}
+use Rattle.flat_code.specs.Programs.{CodeBlock, Program}
 use Rattle.stl_ast.specs.Outline.{level_behind}
 use Rattle.stl_ast.specs.Statements.{is_empty}
 use Rattle.stl_ast.specs.declared.blocks.Block.{Block}
@@ -14,17 +15,23 @@ use Rattle.stl_ast.specs.declared.statements.Statement.{Statement}
 use Rattle.plc_base.specs.Kinds.{is_data_type}
 use Rattle.stl_codegen.specs.Order.{inserted, sorted}
 use Rattle.stl_codegen.proofs.ProgramLemmas.{all_before}
+use Rattle.stl_lexer.specs.Marks.{mark_text}
 use Rattle.stl_lexer.specs.Pieces.{Piece, spelled}
 use Rattle.stl_lexer.specs.declared.kinds.TokenKind.{TokenKind}
+use Rattle.stl_lexer.specs.declared.kinds.TokenKind.TheVariants as kind
+use Rattle.stl_lexer.specs.declared.marks.Mark.TheVariants as mark_of
 use Rattle.stl_parser.specs.declared.clauses.Clause.{Clause}
 use Rattle.stl_parser.specs.declared.clauses.Clause.TheVariants as clause
-use Rattle.stl_print.specs.Clauses.{clause_pieces, line_of, pieces_from}
-use Rattle.stl_print.specs.Declarations.{declaration_pieces}
+use Rattle.stl_print.specs.Clauses.{clause_pieces, line_of, pieces_from, result_pieces}
+use Rattle.stl_print.specs.Declarations.{array_pieces, behind_type, declaration_pieces, element_pieces}
 use Rattle.stl_print.specs.Gaps.{clause_gap, gap_text, line_behind}
 use Rattle.stl_print.specs.Mnemonics.{Spelling, one, two, spelling, spelling_pieces}
-use Rattle.stl_print.specs.Pieces.{token}
-use Rattle.stl_print.specs.Statements.{instruction_pieces, pieces_by_label, statement_pieces, unlabelled_pieces}
+use Rattle.stl_print.specs.Names.{block_name}
+use Rattle.stl_print.specs.Operands.{operand_pieces}
+use Rattle.stl_print.specs.Pieces.{mark, token}
+use Rattle.stl_print.specs.Statements.{actuals_pieces, instruction_pieces, labelled_pieces, pieces_by_label, statement_pieces, unlabelled_pieces}
 use Rattle.stl_print.specs.Trees.{begin_clauses, block_clauses, declared_from, end_of, part_clauses, pieces, printed, structure_ends}
+use Rattle.stl_print.specs.Words.{end_word, head_word, section_word}
 use Rattle.stl_print.specs.declared.gaps.Gap.{Gap}
 use Rattle.stl_print.specs.declared.gaps.Gap.TheVariants as gap
 use Rattle.stl_list.specs.CodeBlocks.{in_lines, line_reached, listed_block, listed_blocks}
@@ -37,7 +44,7 @@ use Rattle.stl_list.specs.Signatures.{Signature, signatures}
 -- ---- a clause is as long as the gap before it
 
 spelled_both : (ps qs : List Piece) (end : List ℕ) → length (spelled (ps ++ qs) end) ≡ length (spelled ps []) + length (spelled qs end)
-spelled_both [] qs end = refl
+spelled_both [] qs end = omega arith
 spelled_both (p ∷ ps) qs end =
     let more = spelled_both ps qs end in
     omega (arith, more, length-append p.gap (p.text ++ spelled (ps ++ qs) end), length-append p.text (spelled (ps ++ qs) end), length-append p.gap (p.text ++ spelled ps []), length-append p.text (spelled ps []))
@@ -55,17 +62,19 @@ gap_of_spelling : (g : Gap) (s : Spelling) (ps : List Piece) → length (gap_tex
 gap_of_spelling g (one k text) ps = gap_least g k text ps
 gap_of_spelling g (two k text j behind) ps = gap_least g k text (token gap.Nothing j behind ∷ ps)
 
+gap_of_unlabelled : (g : Gap) (s : Statement) (empty : Bool) → length (gap_text g) ≤ length (spelled (cond empty (mark g mark_of.Semicolon ∷ []) (instruction_pieces g s)) [])
+unfolding instruction_pieces
+gap_of_unlabelled g s true = gap_least g kind.Mark (mark_text mark_of.Semicolon) []
+gap_of_unlabelled g s false =
+    gap_of_spelling g (spelling s.code) (operand_pieces gap.Blank s.operand ++ (actuals_pieces s.actuals ++ mark gap.Nothing mark_of.Semicolon ∷ []))
+
 gap_of_statement : (g : Gap) (s : Statement) → length (gap_text g) ≤ length (spelled (statement_pieces g s) [])
-unfolding statement_pieces unlabelled_pieces instruction_pieces
+unfolding statement_pieces unlabelled_pieces
 gap_of_statement g s = by_label s.label
   where
-    by_empty : (b : Bool) → is_empty s.code ≡ b → length (gap_text g) ≤ length (spelled (unlabelled_pieces g s) [])
-    by_empty true e = rw e (gap_least g _ _ [])
-    by_empty false e = rw e (gap_of_spelling g (spelling s.code) _)
-
     by_label : (label : Option (List ℕ)) → length (gap_text g) ≤ length (spelled (pieces_by_label g label s) [])
-    by_label None = by_empty (is_empty s.code) refl
-    by_label (Some name) = gap_least g _ name _
+    by_label None = gap_of_unlabelled g s (is_empty s.code)
+    by_label (Some name) = gap_least g kind.Word name (mark gap.Nothing mark_of.Colon ∷ labelled_pieces s)
 
 -- the line behind a clause is reached by the line before it and the ends of lines in its gap
 gap_reaches : (reached line : ℕ) → line_behind reached line ≤ max 1 reached + length (gap_text (clause_gap reached line))
@@ -73,20 +82,26 @@ unfolding line_behind clause_gap
 gap_reaches reached line = by_tests (eqb reached 0) (ltb reached line) refl refl
   where
     by_tests : (a b : Bool) → eqb reached 0 ≡ a → ltb reached line ≡ b → max 1 (max reached line) ≤ max 1 reached + length (gap_text (cond a (gap.LineEnds (line - 1)) (cond b (gap.LineEnds (line - reached)) gap.Blank)))
-    by_tests true b e f = let none : reached ≡ 0 = grind (arith, nat_tests) in omega (arith, none, length-replicate (line - 1) 10)
-    by_tests false true e f = let less : reached < line = grind (arith, nat_tests) in omega (arith, less, length-replicate (line - reached) 10)
+    by_tests true b e f = let none : reached ≡ 0 = grind (arith, nat_tests) in omega (arith, none, length-replicate {A = ℕ} (line - 1) 10)
+    by_tests false true e f = let less : reached < line = grind (arith, nat_tests) in omega (arith, less, length-replicate {A = ℕ} (line - reached) 10)
     by_tests false false e f = let le : line ≤ reached = grind (arith, nat_tests) in omega (arith, le)
 
 stays : (reached n : ℕ) → line_behind reached 0 ≤ max 1 reached + n
 unfolding line_behind
 stays reached n = omega arith
 
+-- a clause whose first token is known reaches its line
+at_line : (reached line : ℕ) (k : TokenKind) (text : List ℕ) (ps : List Piece) → line_behind reached line ≤ max 1 reached + length (spelled (token (clause_gap reached line) k text ∷ ps) [])
+at_line reached line k text ps = omega (arith, gap_reaches reached line, gap_least (clause_gap reached line) k text ps)
+
 clause_reaches : (reached : ℕ) (c : Clause) → Prints c → line_behind reached (line_of c) ≤ max 1 reached + length (spelled (clause_pieces (clause_gap reached (line_of c)) c) [])
 unfolding Prints clause_pieces line_of declaration_pieces
-clause_reaches reached (clause.Head line k name result) h = omega (arith, gap_reaches reached line, gap_least (clause_gap reached line) _ _ _)
-clause_reaches reached (clause.Ends line k) h = omega (arith, gap_reaches reached line, gap_least (clause_gap reached line) _ _ [])
-clause_reaches reached (clause.Section line p) h = omega (arith, gap_reaches reached line, gap_least (clause_gap reached line) _ _ [])
-clause_reaches reached (clause.Declares d) h = omega (arith, gap_reaches reached d.line, gap_least (clause_gap reached d.line) _ d.name _)
+clause_reaches reached (clause.Head line k name result) h = at_line reached line kind.Word (head_word k) (block_name gap.Blank name ++ result_pieces k result)
+clause_reaches reached (clause.Ends line k) h = at_line reached line kind.Word (end_word k) []
+clause_reaches reached (clause.Section line p) h = at_line reached line kind.Word (section_word p) []
+clause_reaches reached (clause.Declares d) h =
+    at_line reached d.line kind.Word d.name
+    (mark gap.Blank mark_of.Colon ∷ (flat_map array_pieces d.of.arrays ++ (element_pieces gap.Blank d.of.of ++ behind_type d.of.of d.init)))
 clause_reaches reached (clause.Runs s) h = omega (arith, gap_reaches reached s.line, gap_of_statement (clause_gap reached s.line) s)
 clause_reaches reached (clause.Sets s) h = absurd h
 clause_reaches reached clause.EndSection h = stays reached _
@@ -117,7 +132,7 @@ behind_1 reached line = (omega arith, omega arith, omega arith)
 never_falls : (reached : ℕ) (cs : List Clause) → reached ≤ line_from reached cs
 unfolding line_from
 never_falls reached [] = omega arith
-never_falls reached (c ∷ cs) = omega (arith, (behind_1 reached (line_of c)).1.0, never_falls (line_behind reached (line_of c)) cs)
+never_falls reached (c ∷ cs) = omega (arith, (behind_1 reached (line_of c)).1, never_falls (line_behind reached (line_of c)) cs)
 
 pieces_reach : (reached : ℕ) (cs : List Clause) → AllByRecursion Prints cs → line_from reached cs ≤ max 1 reached + length (spelled (pieces_from reached cs) [])
 unfolding line_from
@@ -194,7 +209,7 @@ reaches_behind line cs ds h = λ reached. omega (arith, from_both reached cs ds,
 
 end_reaches : (line : ℕ) (b : Block) → Reaches line (clause.Ends line b.kind ∷ [])
 unfolding Reaches line_from line_of
-end_reaches line b = λ reached. (behind_1 reached line).1.1
+end_reaches line b = λ reached. (behind_1 reached line).2
 
 listed_reaches : (ss : List Signature) (reached : ℕ) (b : CodeBlock) → Reaches (line_behind_all reached b.lines) (block_clauses (listed_block ss reached b))
 unfolding Reaches block_clauses line_from
@@ -206,7 +221,7 @@ listed_reaches ss reached b = λ before.
 
 listed_all_reach : (ss : List Signature) (before reached : ℕ) (bs : List CodeBlock) → reached ≤ max 1 before
     → line_reached reached bs ≤ max 1 (line_from before (flat_map block_clauses (listed_blocks ss reached bs)))
-unfolding line_from
+unfolding line_from Reaches
 listed_all_reach ss before reached [] h = h
 listed_all_reach ss before reached (b ∷ bs) h =
     let here = block_clauses (listed_block ss reached b) in
@@ -242,11 +257,11 @@ all_reached reached (b ∷ bs) =
 
 past_some : (most n : ℕ) (bs : List CodeBlock) → AllByRecursion (λ b. last_line b ≤ n) bs → list_any (λ b. ltb most (last_line b)) bs ≡ true → (most < n) × (0 < length bs)
 past_some most n [] all h = absurd cc
-past_some most n (b ∷ bs) all h = (by_test (ltb most (last_line b)) refl h, omega arith)
+past_some most n (b ∷ bs) all h = (by_test (ltb most (last_line b)) refl (λ f. (past_some most n bs all.1 f).0) h, omega arith)
   where
-    by_test : (t : Bool) → ltb most (last_line b) ≡ t → (t || list_any (λ b. ltb most (last_line b)) bs) ≡ true → most < n
-    by_test true e f = let less : most < last_line b = grind (arith, nat_tests) in omega (arith, less, all.0)
-    by_test false e f = (past_some most n bs all.1 f).0
+    by_test : (t : Bool) → ltb most (last_line b) ≡ t → (list_any (λ b. ltb most (last_line b)) bs ≡ true → most < n) → (t || list_any (λ b. ltb most (last_line b)) bs) ≡ true → most < n
+    by_test true e more f = let less : most < last_line b = grind (arith, nat_tests) in omega (arith, less, all.0)
+    by_test false e more f = more f
 
 inserted_some : {A : Type 0} (before : A → A → Bool) (x : A) (ys : List A) → 0 < length (inserted before x ys)
 inserted_some before x [] = omega arith

@@ -1,9 +1,9 @@
 -- The offsets of statements: they rise, and are found by a binary search.
-use Rattle.std.proofs.Common.{◌≡◌, ℕ, zero, suc, ◌+◌, ◌-◌, ◌≤◌, ◌<◌, eqb, ltb, cond, Bool, true, false, List, [], ◌∷◌, ◌++◌, length, drop, get_or, refl, sym, ap, subst, ◌∙◌, append_assoc, length-append, arith}
+use Rattle.std.proofs.Common.{◌≡◌, ℕ, zero, suc, ◌+◌, ◌≤◌, ◌<◌, eqb, ltb, cond, Bool, true, false, List, [], ◌∷◌, ◌++◌, length, drop, get_or, refl, sym, ap, subst, ◌∙◌, append_assoc, length-append, arith}
 use Rattle.std.specs.List.{AllByRecursion, position_or_len}
 use Rattle.std.specs.List.Sorted.{IsBinarySearchResult, IsStrictlySortedBy}
 use Rattle.std.specs.Ordering.{nat_cmp}
-use Rattle.std.specs.Prelude.{Result, Ok, Err}
+use Rattle.std.specs.Prelude.{Ok, Err}
 use Rattle.std.specs.declared.cmp.Ordering.TheVariants.{Less}
 use Rattle.std.proofs.lemmas.Bool.Decides.{nat_tests}
 use Rattle.std.proofs.lemmas.List.{append-nil, drop_more}
@@ -11,7 +11,7 @@ use Rattle.std.proofs.lemmas.List.Sorted.{searched}
 use Rattle.std.proofs.lemmas.Map.Keys.{below_from_sorted}
 use Rattle.flat_code.specs.Codes.{code_bytes, size}
 use Rattle.flat_code.specs.Ops.{OpData, op_bytes}
-use Rattle.stl_list.specs.Runs.{Run, number_at, runs_from, start_here, starts, starts_from}
+use Rattle.stl_list.specs.Runs.{number_at, runs_from, start_here, starts, starts_from}
 
 -- ---- they rise
 

@@ -15,7 +15,6 @@ use Rattle.stl_types.specs.declared.parameters.Formal.{Formal}
 use Rattle.stl_list.specs.Constants.{typed_constant}
 use Rattle.stl_list.specs.Joined.{called_id}
 use Rattle.stl_list.specs.Operands.{direct_operand, own_parameter}
-use Rattle.stl_list.specs.Runs.{Run}
 use Rattle.stl_list.specs.Signatures.{Signature, called_formals}
 
 -- an OUT or IN_OUT is written

@@ -1,5 +1,5 @@
 -- The code blocks of a listing.
-use Rattle.std.specs.Prelude.{ℕ, max, List, [], ◌∷◌, Option, Some, None, find}
+use Rattle.std.specs.Prelude.{ℕ, max, List, [], ◌∷◌, Option, None, find}
 use Rattle.std.specs.Option.{option_map}
 use Rattle.flat_code.specs.Programs.{CodeBlock}
 use Rattle.stl_ast.specs.declared.blocks.Block.{Block}

@@ -1,5 +1,5 @@
 -- The constants of a source by their bits.
-use Rattle.std.specs.Prelude.{ℕ, ◌/◌, ◌%◌, ◌^◌, nat_lt, ◌==◌, Bool, true, false, ◌&&◌, ◌||◌, List, codes, pos, Option, Some, None, if◌then◌else◌}
+use Rattle.std.specs.Prelude.{ℕ, ◌/◌, ◌%◌, ◌^◌, nat_lt, ◌==◌, List, codes, pos, Option, Some, None, if◌then◌else◌}
 use Rattle.std.specs.Int.{cast_signed, w16, w32}
 use Rattle.plc_base.specs.Bits.{has_bit}
 use Rattle.flat_code.specs.declared.operations.Adding.TheVariants as adding

@@ -1,5 +1,5 @@
 -- The listing of a program: a source and a symbols file that compile to it.
-use Rattle.std.specs.Prelude.{ℕ, List, [], ◌∷◌, ◌++◌}
+use Rattle.std.specs.Prelude.{ℕ, List, ◌++◌}
 use Rattle.flat_code.specs.Programs.{CodeBlock, DataBlock, Program}
 use Rattle.stl_ast.specs.declared.blocks.Block.{Block}
 use Rattle.stl_ast.specs.declared.blocks.Tree.{Tree}

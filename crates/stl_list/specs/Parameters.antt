@@ -1,15 +1,13 @@
 -- The parameters of a code block as a source declares them: their names, sections and types.
-use Rattle.std.specs.Prelude.{ℕ, suc, ◌+◌, ◌==◌, Bool, true, false, ◌&&◌, ◌||◌, List, [], ◌∷◌, ◌++◌, codes, decimal, Option, Some, None, if◌then◌else◌, slice_get}
+use Rattle.std.specs.Prelude.{ℕ, ◌==◌, Bool, List, ◌++◌, codes, decimal, if◌then◌else◌}
 use Rattle.std.specs.Str.{bytes_eq}
 use Rattle.plc_base.specs.declared.places.Width.{Width}
 use Rattle.plc_base.specs.declared.places.Width.TheVariants as width
-use Rattle.flat_code.specs.declared.image_fields.TheConstants.{SECTION_IN, SECTION_OUT, SECTION_IN_OUT}
-use Rattle.flat_code.specs.declared.programs.Param.{Param}
+use Rattle.flat_code.specs.declared.image_fields.TheConstants.{SECTION_IN, SECTION_OUT}
 use Rattle.stl_ast.specs.declared.blocks.PartKind.{PartKind}
 use Rattle.stl_ast.specs.declared.blocks.PartKind.TheVariants as part
 use Rattle.stl_ast.specs.declared.declarations.Simple.{Simple}
 use Rattle.stl_ast.specs.declared.declarations.Simple.TheVariants as simple
-use Rattle.stl_types.specs.Parameters.{formal}
 use Rattle.stl_types.specs.declared.parameters.Formal.{Formal}
 
 -- the name of the parameter of an index

@@ -14,6 +14,7 @@ ghost use Rattle.stl_list.specs.Signatures.{called_formals};
 use crate::constants::typed_constant;
 use crate::links::{called_id, system_parameters};
 use crate::operands::{direct_operand, own_parameter};
+use crate::parameters::formal_at;
 use crate::signatures::{Signature, formals_of};
 use flat_code::{Op, Operand as FlatOperand, Passed};
 use plc_base::{BlockId, NoMemory};
@@ -94,7 +95,7 @@ fn add_actual(
     ensures { IfOk result (λ _. actuals.new.items ≡ actuals.old.items
         ++ actual_for line formals.now (slice_get called.now index) passed) }
 {
-    match called.get(index as usize) {
+    match formal_at(called, index) {
         None => Ok(()),
         Some(formal) => {
             actuals.push(actual(alloc, line, formals, formal, passed)?)?;

@@ -21,6 +21,7 @@ ghost use Rattle.stl_list.specs.Joined.{
   typed_link,
 };
 
+use crate::parameters::formal_at;
 use crate::runs::is_last;
 use flat_code::{CodeBlock, Op, Operand, Passed, kind_of_code};
 use plc_base::{BlockId, BlockKind, NoMemory};
@@ -158,7 +159,7 @@ fn add_typed(
     ensures { IfOk result (λ _. links.new.items
         ≡ links.old.items ++ typed_link own (slice_get formals.now index)) }
 {
-    match formals.get(index as usize) {
+    match formal_at(formals, index) {
         None => Ok(()),
         Some(formal) => {
             links.push(Link::Has {

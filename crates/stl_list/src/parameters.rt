@@ -1,5 +1,5 @@
 //! The parameters of a code block as a source declares them.
-ghost use Rattle.std.specs.Prelude.{◌≡◌, IfOk};
+ghost use Rattle.std.specs.Prelude.{◌≡◌, option_map, slice_get, IfOk};
 ghost use Rattle.stl_list.specs.Parameters.{is_return, name_of, parameter_name, plain_kind, section_of};
 
 use flat_code::{SECTION_IN, SECTION_OUT};
@@ -30,6 +30,13 @@ pub(crate) fn name_of(alloc: Global, returns: bool, index: usize) -> Result<Name
     } else {
         parameter_name(alloc, index)
     }
+}
+
+/// The parameter of an index.
+pub(crate) fn formal_at(formals: &[Formal], index: u8) -> Option<&Formal>
+    ensures { option_map (λ f. f.now) result ≡ slice_get formals.now index }
+{
+    formals.get(index as usize)
 }
 
 /// Whether a parameter is the return value of its function.

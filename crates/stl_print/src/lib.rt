@@ -16,4 +16,6 @@ mod trees;
 mod words;
 
 pub use gaps::Gap;
+pub use operands::append_address;
 pub use trees::print;
+pub use words::type_word;

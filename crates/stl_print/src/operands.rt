@@ -72,7 +72,8 @@ fn append_bit(width: Width, bit: u8, out: &mut Vec<u8>) -> Result<(), NoMemory>
     }
 }
 
-fn append_address(
+/// Appends the address of a byte, word or bit of an area, `MW 2` or `M 0.3`.
+pub fn append_address(
     gap: Gap,
     area: Letters,
     width: Width,

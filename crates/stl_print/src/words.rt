@@ -78,7 +78,7 @@ pub(crate) fn section_word(kind: PartKind) -> &'static [u8]
 
 /// An elementary type.
 #[tactic(auto, unfolding(crate::specs::Words::type_word))]
-pub(crate) fn type_word(kind: Simple) -> &'static [u8]
+pub fn type_word(kind: Simple) -> &'static [u8]
     ensures { result.now ≡ type_word kind }
 {
     match kind {

@@ -1,4 +1,4 @@
-ghost use Rattle.std.specs.Prelude.{◌≡◌, [], length, All, IfOk, IfErr};
+ghost use Rattle.std.specs.Prelude.{◌≡◌, [], All, IfOk, IfErr};
 ghost use Rattle.plc_io.specs.Taken.{Wrote};
 ghost use Rattle.plc_io.specs.declared.faults.IoFault.TheVariants.{NoMemory};
 ghost use Rattle.var_access.specs.Entry.{IsValid};

@@ -1,13 +1,8 @@
-use Rattle.std.proofs.Common.{◌≤◌, ap, refl, sym, ◌∙◌, subst, List, [], ◌∷◌, length, ℕ, Vec, Global, Ok, Err, arith}
+use Rattle.std.proofs.Common.{◌≤◌, ap, refl, sym, ◌∙◌, subst, List, [], ◌∷◌, length, ℕ, Vec, Global, Err, arith}
 use Rattle.std.proofs.lemmas.Result.{err_from_is_err_and}
 use Rattle.s7_cli.specs.declared.failures.File.TheVariants.{Image, Certificate}
-use Rattle.s7_cli.specs.Answer.{Answer}
-use Rattle.s7_cli.specs.BoundSays.{RecheckSays}
-use Rattle.s7_cli.specs.BoundTexts.{IsHeld}
 use Rattle.s7_cli.specs.Command.{Recheck, Input}
-use Rattle.s7_cli.specs.Lines.{ok_line}
-use Rattle.s7_cli.proofs.BoundLemmas.{yes-said}
-use Rattle.s7_cli.proofs.ComesLemmas.{comes-unread, comes-refused, comes-written, file-read, file-unread, read-then, unread-then}
+use Rattle.s7_cli.proofs.ComesLemmas.{behind-two, comes-unread, file-read, file-unread, unread-then}
 use Rattle.s7_cli.proofs.recheck_command.recheck.Goals as goal
 
 -- the two input files
@@ -42,37 +37,13 @@ returns-in_err-certificate g c =
     (file-read bytes_of _ _ first c.in_ok-image.image c.in_ok-image.ensures)
     (file-unread bytes_of alone _ last _ _ refl c.in_err-certificate.ensures))
 
-pub judge_recheck-requires : goal.judge_recheck-requires
-judge_recheck-requires g c =
+pub recheck_image-requires : goal.recheck_image-requires
+recheck_image-requires g c =
     let within : length c.in_ok-certificate.certificate.items ≤ 1048576 = c.in_ok-certificate.ensures.1.within in
     subst (λ (bytes : List ℕ). length bytes ≤ 4194304) (sym c.deref-2.ensures.value) (omega (arith, within))
 
-pub returns-in_err-judge_recheck : goal.returns-in_err-judge_recheck
-returns-in_err-judge_recheck g c =
-    let fault = err_from_is_err_and c.from_residual-in_err-judge_recheck.result c.from_residual-in_err-judge_recheck.ensures.1 in
-    let image : List ℕ = c.in_ok-image.image.items in
-    let text : List ℕ = c.in_ok-certificate.certificate.items in
-    comes-refused Unit (Recheck c.args.img.now c.args.cert.now) _ _ _ (image ∷ text ∷ [])
-    (RecheckSays c.deref.result.now c.deref-2.result.now) _ _ (fault.1 ∙ ap Err fault.2)
-    (read-then _ _ _ (image_input c.args.img.now ∷ []) (certificate_input c.args.cert.now ∷ []) (image ∷ []) (text ∷ [])
-    (file-read bytes_of _ _ (image_input c.args.img.now) c.in_ok-image.image c.in_ok-image.ensures)
-    (file-read bytes_of _ _ (certificate_input c.args.cert.now) c.in_ok-certificate.certificate c.in_ok-certificate.ensures))
-    (λ (a : Answer) said.
-    subst (λ (b : List ℕ). RecheckSays b text a) c.deref.ensures.value
-    (subst (λ (t : List ℕ). RecheckSays c.deref.result.now t a) c.deref-2.ensures.value said))
-    c.in_err-judge_recheck.ensures.refused
-
 pub returns : goal.returns
-unfolding ok_line
 returns g c =
-    let image : List ℕ = c.in_ok-image.image.items in
-    let text : List ℕ = c.in_ok-certificate.certificate.items in
-    let held : IsHeld image text =
-    subst (λ (b : List ℕ). IsHeld b text) c.deref.ensures.value
-    (subst (λ (t : List ℕ). IsHeld c.deref.result.now t) c.deref-2.ensures.value c.in_ok-judge_recheck.ensures.holds) in
-    comes-written (Recheck c.args.img.now c.args.cert.now) _ _ _ (image ∷ text ∷ []) ok_line _ refl
-    (read-then _ _ _ (image_input c.args.img.now ∷ []) (certificate_input c.args.cert.now ∷ []) (image ∷ []) (text ∷ [])
-    (file-read bytes_of _ _ (image_input c.args.img.now) c.in_ok-image.image c.in_ok-image.ensures)
-    (file-read bytes_of _ _ (certificate_input c.args.cert.now) c.in_ok-certificate.certificate c.in_ok-certificate.ensures))
-    (yes-said image text held)
-    c.write_text.ensures
+    behind-two bytes_of (Recheck c.args.img.now c.args.cert.now) (image_input c.args.img.now) (certificate_input c.args.cert.now) _ _ _
+    c.in_ok-image.image c.in_ok-certificate.certificate _ _ _ _ refl c.deref.ensures.value c.deref-2.ensures.value c.in_ok-image.ensures
+    c.in_ok-certificate.ensures (c.recheck_image.ensures c.args.img.now c.args.cert.now _)

@@ -1,4 +1,4 @@
-use Rattle.std.proofs.Common.{◌∙◌, ap, arith, refl, subst, List, ℕ, Result, Vec, Global, IfErr, Err}
+use Rattle.std.proofs.Common.{◌∙◌, ap, arith, refl, subst, ℕ, Result, Vec, Global, IfErr, Err}
 use Rattle.plc_base.specs.declared.refusals.SourceFault.{SourceFault}
 use Rattle.de_mnemonics.specs.Translation.{IsRefused}
 use Rattle.s7_cli.proofs.TranslatingLemmas.{long-translation}

@@ -1,9 +1,9 @@
-use Rattle.std.proofs.Common.{◌∙◌, ap, refl, ℕ, List, ◌++◌, Err, codes}
+use Rattle.std.proofs.Common.{◌∙◌, ap, refl, ◌++◌, Err, codes}
 use Rattle.std.proofs.lemmas.Result.{err_from_is_err_and}
 use Rattle.s7_cli.specs.LiveSays.{live_text}
-use Rattle.s7_cli.specs.WatchSays.{seen_text, watch_text}
+use Rattle.s7_cli.specs.WatchSays.{seen_text}
 use Rattle.s7_cli.specs.run_text.Behind.{program_of}
-use Rattle.s7_cli.proofs.run.WritingLemmas.{goes-cut, goes-first, goes-last, goes-next, goes-wanting}
+use Rattle.s7_cli.proofs.run.WritingLemmas.{goes-cut, goes-first, goes-last, goes-next}
 use Rattle.s7_cli.proofs.watch_command.write_watch.Goals as goal
 
 pub returns-in_err-write_live : goal.returns-in_err-write_live
@@ -14,32 +14,11 @@ returns-in_err-write_live g c =
     let views = codes "---\n" ++ seen_text w.vars w.views.items in
     goes-cut _ _ live views _ _ _ _ _ _ (goes-first (live ++ views) _) refl refl c.in_err-write_live.ensures (handed.1 ∙ ap Err handed.2)
 
-pub returns-in_err-push_all : goal.returns-in_err-push_all
-returns-in_err-push_all g c =
-    let handed = err_from_is_err_and c.from_residual-in_err-push_all.result c.from_residual-in_err-push_all.ensures.1 in
-    let w = c.args.watched in
-    let live = live_text (program_of w.controller) w.controller.history in
-    let views = codes "---\n" ++ seen_text w.vars w.views.items in
-    goes-cut _ _ (codes "---\n") (seen_text w.vars w.views.items) _ _ _ _ _ _
-    (goes-next _ _ live views _ _ _ _ _ (goes-first (live ++ views) _) refl refl c.in_ok-write_live.ensures) refl refl
-    c.in_err-push_all.ensures (handed.1 ∙ ap Err handed.2)
-
-pub returns-in_err-lines : goal.returns-in_err-lines
-returns-in_err-lines g c =
-    let handed = err_from_is_err_and c.from_residual-in_err-lines.result c.from_residual-in_err-lines.ensures.1 in
-    let w = c.args.watched in
-    let live = live_text (program_of w.controller) w.controller.history in
-    let views = codes "---\n" ++ seen_text w.vars w.views.items in
-    goes-wanting _ (seen_text w.vars w.views.items) _ _ _ (handed.1 ∙ ap Err handed.2)
-    (goes-next _ _ (codes "---\n") (seen_text w.vars w.views.items) _ _ _ _ _
-    (goes-next _ _ live views _ _ _ _ _ (goes-first (live ++ views) _) refl refl c.in_ok-write_live.ensures) refl refl c.in_ok-push_all.ensures)
-
 pub returns : goal.returns
 returns g c =
     let w = c.args.watched in
     let live = live_text (program_of w.controller) w.controller.history in
     let views = codes "---\n" ++ seen_text w.vars w.views.items in
-    goes-last _ (seen_text w.vars w.views.items) _ _ _ _ _
-    (goes-next _ _ (codes "---\n") (seen_text w.vars w.views.items) _ _ _ _ _
-    (goes-next _ _ live views _ _ _ _ _ (goes-first (live ++ views) _) refl refl c.in_ok-write_live.ensures) refl refl c.in_ok-push_all.ensures)
-    (c.deref-2.ensures.value ∙ c.in_ok-lines.ensures ∙ ap (seen_text w.vars) c.deref.ensures.value) c.push_all-2.ensures
+    goes-last _ views _ _ _ _ _
+    (goes-next _ _ live views _ _ _ _ _ (goes-first (live ++ views) _) refl refl c.in_ok-write_live.ensures)
+    (ap (λ vs. codes "---\n" ++ seen_text w.vars vs) c.deref.ensures.value) c.write_views.ensures

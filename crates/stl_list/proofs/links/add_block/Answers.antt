@@ -1,4 +1,4 @@
-use Rattle.std.proofs.Common.{◌≡◌, ◌+◌, ◌++◌, ◌∙◌, List, [], ◌∷◌, drop, ap, sym}
+use Rattle.std.proofs.Common.{◌+◌, ◌++◌, ◌∙◌, List, drop, ap, sym}
 use Rattle.std.proofs.Math.ListN.{drop_of_length-le}
 use Rattle.std.proofs.lemmas.List.{append-nil}
 use Rattle.plc_base.proofs.ListLemmas.{drop_next}

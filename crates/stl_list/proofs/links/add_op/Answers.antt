@@ -1,4 +1,4 @@
-use Rattle.std.proofs.Common.{◌++◌, ◌∙◌, List, [], ◌∷◌, ap, sym, append_assoc}
+use Rattle.std.proofs.Common.{◌++◌, ◌∙◌, List, [], ap, sym, append_assoc}
 use Rattle.flat_code.specs.Ops.{OpData}
 use Rattle.stl_list.specs.Joined.{links_of_runs, run_links}
 use Rattle.stl_list.specs.Runs.{Run, runs_from}

@@ -1,4 +1,4 @@
-use Rattle.std.proofs.Common.{◌∙◌, sym, subst, All, List}
+use Rattle.std.proofs.Common.{sym, subst, All, List}
 use Rattle.std.proofs.lemmas.List.Sorted.{All-permutation}
 use Rattle.flat_code.specs.Programs.{CodeBlock}
 use Rattle.image_file.specs.Writing.{BlockFits}

@@ -1,4 +1,4 @@
-use Rattle.std.proofs.Common.{◌≡◌, ◌+◌, ◌++◌, ◌∙◌, List, [], ◌∷◌, drop, ap, sym, arith}
+use Rattle.std.proofs.Common.{◌+◌, ◌++◌, ◌∙◌, List, drop, ap, sym, arith}
 use Rattle.std.proofs.Math.ListN.{drop_of_length-le}
 use Rattle.std.proofs.lemmas.List.{append-nil}
 use Rattle.plc_base.proofs.ListLemmas.{drop_next}
@@ -18,11 +18,11 @@ loop-op-init c = (
 
 pub loop-op-preserved : goal.loop-op-preserved
 loop-op-preserved c = (
-  c.in_ok-add_op.ensures.value (drop (c.loop-op.op-index + 1) c.args.ops.now)
+  c.in_ok-n.ensures.value (drop (c.loop-op.op-index + 1) c.args.ops.now)
       ∙ ap (λ (z : List OpData). c.loop-op.statements.items ++ statements_from c.args.self.now c.loop-op.n (runs_from c.loop-op.before.items z))
       (sym (drop_next c.args.ops.now c.loop-op.op-index c.op-item.result c.loop-op-test.true c.op-item.is))
       ∙ c.loop-op.invariant.0,
-  omega (arith, c.loop-op.invariant.1, c.in_ok-add_op.ensures.next),
+  omega (arith, c.loop-op.invariant.1, c.in_ok-n.ensures.next),
 )
 
 pub returns : goal.returns

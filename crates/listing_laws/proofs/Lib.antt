@@ -1,0 +1,6 @@
+mod BlockLemmas
+mod CompiledLemmas
+mod NameLemmas
+mod OperandLemmas
+mod RangeLemmas
+mod StatementLemmas
