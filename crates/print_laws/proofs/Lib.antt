@@ -1,1 +1,2 @@
 pub mod lexing
+mod parsing

@@ -1,6 +1,10 @@
 //! Laws of printed trees: the text of a printable tree is read back as that tree.
 #![tactic(auto)]
 
+mod printed;
+mod reading;
 mod standing;
 
+pub use printed::law_of_printed_source;
+pub use reading::law_of_printed_tree;
 pub use standing::law_of_printed_tokens;

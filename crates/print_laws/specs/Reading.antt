@@ -1,0 +1,364 @@
+-- The tokens of a printed tree are read as that tree.
+use Rattle.std.specs.Prelude.{◌≡◌, ◌⊎◌, ℕ, ◌*◌, ◌<◌, ◌≤◌, true, false, List, [], ◌∷◌, length, codes, Option, Some, None}
+use Rattle.std.specs.List.{AllByRecursion, flat_map}
+use Rattle.std.specs.Str.{str_eq_ignore_ascii_case}
+use Rattle.plc_base.specs.Kinds.{is_code}
+use Rattle.plc_base.specs.declared.blocks.BlockKind.{BlockKind}
+use Rattle.plc_base.specs.declared.blocks.BlockKind.TheVariants as kinds
+use Rattle.plc_base.specs.declared.places.Width.{Width}
+use Rattle.plc_base.specs.declared.places.Width.TheVariants as width
+use Rattle.stl_lexer.specs.Forms.{is_word}
+use Rattle.stl_lexer.specs.Pieces.{Show, tokens_of}
+use Rattle.stl_ast.specs.Blocks.{is_parameter, may_declare, may_have}
+use Rattle.stl_ast.specs.Declarations.{is_elementary}
+use Rattle.stl_ast.specs.Literals.{IsDecimal, IsLong}
+use Rattle.stl_ast.specs.Operands.{IsBitOf, IsNumber}
+use Rattle.stl_ast.specs.WellFormed.{AreInOrder}
+use Rattle.stl_ast.specs.declared.blocks.Block.{Block}
+use Rattle.stl_ast.specs.declared.blocks.Part.{Part}
+use Rattle.stl_ast.specs.declared.blocks.PartKind.{PartKind}
+use Rattle.stl_ast.specs.declared.blocks.PathStep.{PathStep}
+use Rattle.stl_ast.specs.declared.blocks.PathStep.TheVariants as step
+use Rattle.stl_ast.specs.declared.blocks.Setting.{Setting}
+use Rattle.stl_ast.specs.declared.blocks.Tree.{Tree}
+use Rattle.stl_ast.specs.declared.declarations.Bounds.{Bounds}
+use Rattle.stl_ast.specs.declared.declarations.Declaration.{Declaration}
+use Rattle.stl_ast.specs.declared.declarations.ElementType.{ElementType}
+use Rattle.stl_ast.specs.declared.declarations.ElementType.TheVariants as element
+use Rattle.stl_ast.specs.declared.declarations.Init.{Init}
+use Rattle.stl_ast.specs.declared.declarations.Simple.{Simple}
+use Rattle.stl_ast.specs.declared.declarations.TypeTree.{TypeTree}
+use Rattle.stl_ast.specs.declared.literals.Literal.{Literal}
+use Rattle.stl_ast.specs.declared.literals.Literal.TheVariants as literal
+use Rattle.stl_ast.specs.declared.mnemonics.Mnemonic.{Mnemonic}
+use Rattle.stl_ast.specs.declared.mnemonics.Mnemonic.TheVariants as code
+use Rattle.stl_ast.specs.declared.names.BlockName.{BlockName}
+use Rattle.stl_ast.specs.declared.names.BlockName.TheVariants as block
+use Rattle.stl_ast.specs.declared.operands.Letters.{Letters}
+use Rattle.stl_ast.specs.declared.operands.Letters.TheVariants as letters
+use Rattle.stl_ast.specs.declared.operands.Operand.{Operand}
+use Rattle.stl_ast.specs.declared.operands.Operand.TheVariants as operand
+use Rattle.stl_ast.specs.declared.operands.PathHead.TheVariants as head
+use Rattle.stl_ast.specs.declared.statements.Actual.{Actual}
+use Rattle.stl_ast.specs.declared.statements.Statement.{Statement}
+use Rattle.stl_parser.specs.Operands.{holds_pointer}
+use Rattle.stl_parser.specs.Source.{IsTree}
+use Rattle.stl_parser.specs.Tables.{flags, keywords, look_up, registers}
+use Rattle.stl_parser.specs.declared.clauses.Clause.{Clause}
+use Rattle.stl_parser.specs.declared.clauses.Clause.TheVariants as clause
+use Rattle.stl_print.specs.Clauses.{line_of}
+use Rattle.stl_print.specs.Gaps.{line_behind}
+use Rattle.stl_print.specs.Trees.{block_clauses, pieces}
+
+-- ---- names
+
+-- a word that is no keyword, so that a clause may begin with it
+pub record IsName (name : List ℕ) : Type 0 where
+  pub word : is_word name ≡ true
+  pub free : look_up keywords name ≡ None
+
+-- a label: such a word of at most four characters
+pub record IsLabel (name : List ℕ) : Type 0 where
+  pub is_name : IsName name
+  pub short : length name ≤ 4
+
+-- the label of a statement, where it has one
+abbrev pub IsLabelOf : Option (List ℕ) → Type 0
+IsLabelOf None = Unit {0}
+IsLabelOf (Some name) = IsLabel name
+
+-- a register that stands as an operand
+pub record IsRegister (name : List ℕ) : Type 0 where
+  pub word : is_word name ≡ true
+  pub found : look_up registers name ≡ Some true
+  pub no_flag : look_up flags name ≡ None
+  pub no_true : str_eq_ignore_ascii_case name (codes "TRUE") ≡ false
+  pub no_false : str_eq_ignore_ascii_case name (codes "FALSE") ≡ false
+
+-- a block by its number
+abbrev pub IsNumbered : BlockName → Type 0
+IsNumbered (block.Number id) = IsNumber id.number
+IsNumbered (block.Quoted name) = ⊥
+
+-- a data block by its number
+abbrev pub IsDataBlock : BlockName → Type 0
+IsDataBlock (block.Number id) = (id.kind ≡ kinds.Db) × IsNumber id.number
+IsDataBlock (block.Quoted name) = ⊥
+
+-- a function block by its number
+abbrev pub IsFunctionBlock : BlockName → Type 0
+IsFunctionBlock (block.Number id) = (id.kind ≡ kinds.Fb) × IsNumber id.number
+IsFunctionBlock (block.Quoted name) = ⊥
+
+-- ---- operands
+
+-- the constants of a listing, each in its range
+abbrev pub IsPrintedLiteral : Literal → Type 0
+IsPrintedLiteral (literal.Truth value) = Unit {0}
+IsPrintedLiteral (literal.Number value) = IsDecimal value
+IsPrintedLiteral (literal.Byte value) = value ≤ 255
+IsPrintedLiteral (literal.Word value) = value ≤ 65535
+IsPrintedLiteral (literal.Dword value) = value < 4294967296
+IsPrintedLiteral (literal.Long value) = IsLong value
+IsPrintedLiteral (literal.Time ms) = IsLong ms
+IsPrintedLiteral _ = ⊥
+
+-- letters that are those of an address: a bit of the peripherals has none
+abbrev pub IsArea : Letters → Width → Type 0
+IsArea letters.Pi width.Bit = ⊥
+IsArea letters.Pq width.Bit = ⊥
+IsArea area w = Unit {0}
+
+-- the same of an area that may be left out
+abbrev pub IsAreaOf : Option Letters → Width → Type 0
+IsAreaOf None w = Unit {0}
+IsAreaOf (Some area) w = IsArea area w
+
+-- the data block before an address, which then is one in it
+abbrev pub IsBlockOf : Option BlockName → Letters → Type 0
+IsBlockOf None area = Unit {0}
+IsBlockOf (Some name) area = IsDataBlock name × (area ≡ letters.Db)
+
+-- the operands of a listing that stand behind any instruction but jumps, calls and OPN
+abbrev pub IsPrintedOperand : Operand → Type 0
+IsPrintedOperand operand.Nothing = Unit {0}
+IsPrintedOperand (operand.Direct name area w byte bit) = IsBlockOf name area × IsArea area w × IsNumber byte × IsBitOf w bit
+IsPrintedOperand (operand.Timer n) = IsNumber n
+IsPrintedOperand (operand.Counter n) = IsNumber n
+IsPrintedOperand (operand.Named (head.Local name) []) = is_word name ≡ true
+IsPrintedOperand (operand.ByMemory area w from byte) = IsArea area w × (holds_pointer from ≡ true) × IsNumber byte
+IsPrintedOperand (operand.NumberBy what from byte) = (holds_pointer from ≡ true) × IsNumber byte
+IsPrintedOperand (operand.ByRegister area w register bits) =
+    IsAreaOf area w × ((register ≡ 1) ⊎ (register ≡ 2)) × (bits < 8 * 65536)
+IsPrintedOperand (operand.Pointer area byte bit) = IsAreaOf area width.Bit × IsNumber byte × (bit ≤ 7)
+IsPrintedOperand (operand.Constant value) = IsPrintedLiteral value
+IsPrintedOperand (operand.OfStatus flag) = Unit {0}
+IsPrintedOperand (operand.Other name) = IsRegister name
+IsPrintedOperand _ = ⊥
+
+-- what is passed for a parameter
+abbrev pub IsPassed : Operand → Type 0
+IsPassed (operand.Direct name area w byte bit) = IsPrintedOperand (operand.Direct name area w byte bit)
+IsPassed (operand.Named (head.Local name) []) = is_word name ≡ true
+IsPassed (operand.Constant value) = IsPrintedLiteral value
+IsPassed _ = ⊥
+
+-- the target of a jump
+abbrev pub IsTarget : Operand → Type 0
+IsTarget (operand.Label name) = (is_word name ≡ true) × (length name ≤ 4)
+IsTarget _ = ⊥
+
+-- the operand of OPN: a data block by its number, or by one in memory
+abbrev pub IsOpened : Operand → Type 0
+IsOpened (operand.OpenBlock di name) = IsDataBlock name
+IsOpened (operand.NumberBy what from byte) = IsPrintedOperand (operand.NumberBy what from byte)
+IsOpened _ = ⊥
+
+-- the block of UC and CC
+abbrev pub IsCalledAlone : Operand → Type 0
+IsCalledAlone (operand.Called name None) = IsNumbered name
+IsCalledAlone _ = ⊥
+
+-- the block of CALL, a function block with its instance
+abbrev pub IsCalled : Operand → Type 0
+IsCalled (operand.Called name None) = IsNumbered name
+IsCalled (operand.Called name (Some instance)) = IsFunctionBlock name × IsDataBlock instance
+IsCalled _ = ⊥
+
+-- ---- statements
+
+-- what stands behind an instruction word
+pub data Syntax : Type 0 where
+  plain : Syntax
+  -- a bracket or a zone, which has no operand
+  bracket : Syntax
+  jump : Syntax
+  opens : Syntax
+  block_call : Syntax
+  call : Syntax
+  -- no statement of a listing
+  empty : Syntax
+
+-- by the word
+abbrev pub syntax_of : Mnemonic → Syntax
+syntax_of code.Empty = empty
+syntax_of code.AOpen = bracket
+syntax_of code.AnOpen = bracket
+syntax_of code.OOpen = bracket
+syntax_of code.OnOpen = bracket
+syntax_of code.XOpen = bracket
+syntax_of code.XnOpen = bracket
+syntax_of code.McrOpen = bracket
+syntax_of code.McrClose = bracket
+syntax_of code.Close = bracket
+syntax_of code.Ju = jump
+syntax_of code.Jl = jump
+syntax_of code.Jc = jump
+syntax_of code.Jcn = jump
+syntax_of code.Jcb = jump
+syntax_of code.Jnb = jump
+syntax_of code.Jbi = jump
+syntax_of code.Jnbi = jump
+syntax_of code.Jo = jump
+syntax_of code.Jos = jump
+syntax_of code.Jz = jump
+syntax_of code.Jn = jump
+syntax_of code.Jp = jump
+syntax_of code.Jm = jump
+syntax_of code.Jpz = jump
+syntax_of code.Jmz = jump
+syntax_of code.Juo = jump
+syntax_of code.Loop = jump
+syntax_of code.Opn = opens
+syntax_of code.Uc = block_call
+syntax_of code.Cc = block_call
+syntax_of code.Call = call
+syntax_of _ = plain
+
+-- an actual parameter, on the line of its call
+pub record IsPrintedActual (line : ℕ) (a : Actual) : Type 0 where
+  pub line_is : a.line ≡ line
+  pub word : is_word a.name ≡ true
+  pub value : IsPassed a.value
+
+-- operand and actual parameters by what stands behind the word
+abbrev pub FitsSyntax : (line : ℕ) → Syntax → Operand → List Actual → Type 0
+FitsSyntax line plain o actuals = IsPrintedOperand o × (actuals ≡ [])
+FitsSyntax line bracket o actuals = (o ≡ operand.Nothing) × (actuals ≡ [])
+FitsSyntax line jump o actuals = IsTarget o × (actuals ≡ [])
+FitsSyntax line opens o actuals = IsOpened o × (actuals ≡ [])
+FitsSyntax line block_call o actuals = IsCalledAlone o × (actuals ≡ [])
+FitsSyntax line call o actuals = IsCalled o × AllByRecursion (IsPrintedActual line) actuals
+FitsSyntax line empty o actuals = ⊥
+
+-- a statement of a listing
+pub record IsPrintedStatement (s : Statement) : Type 0 where
+  pub label : IsLabelOf s.label
+  pub fits : FitsSyntax s.line (syntax_of s.code) s.operand s.actuals
+
+-- ---- declarations
+
+-- an initial value of an array of bytes, `B#16#FF` or `4 (B#16#00)`
+abbrev pub IsByte : Literal → Type 0
+IsByte (literal.Byte value) = value ≤ 255
+IsByte _ = ⊥
+
+-- the count before it
+abbrev pub IsCountOf : Option ℕ → Type 0
+IsCountOf None = Unit {0}
+IsCountOf (Some n) = IsNumber n
+
+-- both
+abbrev pub IsPrintedInit : Init → Type 0
+IsPrintedInit i = IsCountOf i.count × IsByte i.value
+
+-- a type of a listing: an elementary one without initial values, or an array of one with bytes as its values
+abbrev pub IsPrintedType : List Bounds → ElementType → List Init → Type 0
+IsPrintedType [] (element.Plain k) init = init ≡ []
+IsPrintedType (b ∷ []) (element.Plain k) init =
+    IsDecimal b.low × IsDecimal b.high × AllByRecursion IsPrintedInit init
+IsPrintedType _ _ init = ⊥
+
+-- a declaration of a listing, which has no structures
+pub record IsPrintedDeclaration (d : Declaration) : Type 0 where
+  pub name : IsName d.name
+  pub level : d.level ≡ 0
+  pub type : IsPrintedType d.of.arrays d.of.of d.init
+
+-- in a section of a block
+pub record IsDeclaredIn (k : BlockKind) (p : PartKind) (d : Declaration) : Type 0 where
+  pub printed : IsPrintedDeclaration d
+  pub allowed : may_declare k p 0 d ≡ true
+  pub elementary : is_parameter p ≡ true → is_elementary d ≡ true
+
+-- a section of a block
+pub record IsPrintedPart (k : BlockKind) (p : Part) : Type 0 where
+  pub allowed : may_have k p.kind ≡ true
+  pub items : AllByRecursion (IsDeclaredIn k p.kind) p.items
+
+-- ---- settings
+
+-- the path of a setting, `p0` or `s[2]`
+abbrev pub IsPrintedPath : List PathStep → Type 0
+IsPrintedPath (step.Named name ∷ []) = IsName name
+IsPrintedPath (step.Named name ∷ step.Index at ∷ []) = IsName name × IsDecimal at
+IsPrintedPath _ = ⊥
+
+-- a setting
+pub record IsPrintedSetting (s : Setting) : Type 0 where
+  pub path : IsPrintedPath s.path
+  pub value : IsPrintedLiteral s.value
+
+-- ---- blocks
+
+-- a function alone has a return value
+abbrev pub IsResultOf : BlockKind → Option Simple → Type 0
+IsResultOf kinds.Fc result = Unit {0}
+IsResultOf _ result = result ≡ None
+
+-- an organization block, a function or a function block
+pub record IsCodeBlock (b : Block) : Type 0 where
+  pub kind : is_code b.kind ≡ true
+  pub result : IsResultOf b.kind b.result
+  pub order : AreInOrder 0 b.parts
+  pub parts : AllByRecursion (IsPrintedPart b.kind) b.parts
+  pub shape : b.shape ≡ None
+  pub components : b.components ≡ []
+  pub instance : b.instance_of ≡ None
+  pub settings : b.settings ≡ []
+  pub body : AllByRecursion IsPrintedStatement b.body
+
+-- a structure with its components, or the instance of a function block with its settings
+abbrev pub IsDataShape : Option TypeTree → List Declaration → Option BlockName → List Setting → Type 0
+IsDataShape (Some of_) components None settings =
+    (of_ ≡ record { arrays = []; of = element.Structure }) × AllByRecursion IsPrintedDeclaration components × (settings ≡ [])
+IsDataShape None components (Some name) settings =
+    IsFunctionBlock name × (components ≡ []) × AllByRecursion IsPrintedSetting settings
+IsDataShape _ components instance settings = ⊥
+
+-- a data block
+pub record IsPrintedData (b : Block) : Type 0 where
+  pub kind : b.kind ≡ kinds.Db
+  pub result : b.result ≡ None
+  pub parts : b.parts ≡ []
+  pub shape : IsDataShape b.shape b.components b.instance_of b.settings
+  pub body : b.body ≡ []
+
+-- a block by its number and kind
+abbrev pub IsNameOf : BlockKind → BlockName → Type 0
+IsNameOf k (block.Number id) = (id.kind ≡ k) × IsNumber id.number
+IsNameOf k (block.Quoted name) = ⊥
+
+-- a block of a listing
+abbrev pub IsPrintedBlock : Block → Type 0
+IsPrintedBlock b = IsNameOf b.kind b.name × (IsCodeBlock b ⊎ IsPrintedData b)
+
+-- ---- lines
+
+-- a clause of which a tree has the line is printed on it
+abbrev pub IsOnLine : (reached : ℕ) → Clause → Type 0
+IsOnLine reached (clause.Head line k name result) = line_behind reached line ≡ line
+IsOnLine reached (clause.Ends line k) = line_behind reached line ≡ line
+IsOnLine reached (clause.Section line p) = line_behind reached line ≡ line
+IsOnLine reached (clause.Declares d) = line_behind reached d.line ≡ d.line
+IsOnLine reached (clause.Sets s) = line_behind reached s.line ≡ s.line
+IsOnLine reached (clause.Runs s) = line_behind reached s.line ≡ s.line
+IsOnLine reached _ = Unit {0}
+
+-- and so are all, behind a line that the text has reached: each is at least 1, and none is before the one in front of it
+abbrev pub AreOnLines : (reached : ℕ) → List Clause → Type 0
+AreOnLines reached [] = Unit {0}
+AreOnLines reached (c ∷ cs) = IsOnLine reached c × AreOnLines (line_behind reached (line_of c)) cs
+
+-- ---- trees
+
+-- a tree of the forms of a listing, whose clauses are printed on the lines that it has for them
+pub record IsPrintable (t : Tree) : Type 0 where
+  pub blocks : AllByRecursion IsPrintedBlock t.blocks
+  pub lines : AreOnLines 0 (flat_map block_clauses t.blocks)
+
+-- tokens that show the pieces of such a tree are read as it
+abbrev pub ArePrintedTreesRead : Type 0
+ArePrintedTreesRead =
+    (source : List ℕ) (t : Tree) → IsPrintable t → Show source (pieces t) (tokens_of 0 1 (pieces t))
+    → IsTree source (tokens_of 0 1 (pieces t)) t
