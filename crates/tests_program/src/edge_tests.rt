@@ -160,7 +160,7 @@ const REFUSAL: Refusal = Refusal { line: 4, rule: 20 };
 type Row = (Failure, u8, &'static str);
 
 // A failed write and want of memory have no line, and that of a chain was written.
-static FAILURES: [Row; 14] = [
+static FAILURES: [Row; 16] = [
     (Failure::WordsRefused, 1, "words refused\n"),
     (
         Failure::Refused {
