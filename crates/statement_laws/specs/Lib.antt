@@ -1,0 +1,5 @@
+pub mod Named
+pub mod Operands
+pub mod Reading
+pub mod Effects
+pub mod Laws
