@@ -12,6 +12,7 @@ use Rattle.plc_mem.specs.Writing as memory
 use Rattle.frames.specs.Locals.{LocalData, local_number, local_written}
 use Rattle.frames.specs.declared.bindings.Binding.{Binding}
 use Rattle.frames.specs.declared.bindings.Binding.TheVariants as binding
+use Rattle.machine.specs.Does.{on_scene}
 use Rattle.machine.specs.Parts.{Own, Parts, Scene, then_ok}
 use Rattle.machine.specs.Places as places
 use Rattle.machine.specs.Values as values
@@ -169,20 +170,15 @@ written_in_same _ b n p = by (memory.written p.memory b.place b.width n)
     by None = refl
     by (Some m) = refl
 
--- the parts that writing leaves
-abbrev pub scene_written : Parts → Result Scene ℕ → Result Parts ℕ
-scene_written p (Ok c) = Ok (with_scene p c)
-scene_written p (Err e) = Err e
-
 pub written_same : (b : Bound) (n : ℕ) (p : Parts)
-    → scene_written p (values.write b n p.own p.memory) ≡ own.written b n p
+    → on_scene p (values.write b n p.own p.memory) ≡ own.written b n p
 unfolding values.write own.written
 written_same b n p =
     by (values.stored_at b n p.own p.memory)
     ∙ ap₂ ok_or (written_in_same b.place.area b n p) (absent_same Writing b.place.area)
   where
     by : (o : Option Scene)
-        → scene_written p (ok_or o (places.absent Writing b.place.area))
+        → on_scene p (ok_or o (places.absent Writing b.place.area))
         ≡ ok_or (option_map (with_scene p) o) (places.absent Writing b.place.area)
     by None = refl
     by (Some c) = refl

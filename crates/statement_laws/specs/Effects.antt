@@ -112,9 +112,10 @@ closes_bracket p = closes_one p.own.inner.brackets p
 abbrev pub number_of_bit : Bool → ℕ
 number_of_bit b = if b then 1 else 0
 
--- a bit is written, and then the registers are changed
-abbrev pub writes_bit : Bound → Bool → (Regs → Regs) → Parts → Result Parts ℕ
-writes_bit b value f p = then_ok (written b (number_of_bit value) p) (λ q. on_regs f q)
+-- a bit is written, and the registers become these
+abbrev pub writes_bit : Bound → Bool → Regs → Parts → Result Parts ℕ
+writes_bit b value r p =
+    then_ok (written b (number_of_bit value) p) (λ q. Ok (with_regs r q))
 
 -- the bit at a place that is to be written
 abbrev pub bit_there : Bound → Parts → Result Bool ℕ
@@ -122,7 +123,7 @@ bit_there b p = then_ok (number_there Writing b p) (λ n. Ok (n == 1))
 
 -- =: the RLO that the relay lets through
 abbrev pub assigns : Named → Parts → Result Parts ℕ
-assigns x p = then_ok (place Writing x p) (λ b. writes_bit b (flow p) (stored (flow p)) p)
+assigns x p = then_ok (place Writing x p) (λ b. writes_bit b (flow p) (stored (flow p) (regs p)) p)
 
 -- S (1) and R (0) of a bit: with RLO 1, and not while the relay is closed
 abbrev pub bit_after : (flow value before : Bool) → Bool
@@ -133,13 +134,14 @@ abbrev pub sets_bit : (value : Bool) → Named → Parts → Result Parts ℕ
 sets_bit value x p =
     then_ok (place Writing x p) (λ b.
     then_ok (bit_there b p) (λ before.
-    writes_bit b (bit_after (flow p) value before) (stored (bit_after (flow p) value before)) p))
+    writes_bit b (bit_after (flow p) value before)
+    (stored (bit_after (flow p) value before) (regs p)) p))
 
 -- FP and FN: the operand is the edge bit, which gets the RLO
 abbrev pub tells_edge : (rising : Bool) → Named → Parts → Result Parts ℕ
 tells_edge rising x p =
     then_ok (place Writing x p) (λ b.
-    then_ok (bit_there b p) (λ before. writes_bit b (rlo p) (edged rising before) p))
+    then_ok (bit_there b p) (λ before. writes_bit b (rlo p) (edged rising before (regs p)) p))
 
 -- ---- the master control relay
 

@@ -61,7 +61,7 @@ is_bit_logic _ = false
 abbrev pub BitLogicActs : Type 0
 BitLogicActs = StatementsAct is_bit_logic
 
--- L T, LC, and the instructions on the address registers
+-- L and T, LC, and the instructions on the address registers
 abbrev pub is_load_or_transfer : Mnemonic → Bool
 is_load_or_transfer code.L = true
 is_load_or_transfer code.T = true
@@ -77,3 +77,122 @@ is_load_or_transfer _ = false
 
 abbrev pub LoadsAct : Type 0
 LoadsAct = StatementsAct is_load_or_transfer
+
+-- those on the accumulators, BCD and conversions, and word logic
+abbrev pub is_number_instruction : Mnemonic → Bool
+is_number_instruction code.Tak = true
+is_number_instruction code.Push = true
+is_number_instruction code.Pop = true
+is_number_instruction code.Caw = true
+is_number_instruction code.Cad = true
+is_number_instruction code.Inc = true
+is_number_instruction code.Dec = true
+is_number_instruction code.Add = true
+is_number_instruction code.AddI = true
+is_number_instruction code.SubI = true
+is_number_instruction code.MulI = true
+is_number_instruction code.DivI = true
+is_number_instruction code.AddD = true
+is_number_instruction code.SubD = true
+is_number_instruction code.MulD = true
+is_number_instruction code.DivD = true
+is_number_instruction code.Mod = true
+is_number_instruction code.Bti = true
+is_number_instruction code.Itb = true
+is_number_instruction code.Btd = true
+is_number_instruction code.Dtb = true
+is_number_instruction code.Itd = true
+is_number_instruction code.Invi = true
+is_number_instruction code.Invd = true
+is_number_instruction code.Negi = true
+is_number_instruction code.Negd = true
+is_number_instruction code.Aw = true
+is_number_instruction code.Ow = true
+is_number_instruction code.Xow = true
+is_number_instruction code.Ad = true
+is_number_instruction code.Od = true
+is_number_instruction code.Xod = true
+is_number_instruction _ = false
+
+abbrev pub NumbersAct : Type 0
+NumbersAct = StatementsAct is_number_instruction
+
+-- == <> > < >= <= of integers of 16 and 32 bits
+abbrev pub is_comparison : Mnemonic → Bool
+is_comparison code.EqI = true
+is_comparison code.NeI = true
+is_comparison code.GtI = true
+is_comparison code.LtI = true
+is_comparison code.GeI = true
+is_comparison code.LeI = true
+is_comparison code.EqD = true
+is_comparison code.NeD = true
+is_comparison code.GtD = true
+is_comparison code.LtD = true
+is_comparison code.GeD = true
+is_comparison code.LeD = true
+is_comparison _ = false
+
+abbrev pub ComparisonsAct : Type 0
+ComparisonsAct = StatementsAct is_comparison
+
+-- shifts and rotations
+abbrev pub is_shift : Mnemonic → Bool
+is_shift code.Ssi = true
+is_shift code.Ssd = true
+is_shift code.Slw = true
+is_shift code.Srw = true
+is_shift code.Sld = true
+is_shift code.Srd = true
+is_shift code.Rld = true
+is_shift code.Rrd = true
+is_shift code.Rlda = true
+is_shift code.Rrda = true
+is_shift _ = false
+
+abbrev pub ShiftsAct : Type 0
+ShiftsAct = StatementsAct is_shift
+
+-- those on timers and counters alone
+abbrev pub is_timing : Mnemonic → Bool
+is_timing code.Sp = true
+is_timing code.Se = true
+is_timing code.Sd = true
+is_timing code.Ss = true
+is_timing code.Sf = true
+is_timing code.Fr = true
+is_timing code.Cu = true
+is_timing code.Cd = true
+is_timing _ = false
+
+abbrev pub TimingActs : Type 0
+TimingActs = StatementsAct is_timing
+
+-- the master control relay
+abbrev pub is_relay : Mnemonic → Bool
+is_relay code.Mcra = true
+is_relay code.Mcrd = true
+is_relay code.McrOpen = true
+is_relay code.McrClose = true
+is_relay _ = false
+
+abbrev pub RelayActs : Type 0
+RelayActs = StatementsAct is_relay
+
+-- OPN and CDB
+abbrev pub is_data_block : Mnemonic → Bool
+is_data_block code.Opn = true
+is_data_block code.Cdb = true
+is_data_block _ = false
+
+abbrev pub DataBlocksAct : Type 0
+DataBlocksAct = StatementsAct is_data_block
+
+-- NOP and BLD
+abbrev pub is_idle : Mnemonic → Bool
+is_idle code.Nop = true
+is_idle code.Bld = true
+is_idle _ = false
+
+abbrev pub IdleActs : Type 0
+IdleActs = StatementsAct is_idle
