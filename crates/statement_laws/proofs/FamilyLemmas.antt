@@ -13,7 +13,7 @@ use Rattle.flat_code.specs.Instr.{Does}
 use Rattle.flat_code.specs.declared.operations.Logic.TheVariants as logic
 use Rattle.flat_code.specs.declared.operations.Operation.{Operation}
 use Rattle.flat_code.specs.declared.operations.Operation.TheVariants as operation
-use Rattle.flat_code.specs.declared.operations.Shift.TheVariants as shift
+use Rattle.flat_code.specs.declared.operations.Shift.TheVariants as shift_word
 use Rattle.stl_ast.specs.declared.declarations.Simple.TheVariants as simple
 use Rattle.stl_ast.specs.declared.mnemonics.Mnemonic.{Mnemonic}
 use Rattle.stl_ast.specs.declared.mnemonics.Mnemonic.TheVariants as code
@@ -415,42 +415,42 @@ shift : (m : Mnemonic) (o : Operand) (v : ResolvedOperand) (x : Named) → is_sh
 unfolding operation_for action form_of does.does numbers.counted numbers.shifted
 shift code.Ssi o v x is g =
     acted code.Ssi o v x refl refl refl
-    (λ q. action_lemmas.shift_same shift.Ssi (shifts.shifted_signed 16) (as_open x) q
+    (λ q. action_lemmas.shift_same shift_word.Ssi (shifts.shifted_signed 16) (as_open x) q
         (holds action_lemmas.is_count (about o) v x (rules.shifts 15 (about o) v g.rule) g.there)
         (λ k. refl))
 shift code.Ssd o v x is g =
     acted code.Ssd o v x refl refl refl
-    (λ q. action_lemmas.shift_same shift.Ssd (shifts.shifted_signed 32) (as_open x) q
+    (λ q. action_lemmas.shift_same shift_word.Ssd (shifts.shifted_signed 32) (as_open x) q
         (holds action_lemmas.is_count (about o) v x (rules.shifts 32 (about o) v g.rule) g.there)
         (λ k. refl))
 shift code.Slw o v x is g =
     acted code.Slw o v x refl refl refl
-    (λ q. action_lemmas.shift_same shift.Slw (shifts.shifted_left 16) (as_open x) q
+    (λ q. action_lemmas.shift_same shift_word.Slw (shifts.shifted_left 16) (as_open x) q
         (holds action_lemmas.is_count (about o) v x (rules.shifts 15 (about o) v g.rule) g.there)
         (λ k. refl))
 shift code.Srw o v x is g =
     acted code.Srw o v x refl refl refl
-    (λ q. action_lemmas.shift_same shift.Srw (shifts.shifted_right 16) (as_open x) q
+    (λ q. action_lemmas.shift_same shift_word.Srw (shifts.shifted_right 16) (as_open x) q
         (holds action_lemmas.is_count (about o) v x (rules.shifts 15 (about o) v g.rule) g.there)
         (λ k. refl))
 shift code.Sld o v x is g =
     acted code.Sld o v x refl refl refl
-    (λ q. action_lemmas.shift_same shift.Sld (shifts.shifted_left 32) (as_open x) q
+    (λ q. action_lemmas.shift_same shift_word.Sld (shifts.shifted_left 32) (as_open x) q
         (holds action_lemmas.is_count (about o) v x (rules.shifts 32 (about o) v g.rule) g.there)
         (λ k. refl))
 shift code.Srd o v x is g =
     acted code.Srd o v x refl refl refl
-    (λ q. action_lemmas.shift_same shift.Srd (shifts.shifted_right 32) (as_open x) q
+    (λ q. action_lemmas.shift_same shift_word.Srd (shifts.shifted_right 32) (as_open x) q
         (holds action_lemmas.is_count (about o) v x (rules.shifts 32 (about o) v g.rule) g.there)
         (λ k. refl))
 shift code.Rld o v x is g =
     acted code.Rld o v x refl refl refl
-    (λ q. action_lemmas.shift_same shift.Rld rotations.rotated_left (as_open x) q
+    (λ q. action_lemmas.shift_same shift_word.Rld rotations.rotated_left (as_open x) q
         (holds action_lemmas.is_count (about o) v x (rules.shifts 32 (about o) v g.rule) g.there)
         (λ k. refl))
 shift code.Rrd o v x is g =
     acted code.Rrd o v x refl refl refl
-    (λ q. action_lemmas.shift_same shift.Rrd rotations.rotated_right (as_open x) q
+    (λ q. action_lemmas.shift_same shift_word.Rrd rotations.rotated_right (as_open x) q
         (holds action_lemmas.is_count (about o) v x (rules.shifts 32 (about o) v g.rule) g.there)
         (λ k. refl))
 shift code.Rlda o v x is g =

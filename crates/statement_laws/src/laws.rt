@@ -1,11 +1,51 @@
 //! Laws of statements: each function does nothing, and its contract is the law.
-ghost use Rattle.std.specs.Prelude.{◌≡◌, true};
-ghost use Rattle.machine.specs.Parts.{Parts};
-ghost use Rattle.statement_laws.specs.Laws.{BitLogicActs};
-ghost use Rattle.statement_laws.specs.Named.{Named};
-ghost use Rattle.statement_laws.specs.Reading.{loaded_bcd};
+ghost use Rattle.statement_laws.specs.Laws.{BitLogicActs, ComparisonsAct, DataBlocksAct, IdleActs, LoadsAct, NumbersAct, RelayActs, ShiftsAct, TimingActs};
 
-/// Trial.
+/// A statement of bit logic does what its mnemonic says with what its operand names: it reads and checks
+/// a bit, a timer, a counter or a condition, opens or closes a bracket, writes a bit, or sets the RLO.
 pub fn bit_logic_acts()
-    ensures a { (x : Named) (p : Parts) → loaded_bcd x p ≡ loaded_bcd x p }
+    ensures { BitLogicActs }
+{}
+
+/// L, T and LC load and transfer what their operand names, and so do the instructions on the address
+/// registers.
+pub fn load_or_transfer_acts()
+    ensures { LoadsAct }
+{}
+
+/// Accumulator and number instructions, BCD and conversions, and word logic do to the registers what
+/// their mnemonic says, with the constant of their operand where they have one.
+pub fn number_instruction_acts()
+    ensures { NumbersAct }
+{}
+
+/// A comparison compares accumulator 2 with accumulator 1 as its mnemonic says, as integers of 16 or of
+/// 32 bits.
+pub fn comparison_acts()
+    ensures { ComparisonsAct }
+{}
+
+/// A shift or rotation moves accumulator 1 by as many places as its constant or accumulator 2 says.
+pub fn shift_acts()
+    ensures { ShiftsAct }
+{}
+
+/// The instructions on timers and counters act on the one that their operand names.
+pub fn timing_acts()
+    ensures { TimingActs }
+{}
+
+/// MCRA, MCRD, MCR( and )MCR act on the relay of the block.
+pub fn relay_acts()
+    ensures { RelayActs }
+{}
+
+/// OPN opens the data block that its operand names, CDB exchanges the two registers.
+pub fn data_block_acts()
+    ensures { DataBlocksAct }
+{}
+
+/// NOP and BLD do nothing.
+pub fn idle_acts()
+    ensures { IdleActs }
 {}
