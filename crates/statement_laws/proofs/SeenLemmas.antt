@@ -252,16 +252,16 @@ resolved_parts c s v e =
 -- ---- operands
 
 -- one resolution
-resolved_same : (v w : ResolvedOperand) → Resolved v ≡ Resolved w → v ≡ w
+pub resolved_same : (v w : ResolvedOperand) → Resolved v ≡ Resolved w → v ≡ w
 resolved_same v w e = cc
 
 -- a view that is known, and what it names
-carry : (k : Option Literal) (known v : ResolvedOperand) (there x : Named)
+pub carry : (k : Option Literal) (known v : ResolvedOperand) (there x : Named)
     → view_named k known ≡ Some there → Resolved known ≡ Resolved v → Some there ≡ Some x
     → view_named k v ≡ Some x
 carry k known v there x h e n = ap (view_named k) (sym (resolved_same known v e)) ∙ h ∙ n
 
-letters_same : (a : Letters) → area_of a ≡ own.area_of a
+pub letters_same : (a : Letters) → area_of a ≡ own.area_of a
 letters_same letters.I = refl
 letters_same letters.Q = refl
 letters_same letters.M = refl
@@ -271,11 +271,11 @@ letters_same letters.L = refl
 letters_same letters.Pi = refl
 letters_same letters.Pq = refl
 
-left_same : (a : Option Letters) → area_left a ≡ option_map own.area_of a
+pub left_same : (a : Option Letters) → area_left a ≡ option_map own.area_of a
 left_same None = refl
 left_same (Some a) = ap Some (letters_same a)
 
-direct_named : (a : Letters) (w : Width) (byte bit : ℕ)
+pub direct_named : (a : Letters) (w : Width) (byte bit : ℕ)
     → view_named None (address 0 a w byte bit) ≡ Some (fixed (own.area_of a) w byte bit)
 direct_named letters.I w byte bit = refl
 direct_named letters.Q w byte bit = refl
@@ -286,7 +286,7 @@ direct_named letters.L w byte bit = refl
 direct_named letters.Pi w byte bit = refl
 direct_named letters.Pq w byte bit = refl
 
-pointer_same : (a : Option Letters) (byte bit : ℕ)
+pub pointer_same : (a : Option Letters) (byte bit : ℕ)
     → codegen.pointer_bits (area_left a) byte bit ≡ pointer_bits a byte bit
 pointer_same None byte bit = refl
 pointer_same (Some letters.I) byte bit = refl
@@ -374,7 +374,7 @@ target_block None = refl
 target_block (Some (target.Block id)) = refl
 target_block (Some _) = refl
 
-block_same : (c : Context) (name : BlockName) → named_block c.symbols name ≡ own.block_named c name
+pub block_same : (c : Context) (name : BlockName) → named_block c.symbols name ≡ own.block_named c name
 block_same c (block.Number id) = refl
 block_same c (block.Quoted name) = target_block (symbol_target c name)
 
@@ -397,13 +397,13 @@ in_block_named letters.L n w byte bit = refl
 in_block_named letters.Pi n w byte bit = refl
 in_block_named letters.Pq n w byte bit = refl
 
-number_in_same : (what : Numbered) (from : Letters) (byte : ℕ)
+pub number_in_same : (what : Numbered) (from : Letters) (byte : ℕ)
     → number_in what (named.InWord (area_of from) byte)
     ≡ number_in what (named.InWord (own.area_of from) byte)
 number_in_same what from byte = ap (λ a. number_in what (named.InWord a byte)) (letters_same from)
 
 -- a word that is one of the registers
-register_same : (stw dblg dbno dilg dino ar2 : Bool) (x : Named)
+pub register_same : (stw dblg dbno dilg dino ar2 : Bool) (x : Named)
     → (if stw then Some named.StatusWord
     else if dblg then Some (named.Opened named.DbLength)
     else if dbno then Some (named.Opened named.DbNumber)
@@ -435,14 +435,14 @@ target_same (target.Counter number) v x e n =
     carry None (view.Counter number) v (named.Counter (named.Written number)) x refl e n
 target_same (target.Block id) v x e n = absurd cc
 
-symbol_same : (o : Option Symbol) (v : ResolvedOperand) (x : Named)
+pub symbol_same : (o : Option Symbol) (v : ResolvedOperand) (x : Named)
     → symbol_seen o ≡ Resolved v
     → option_and_then target_named (option_map (λ s. s.target) o) ≡ Some x
     → view_named None v ≡ Some x
 symbol_same None v x e n = absurd cc
 symbol_same (Some s) v x e n = target_same s.target v x e n
 
-in_block_same : (c : Context) (name : BlockName) (a : Letters) (w : Width) (byte bit : ℕ)
+pub in_block_same : (c : Context) (name : BlockName) (a : Letters) (w : Width) (byte bit : ℕ)
     (v : ResolvedOperand) (x : Named) (o : Option ℕ) → data_number c name ≡ o
     → address_in o a w byte bit ≡ Resolved v
     → option_map (λ number. place_by (own.area_of a) number w byte bit) (block_number c name) ≡ Some x
@@ -454,7 +454,7 @@ in_block_same c name a w byte bit v x (Some number) d e n =
     (ap (option_map (λ number. place_by (own.area_of a) number w byte bit))
         (sym (number_known c name number d)) ∙ n)
 
-opened_named : (c : Context) (di : Bool) (name : BlockName) (v : ResolvedOperand) (x : Named)
+pub opened_named : (c : Context) (di : Bool) (name : BlockName) (v : ResolvedOperand) (x : Named)
     (o : Option ℕ) → data_number c name ≡ o → opened_seen di o ≡ Resolved v
     → option_map (λ number. named.DataBlock di (named.Written number)) (block_number c name) ≡ Some x
     → view_named None v ≡ Some x
@@ -463,50 +463,3 @@ opened_named c di name v x (Some number) d e n =
     carry None (view.OpenBlock di number) v (named.DataBlock di (named.Written number)) x refl e
     (ap (option_map (λ number. named.DataBlock di (named.Written number)))
         (sym (number_known c name number d)) ∙ n)
-
-pub view_same : (c : Context) (o : Operand) (v : ResolvedOperand) (x : Named)
-    → seen c o ≡ Resolved v → named_by c o ≡ Some x → view_named (about o) v ≡ Some x
-unfolding seen named_by
-view_same c operand.Nothing v x e n = carry None view.Nothing v named.Nothing x refl e n
-view_same c (operand.Direct None a w byte bit) v x e n =
-    carry None (address 0 a w byte bit) v (fixed (own.area_of a) w byte bit) x
-    (direct_named a w byte bit) e n
-view_same c (operand.Direct (Some name) a w byte bit) v x e n =
-    in_block_same c name a w byte bit v x (data_number c name) refl e n
-view_same c (operand.Timer number) v x e n =
-    carry None (view.Timer number) v (named.Timer (named.Written number)) x refl e n
-view_same c (operand.Counter number) v x e n =
-    carry None (view.Counter number) v (named.Counter (named.Written number)) x refl e n
-view_same c (operand.Named (head.Symbol name) steps) v x e n =
-    symbol_same (symbol_named name c.symbols) v x e n
-view_same c (operand.Named (head.Local name) steps) v x e n = absurd cc
-view_same c (operand.Named (head.InBlock name) steps) v x e n = absurd cc
-view_same c (operand.ByMemory a w from byte) v x e n =
-    carry None (view.ByMemory (area_of a) w (area_of from) byte) v
-    (named.Place (named.ByMemory (own.area_of a) w (own.area_of from) byte)) x
-    (ap₂ (λ a from. Some (named.Place (named.ByMemory a w from byte))) (letters_same a) (letters_same from))
-    e n
-view_same c (operand.NumberBy what from byte) v x e n =
-    carry None (view.NumberBy what (area_of from) byte) v
-    (number_in what (named.InWord (own.area_of from) byte)) x
-    (ap Some (number_in_same what from byte)) e n
-view_same c (operand.ByRegister a w r count) v x e n =
-    carry None (view.ByRegister (area_left a) w r count) v
-    (named.Place (named.ByRegister (option_map own.area_of a) w r count)) x
-    (ap (λ a. Some (named.Place (named.ByRegister a w r count))) (left_same a)) e n
-view_same c (operand.Pointer a byte bit) v x e n =
-    carry None (view.Pointer (area_left a) byte bit) v (named.Pointer (pointer_bits a byte bit)) x
-    (ap (λ b. Some (named.Pointer b)) (pointer_same a byte bit)) e n
-view_same c (operand.Constant value) v x e n =
-    carry (Some value) view.Constant v (named.Constant value) x refl e n
-view_same c (operand.Label name) v x e n = carry None view.Label v named.Label x refl e n
-view_same c (operand.OfStatus flag) v x e n =
-    carry None (view.OfStatus flag) v (named.Condition flag) x refl e n
-view_same c (operand.Other name) v x e n =
-    ap (view_named None) (sym (resolved_same (view.Register (register_of name)) v e))
-    ∙ register_same (is_same_name name (codes "STW")) (is_same_name name (codes "DBLG"))
-    (is_same_name name (codes "DBNO")) (is_same_name name (codes "DILG"))
-    (is_same_name name (codes "DINO")) (is_same_name name (codes "AR2")) x n
-view_same c (operand.OpenBlock di name) v x e n =
-    opened_named c di name v x (data_number c name) refl e n
-view_same c (operand.Called name instance) v x e n = absurd cc

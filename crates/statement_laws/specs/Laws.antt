@@ -2,6 +2,7 @@
 use Rattle.std.specs.Prelude.{◌≡◌, ℕ, Bool, true, false, List, Option, Some, None, Result}
 use Rattle.stl_ast.specs.declared.mnemonics.Mnemonic.{Mnemonic}
 use Rattle.stl_ast.specs.declared.mnemonics.Mnemonic.TheVariants as code
+use Rattle.stl_ast.specs.declared.operands.Operand.TheVariants as operand
 use Rattle.stl_ast.specs.declared.statements.Statement.{Statement}
 use Rattle.stl_types.specs.Context.{Context}
 use Rattle.stl_types.specs.Resolved.{resolved}
@@ -15,6 +16,7 @@ use Rattle.machine.specs.Statement.{World, performed, went_on}
 use Rattle.statement_laws.specs.Named.{Named}
 use Rattle.statement_laws.specs.Operands.{named_by}
 use Rattle.statement_laws.specs.Effects.{effect}
+use Rattle.statement_laws.specs.Jumps.{ends_block, jumps, jumps_by_list, number_of_label}
 
 -- in every program, activation and memory the instruction does this and goes on to the next statement;
 -- after an error it does nothing but that
@@ -196,3 +198,60 @@ is_idle _ = false
 
 abbrev pub IdleActs : Type 0
 IdleActs = StatementsAct is_idle
+
+-- ---- jumps
+
+-- the jumps but JL
+abbrev pub is_plain_jump : Mnemonic → Bool
+is_plain_jump code.Ju = true
+is_plain_jump code.Jc = true
+is_plain_jump code.Jcn = true
+is_plain_jump code.Jcb = true
+is_plain_jump code.Jnb = true
+is_plain_jump code.Jbi = true
+is_plain_jump code.Jnbi = true
+is_plain_jump code.Jo = true
+is_plain_jump code.Jos = true
+is_plain_jump code.Jz = true
+is_plain_jump code.Jn = true
+is_plain_jump code.Jp = true
+is_plain_jump code.Jm = true
+is_plain_jump code.Jpz = true
+is_plain_jump code.Jmz = true
+is_plain_jump code.Juo = true
+is_plain_jump code.Loop = true
+is_plain_jump _ = false
+
+-- each jump goes to the statement of its label, or on, and leaves the registers as its mnemonic says
+abbrev pub PlainJumpsAct : Type 0
+PlainJumpsAct =
+    (c : Context) (body : List Statement) (n : ℕ) (s : Statement) (name : List ℕ)
+    → is_plain_jump s.code ≡ true → s.operand ≡ operand.Label name
+    → (program : Code) (next : ℕ) (a : Activation) (w : World)
+    → performed program (instruction c body n s) next a w
+    ≡ jumps s.code (number_of_label name body) next a w
+
+-- JL, the statement of number n, goes by the jumps behind it up to its label
+abbrev pub JumpListsAct : Type 0
+JumpListsAct =
+    (c : Context) (body : List Statement) (n : ℕ) (s : Statement) (name : List ℕ)
+    → s.code ≡ code.Jl → s.operand ≡ operand.Label name
+    → (program : Code) (next : ℕ) (a : Activation) (w : World)
+    → performed program (instruction c body n s) next a w
+    ≡ jumps_by_list n (number_of_label name body) a w
+
+-- ---- ends of a block
+
+abbrev pub is_end : Mnemonic → Bool
+is_end code.Be = true
+is_end code.Bec = true
+is_end code.Beu = true
+is_end _ = false
+
+-- each end whose operand its instruction takes, which is none
+abbrev pub EndsAct : Type 0
+EndsAct =
+    (c : Context) (body : List Statement) (n : ℕ) (s : Statement) (v : ResolvedOperand)
+    → is_end s.code ≡ true → resolved c s ≡ Some v
+    → (program : Code) (next : ℕ) (a : Activation) (w : World)
+    → performed program (instruction c body n s) next a w ≡ ends_block s.code program next a w

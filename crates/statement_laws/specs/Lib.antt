@@ -2,4 +2,5 @@ pub mod Named
 pub mod Operands
 pub mod Reading
 pub mod Effects
+pub mod Jumps
 pub mod Laws

@@ -1,8 +1,9 @@
 -- What an operand of the tree names in a block of a source: an address by its letters, a symbol by its
 -- address, a variable by its place in the layout.
-use Rattle.std.specs.Prelude.{ℕ, ◌+◌, ◌-◌, ◌*◌, ◌^◌, ◌==◌, nat_eq, Bool, true, false, ◌&&◌, not, is_some, List, [], ◌∷◌, length, codes, slice_get, Option, Some, None, if◌then◌else◌}
+use Rattle.std.specs.Prelude.{ℕ, zero, suc, ◌+◌, ◌-◌, ◌*◌, ◌^◌, ◌==◌, nat_eq, Bool, true, false, ◌&&◌, not, is_some, List, [], ◌∷◌, length, codes, slice_get, Option, Some, None, if◌then◌else◌}
 use Rattle.std.specs.Option.{option_map, option_and_then}
 use Rattle.plc_base.specs.Folding.{folded, is_same_name}
+use Rattle.plc_base.specs.Kinds.{is_function}
 use Rattle.plc_base.specs.declared.blocks.BlockId.{BlockId}
 use Rattle.plc_base.specs.declared.blocks.BlockKind.TheVariants as kind
 use Rattle.plc_base.specs.declared.places.Area.{Area}
@@ -25,6 +26,12 @@ use Rattle.stl_ast.specs.declared.operands.PathHead.TheVariants as head
 use Rattle.stl_symbols.specs.Symbol.{Symbol, symbol_named}
 use Rattle.stl_symbols.specs.declared.targets.Target.{Target}
 use Rattle.stl_symbols.specs.declared.targets.Target.TheVariants as target
+use Rattle.block_layout.specs.Members.{component}
+use Rattle.block_layout.specs.Offsets.{offset_of, variable, width_of}
+use Rattle.block_layout.specs.Paths.{cells_at, folded_path, plain_kind}
+use Rattle.block_layout.specs.declared.blocks.Section.TheVariants as section
+use Rattle.block_layout.specs.declared.cells.Cell.{Cell}
+use Rattle.block_layout.specs.declared.members.Member.{Member}
 use Rattle.stl_types.specs.Context.{Context}
 use Rattle.statement_laws.specs.Named.{Named, Number, OpenBlock}
 use Rattle.statement_laws.specs.Named as named
@@ -87,6 +94,65 @@ block_named c (block.Quoted name) = option_and_then block_of_target (symbol_targ
 -- its number
 abbrev pub block_number : Context → BlockName → Option ℕ
 block_number c name = option_map (λ id. id.number) (block_named c name)
+
+-- ---- variables
+
+-- a place that the layout gives
+abbrev pub laid_out : Option (Place × Width) → Option Named
+laid_out found = option_map (λ p. place_at p.0 p.1) found
+
+-- the parameters of a function by their index in a call: as the text has them, but the return value,
+-- which is the first of the components, is the last
+abbrev pub parameter_index : (has_result : Bool) (count place : ℕ) → ℕ
+parameter_index false count place = place
+parameter_index true count zero = count - 1
+parameter_index true count (suc k) = k
+
+-- a function with a return value; a function
+abbrev pub has_result : Option Block → Bool
+has_result None = false
+has_result (Some b) = is_some b.result
+
+abbrev pub is_fc : Option Block → Bool
+is_fc None = false
+is_fc (Some b) = is_function b.kind
+
+-- the width of a component of elementary type
+abbrev pub cell_width : Option Cell → Option Width
+cell_width None = None
+cell_width (Some cell) =
+    if nat_eq 0 (length cell.bounds) then option_map width_of (plain_kind cell.of) else None
+
+-- the components that the block with the statement declares, but for its temporary variables
+abbrev pub declared : Context → List Cell
+declared c = cells_at c.layouts c.block false
+
+-- a parameter of a function, by its place among the components; it has no components
+abbrev pub parameter_named : Context → (place : ℕ) → List PathStep → Option Named
+parameter_named c place [] =
+    option_map
+    (λ width. named.Parameter
+        (parameter_index (has_result (slice_get c.blocks c.block)) (length (declared c)) place) width)
+    (cell_width (slice_get (declared c) place))
+parameter_named c place (s ∷ ss) = None
+
+-- a variable of the block: what isn't temporary is a parameter in a function, and in a function block it
+-- lies in the data block of the DI register; temporary variables lie in the local bytes
+abbrev pub variable_by : Context → List ℕ → List PathStep → Option Member → Option Named
+variable_by c name steps None =
+    laid_out (variable c.layouts area.L c.block true (step.Named name ∷ steps))
+variable_by c name steps (Some m) =
+    if is_fc (slice_get c.blocks c.block) then parameter_named c m.place steps
+    else laid_out (variable c.layouts area.Di c.block false (step.Named name ∷ steps))
+
+abbrev pub variable_named : Context → List ℕ → List PathStep → Option Named
+variable_named c name steps = variable_by c name steps (component 0 0 0 name (declared c))
+
+-- a component of a data block
+abbrev pub component_named : Context → BlockName → List PathStep → Option Named
+component_named c name steps =
+    laid_out
+    (option_and_then (λ id. offset_of c.layouts id section.Global steps) (block_named c name))
 
 -- ---- words
 
@@ -151,4 +217,7 @@ named_by c (operand.OpenBlock di name) =
     option_map (λ number. named.DataBlock di (named.Written number)) (block_number c name)
 named_by c (operand.Named (head.Symbol name) steps) =
     option_and_then target_named (symbol_target c name)
-named_by c _ = None
+named_by c (operand.Named (head.Local name) steps) =
+    variable_named c (folded name) (folded_path steps)
+named_by c (operand.Named (head.InBlock name) steps) = component_named c name (folded_path steps)
+named_by c (operand.Called name instance) = None

@@ -1,5 +1,5 @@
 //! Laws of statements: each function does nothing, and its contract is the law.
-ghost use Rattle.statement_laws.specs.Laws.{BitLogicActs, ComparisonsAct, DataBlocksAct, IdleActs, LoadsAct, NumbersAct, RelayActs, ShiftsAct, TimingActs};
+ghost use Rattle.statement_laws.specs.Laws.{BitLogicActs, ComparisonsAct, DataBlocksAct, EndsAct, IdleActs, JumpListsAct, LoadsAct, NumbersAct, PlainJumpsAct, RelayActs, ShiftsAct, TimingActs};
 
 /// A statement of bit logic does what its mnemonic says with what its operand names: it reads and checks
 /// a bit, a timer, a counter or a condition, opens or closes a bracket, writes a bit, or sets the RLO.
@@ -48,4 +48,20 @@ pub fn data_block_acts()
 /// NOP and BLD do nothing.
 pub fn idle_acts()
     ensures { IdleActs }
+{}
+
+/// A jump but JL goes to the statement of its label or on to the next one, as its mnemonic says, and
+/// leaves the registers as it says. The number of a statement counts those before it that aren't empty.
+pub fn plain_jumps_act()
+    ensures { PlainJumpsAct }
+{}
+
+/// JL goes to the jump behind it that the lowest byte of accumulator 1 counts, or to its label.
+pub fn jump_lists_act()
+    ensures { JumpListsAct }
+{}
+
+/// BE and BEU end the block, BEC where the RLO is 1; else it goes on.
+pub fn ends_act()
+    ensures { EndsAct }
 {}
