@@ -6,3 +6,4 @@ pub mod VariableLemmas
 pub mod RuleLemmas
 pub mod FamilyLemmas
 pub mod JumpLemmas
+pub mod CoverLemmas

@@ -48,7 +48,7 @@ place_open area.P n w byte bit = refl
 place_open area.Di n w byte bit = refl
 place_open area.L n w byte bit = refl
 
-refused : {n : ℕ} → Some n ≡ None → ⊥
+pub refused : {n : ℕ} → Some n ≡ None → ⊥
 refused e = cc
 
 -- what holds of what is named, if anything is

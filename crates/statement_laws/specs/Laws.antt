@@ -1,8 +1,10 @@
 -- What the laws say, by families of instructions.
-use Rattle.std.specs.Prelude.{◌≡◌, ℕ, Bool, true, false, List, Option, Some, None, Result}
+use Rattle.std.specs.Prelude.{◌≡◌, ℕ, Bool, true, false, is_some, List, Option, Some, None, Result}
 use Rattle.stl_ast.specs.declared.mnemonics.Mnemonic.{Mnemonic}
 use Rattle.stl_ast.specs.declared.mnemonics.Mnemonic.TheVariants as code
+use Rattle.stl_ast.specs.declared.operands.Operand.{Operand}
 use Rattle.stl_ast.specs.declared.operands.Operand.TheVariants as operand
+use Rattle.stl_ast.specs.declared.operands.PathHead.TheVariants as head
 use Rattle.stl_ast.specs.declared.statements.Statement.{Statement}
 use Rattle.stl_types.specs.Context.{Context}
 use Rattle.stl_types.specs.Resolved.{resolved}
@@ -14,7 +16,7 @@ use Rattle.machine.specs.Code.{Code}
 use Rattle.machine.specs.Parts.{Parts, parts_of}
 use Rattle.machine.specs.Statement.{World, performed, went_on}
 use Rattle.statement_laws.specs.Named.{Named}
-use Rattle.statement_laws.specs.Operands.{named_by}
+use Rattle.statement_laws.specs.Operands.{named_by, register_named}
 use Rattle.statement_laws.specs.Effects.{effect}
 use Rattle.statement_laws.specs.Jumps.{ends_block, jumps, jumps_by_list, number_of_label}
 
@@ -255,3 +257,19 @@ EndsAct =
     → is_end s.code ≡ true → resolved c s ≡ Some v
     → (program : Code) (next : ℕ) (a : Activation) (w : World)
     → performed program (instruction c body n s) next a w ≡ ends_block s.code program next a w
+
+-- ---- what is named
+
+-- an operand that is no variable and no called block, and no word but those of registers
+abbrev pub has_fixed_name : Operand → Bool
+has_fixed_name (operand.Named (head.Local name) steps) = false
+has_fixed_name (operand.Named (head.InBlock name) steps) = false
+has_fixed_name (operand.Called name instance) = false
+has_fixed_name (operand.Other name) = is_some (register_named name)
+has_fixed_name _ = true
+
+-- whatever its instruction takes, such an operand names something
+abbrev pub OperandsAreNamed : Type 0
+OperandsAreNamed =
+    (c : Context) (s : Statement) (v : ResolvedOperand) → has_fixed_name s.operand ≡ true
+    → resolved c s ≡ Some v → (x : Named) × (named_by c s.operand ≡ Some x)

@@ -1,5 +1,11 @@
 //! Laws of statements: each function does nothing, and its contract is the law.
-ghost use Rattle.statement_laws.specs.Laws.{BitLogicActs, ComparisonsAct, DataBlocksAct, EndsAct, IdleActs, JumpListsAct, LoadsAct, NumbersAct, PlainJumpsAct, RelayActs, ShiftsAct, TimingActs};
+ghost use Rattle.statement_laws.specs.Laws.{BitLogicActs, ComparisonsAct, DataBlocksAct, EndsAct, IdleActs, JumpListsAct, LoadsAct, NumbersAct, OperandsAreNamed, PlainJumpsAct, RelayActs, ShiftsAct, TimingActs};
+
+/// Whatever its instruction takes, an operand names something: a variable alone, whose place the layout
+/// tells, and a called block aren't claimed here.
+pub fn operands_are_named()
+    ensures { OperandsAreNamed }
+{}
 
 /// A statement of bit logic does what its mnemonic says with what its operand names: it reads and checks
 /// a bit, a timer, a counter or a condition, opens or closes a bracket, writes a bit, or sets the RLO.
