@@ -7,3 +7,4 @@ pub mod RuleLemmas
 pub mod FamilyLemmas
 pub mod JumpLemmas
 pub mod CoverLemmas
+pub mod CallLemmas

@@ -47,13 +47,13 @@ lying_same area.M byte bit w p = refl
 lying_same area.P byte bit w p = refl
 
 -- an error of a place that isn't there
-absent_same : (access : Access) (a : Area) → places.absent access a ≡ own.no_place access a
+pub absent_same : (access : Access) (a : Area) → places.absent access a ≡ own.no_place access a
 absent_same Reading area.P = refl
 absent_same Reading _ = refl
 absent_same Writing area.P = refl
 absent_same Writing _ = refl
 
-of_area : (a : Area) (b : Bound) (p : Parts)
+pub of_area : (a : Area) (b : Bound) (p : Parts)
     → (if places.is_local a then local_number p.own.locals b.frame b.place.byte b.place.bit b.width
     else number_at p.memory b.place b.width)
     ≡ own.number_of a b p

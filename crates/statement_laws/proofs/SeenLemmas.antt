@@ -107,7 +107,7 @@ none_same : (o : Option ℕ) → or_0 o ≡ or_none o
 none_same None = refl
 none_same (Some n) = refl
 
-bits_same : (value : Literal) → bits_of value ≡ bits value
+pub bits_same : (value : Literal) → bits_of value ≡ bits value
 unfolding bits_of bits
 bits_same (literal.Truth value) = refl
 bits_same (literal.Number value) = twos_same 16 value

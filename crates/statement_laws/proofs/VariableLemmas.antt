@@ -5,7 +5,7 @@ use Rattle.std.proofs.lemmas.Bool.Decides.{nat_tests}
 use Rattle.std.specs.Option.{option_map, option_and_then}
 use Rattle.std.proofs.lemmas.Option.{same_Some}
 use Rattle.plc_base.specs.Folding.{folded, is_same_name}
-use Rattle.plc_base.specs.Kinds.{is_data_block}
+use Rattle.plc_base.specs.Kinds.{is_data_block, is_system_function}
 use Rattle.plc_base.specs.declared.blocks.BlockId.{BlockId}
 use Rattle.plc_base.specs.declared.places.Area.{Area}
 use Rattle.plc_base.specs.declared.places.Area.TheVariants as area
@@ -33,8 +33,8 @@ use Rattle.block_layout.specs.declared.walks.PathEnd.{PathEnd}
 use Rattle.block_layout.specs.declared.walks.PathEnd.TheVariants as walk
 use Rattle.block_layout.specs.Paths as paths
 use Rattle.stl_types.specs.Addresses.{address, area_left, area_of}
-use Rattle.stl_types.specs.Context.{Context, data_number, data_place, in_function, is_of_function}
-use Rattle.stl_types.specs.Resolution.{register_of, seen}
+use Rattle.stl_types.specs.Context.{Context, data_number, data_place, in_function, is_of_function, whole_place}
+use Rattle.stl_types.specs.Resolution.{called_seen, id_at, register_of, seen, whole_block}
 use Rattle.stl_types.specs.Variables.{behind_others, data_at, data_path, data_variable, data_walked, in_area, own_at, own_elementary, own_variable, own_walked, parameter_at}
 use Rattle.stl_types.specs.Variables as variables
 use Rattle.stl_types.specs.declared.views.Resolution.{Resolution}
@@ -44,7 +44,7 @@ use Rattle.stl_types.specs.declared.views.ResolvedOperand.{ResolvedOperand}
 use Rattle.stl_types.specs.declared.views.ResolvedOperand.TheVariants as view
 use Rattle.statement_laws.specs.Named.{Named}
 use Rattle.statement_laws.specs.Named as named
-use Rattle.statement_laws.specs.Operands.{block_named, block_number, cell_width, component_named, declared, fixed, has_result, is_fc, laid_out, named_by, number_in, parameter_named, place_at, pointer_bits, variable_by, variable_named}
+use Rattle.statement_laws.specs.Operands.{block_named, block_number, cell_width, component_named, declared, fixed, has_result, is_fc, laid_out, named_by, number_in, parameter_named, place_at, pointer_bits, variable_by, variable_named, with_instance}
 use Rattle.statement_laws.specs.Operands as own
 use Rattle.statement_laws.proofs.SeenLemmas.{about, block_same, carry, direct_named, in_block_same, left_same, letters_same, number_in_same, number_known, opened_named, pointer_same, register_same, resolved_same, symbol_same, view_named}
 
@@ -371,6 +371,44 @@ component_same c name steps v x e n =
     (ap (λ o. laid_out (option_and_then (λ id. offset_of c.layouts id section.Global steps) o))
         (block_same c name) ∙ n)
 
+-- ---- called blocks
+
+-- a block that is called, or none where it breaks a rule
+whole_called : (c : Context) (id : BlockId) (instance : Option BlockName) (number : Option ℕ)
+    (v : ResolvedOperand) → called_seen (whole_block c (Some id)) instance number ≡ Resolved v
+    → called_seen (Some id) instance number ≡ Resolved v
+whole_called c id instance number v e = by (is_system_function id.kind) (whole_place c id) e
+  where
+    by : (system : Bool) (place : Option ℕ)
+        → called_seen (if system then Some id else id_at id place) instance number ≡ Resolved v
+        → called_seen (Some id) instance number ≡ Resolved v
+    by true place h = h
+    by false (Some place) h = h
+    by false None h = absurd cc
+
+plain_call : (c : Context) (o : Option BlockId) (v : ResolvedOperand) (x : Named)
+    → called_seen (whole_block c o) None None ≡ Resolved v
+    → option_map (λ id. named.Called id None) o ≡ Some x → view_named None v ≡ Some x
+plain_call c None v x e n = absurd cc
+plain_call c (Some id) v x e n =
+    carry None (view.Called id None) v (named.Called id None) x refl
+    (whole_called c id None None v e) n
+
+instance_call : (c : Context) (o : Option BlockId) (db : BlockName) (number : Option ℕ)
+    (v : ResolvedOperand) (x : Named) → data_number c db ≡ number
+    → called_seen (whole_block c o) (Some db) number ≡ Resolved v
+    → with_instance o (block_number c db) ≡ Some x → view_named None v ≡ Some x
+instance_call c None db number v x d e n = absurd cc
+instance_call c (Some id) db None v x d e n =
+    absurd (unjudged (whole_called c id (Some db) None v e))
+  where
+    unjudged : Unjudged ≡ Resolved v → ⊥
+    unjudged h = cc
+instance_call c (Some id) db (Some number) v x d e n =
+    carry None (view.Called id (Some number)) v (named.Called id (Some number)) x refl
+    (whole_called c id (Some db) (Some number) v e)
+    (ap (with_instance (Some id)) (sym (number_known c db number d)) ∙ n)
+
 -- ---- operands
 
 pub view_same : (c : Context) (o : Operand) (v : ResolvedOperand) (x : Named)
@@ -420,4 +458,9 @@ view_same c (operand.Other name) v x e n =
     (is_same_name name (codes "DINO")) (is_same_name name (codes "AR2")) x n
 view_same c (operand.OpenBlock di name) v x e n =
     opened_named c di name v x (data_number c name) refl e n
-view_same c (operand.Called name instance) v x e n = absurd cc
+view_same c (operand.Called name None) v x e n =
+    plain_call c (named_block c.symbols name) v x e
+    (ap (option_map (λ id. named.Called id None)) (block_same c name) ∙ n)
+view_same c (operand.Called name (Some db)) v x e n =
+    instance_call c (named_block c.symbols name) db (data_number c db) v x refl e
+    (ap (λ o. with_instance o (block_number c db)) (block_same c name) ∙ n)

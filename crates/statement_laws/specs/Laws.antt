@@ -1,12 +1,19 @@
 -- What the laws say, by families of instructions.
 use Rattle.std.specs.Prelude.{◌≡◌, ℕ, Bool, true, false, is_some, List, Option, Some, None, Result}
+use Rattle.std.specs.List.{AllByRecursion}
+use Rattle.plc_base.specs.declared.blocks.BlockId.{BlockId}
 use Rattle.stl_ast.specs.declared.mnemonics.Mnemonic.{Mnemonic}
 use Rattle.stl_ast.specs.declared.mnemonics.Mnemonic.TheVariants as code
+use Rattle.stl_ast.specs.declared.names.BlockName.{BlockName}
 use Rattle.stl_ast.specs.declared.operands.Operand.{Operand}
 use Rattle.stl_ast.specs.declared.operands.Operand.TheVariants as operand
 use Rattle.stl_ast.specs.declared.operands.PathHead.TheVariants as head
+use Rattle.stl_ast.specs.declared.statements.Actual.{Actual}
 use Rattle.stl_ast.specs.declared.statements.Statement.{Statement}
 use Rattle.stl_types.specs.Context.{Context}
+use Rattle.stl_types.specs.Parameters.{Callee, callee_of}
+use Rattle.stl_types.specs.Resolution.{seen}
+use Rattle.stl_types.specs.declared.views.Resolution.TheVariants.{Resolved}
 use Rattle.stl_types.specs.Resolved.{resolved}
 use Rattle.stl_types.specs.declared.views.ResolvedOperand.{ResolvedOperand}
 use Rattle.stl_codegen.specs.Instruction.{instruction}
@@ -15,7 +22,9 @@ use Rattle.frames.specs.declared.Activation.{Activation}
 use Rattle.machine.specs.Code.{Code}
 use Rattle.machine.specs.Parts.{Parts, parts_of}
 use Rattle.machine.specs.Statement.{World, performed, went_on}
+use Rattle.statement_laws.specs.Calls.{bindings_of, calls, parameter_names}
 use Rattle.statement_laws.specs.Named.{Named}
+use Rattle.statement_laws.specs.Named as named
 use Rattle.statement_laws.specs.Operands.{named_by, register_named}
 use Rattle.statement_laws.specs.Effects.{effect}
 use Rattle.statement_laws.specs.Jumps.{ends_block, jumps, jumps_by_list, number_of_label}
@@ -273,3 +282,31 @@ abbrev pub OperandsAreNamed : Type 0
 OperandsAreNamed =
     (c : Context) (s : Statement) (v : ResolvedOperand) → has_fixed_name s.operand ≡ true
     → resolved c s ≡ Some v → (x : Named) × (named_by c s.operand ≡ Some x)
+
+-- ---- calls
+
+abbrev pub is_call : Mnemonic → Bool
+is_call code.Call = true
+is_call code.Uc = true
+is_call code.Cc = true
+is_call _ = false
+
+-- what an actual parameter resolves to is named
+pub record IsNamedActual (c : Context) (a : Actual) : Type 0 where
+  pub view : ResolvedOperand
+  pub seen : seen c a.value ≡ Resolved view
+  pub named : Named
+  pub names : named_by c a.value ≡ Some named
+
+-- each call of a block whose parameters are known, where what is passed is named
+abbrev pub CallsAct : Type 0
+CallsAct =
+    (c : Context) (body : List Statement) (n : ℕ) (s : Statement) (v : ResolvedOperand)
+    (name : BlockName) (db : Option BlockName) (id : BlockId) (instance : Option ℕ) (callee : Callee)
+    → is_call s.code ≡ true → s.operand ≡ operand.Called name db → resolved c s ≡ Some v
+    → named_by c (operand.Called name db) ≡ Some (named.Called id instance)
+    → callee_of c (operand.Called name db) ≡ Some callee
+    → AllByRecursion (IsNamedActual c) s.actuals
+    → (program : Code) (next : ℕ) (a : Activation) (w : World)
+    → performed program (instruction c body n s) next a w
+    ≡ calls s.code id instance (bindings_of c s.actuals (parameter_names c id)) program next a w

@@ -3,4 +3,5 @@ pub mod Operands
 pub mod Reading
 pub mod Effects
 pub mod Jumps
+pub mod Calls
 pub mod Laws

@@ -95,6 +95,11 @@ block_named c (block.Quoted name) = option_and_then block_of_target (symbol_targ
 abbrev pub block_number : Context → BlockName → Option ℕ
 block_number c name = option_map (λ id. id.number) (block_named c name)
 
+-- a called block with the number of its instance
+abbrev pub with_instance : Option BlockId → Option ℕ → Option Named
+with_instance (Some id) (Some number) = Some (named.Called id (Some number))
+with_instance _ _ = None
+
 -- ---- variables
 
 -- a place that the layout gives
@@ -220,4 +225,7 @@ named_by c (operand.Named (head.Symbol name) steps) =
 named_by c (operand.Named (head.Local name) steps) =
     variable_named c (folded name) (folded_path steps)
 named_by c (operand.Named (head.InBlock name) steps) = component_named c name (folded_path steps)
-named_by c (operand.Called name instance) = None
+named_by c (operand.Called name None) =
+    option_map (λ id. named.Called id None) (block_named c name)
+named_by c (operand.Called name (Some db)) =
+    with_instance (block_named c name) (block_number c db)

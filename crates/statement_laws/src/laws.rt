@@ -1,5 +1,5 @@
 //! Laws of statements: each function does nothing, and its contract is the law.
-ghost use Rattle.statement_laws.specs.Laws.{BitLogicActs, ComparisonsAct, DataBlocksAct, EndsAct, IdleActs, JumpListsAct, LoadsAct, NumbersAct, OperandsAreNamed, PlainJumpsAct, RelayActs, ShiftsAct, TimingActs};
+ghost use Rattle.statement_laws.specs.Laws.{BitLogicActs, CallsAct, ComparisonsAct, DataBlocksAct, EndsAct, IdleActs, JumpListsAct, LoadsAct, NumbersAct, OperandsAreNamed, PlainJumpsAct, RelayActs, ShiftsAct, TimingActs};
 
 /// Whatever its instruction takes, an operand names something: a variable alone, whose place the layout
 /// tells, and a called block aren't claimed here.
@@ -70,4 +70,10 @@ pub fn jump_lists_act()
 /// BE and BEU end the block, BEC where the RLO is 1; else it goes on.
 pub fn ends_act()
     ensures { EndsAct }
+{}
+
+/// CALL, UC, and CC where the RLO is 1 call the block that their operand names, with its instance, and
+/// each parameter stands for what is passed for its name.
+pub fn calls_act()
+    ensures { CallsAct }
 {}
