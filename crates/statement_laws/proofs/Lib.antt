@@ -8,3 +8,4 @@ pub mod FamilyLemmas
 pub mod JumpLemmas
 pub mod CoverLemmas
 pub mod CallLemmas
+pub mod NumberLemmas

@@ -1,7 +1,9 @@
 -- What the laws say, by families of instructions.
-use Rattle.std.specs.Prelude.{◌≡◌, ℕ, Bool, true, false, is_some, List, Option, Some, None, Result}
+use Rattle.std.specs.Prelude.{◌≡◌, ℕ, Bool, true, false, is_some, List, ◌∷◌, ◌++◌, ◌+◌, length, slice_get, Option, Some, None, Result}
 use Rattle.std.specs.List.{AllByRecursion}
 use Rattle.plc_base.specs.declared.blocks.BlockId.{BlockId}
+use Rattle.stl_ast.specs.Statements.{is_empty}
+use Rattle.stl_ast.specs.declared.blocks.Block.{Block}
 use Rattle.stl_ast.specs.declared.mnemonics.Mnemonic.{Mnemonic}
 use Rattle.stl_ast.specs.declared.mnemonics.Mnemonic.TheVariants as code
 use Rattle.stl_ast.specs.declared.names.BlockName.{BlockName}
@@ -16,8 +18,10 @@ use Rattle.stl_types.specs.Resolution.{seen}
 use Rattle.stl_types.specs.declared.views.Resolution.TheVariants.{Resolved}
 use Rattle.stl_types.specs.Resolved.{resolved}
 use Rattle.stl_types.specs.declared.views.ResolvedOperand.{ResolvedOperand}
+use Rattle.stl_codegen.specs.Generated.{statements_of}
 use Rattle.stl_codegen.specs.Instruction.{instruction}
-use Rattle.flat_code.specs.Instr.{Instr}
+use Rattle.flat_code.specs.Instr.{Instr, Returns}
+use Rattle.flat_code.specs.declared.operations.EndOperation.TheVariants as end_word
 use Rattle.frames.specs.declared.Activation.{Activation}
 use Rattle.machine.specs.Code.{Code}
 use Rattle.machine.specs.Parts.{Parts, parts_of}
@@ -27,7 +31,7 @@ use Rattle.statement_laws.specs.Named.{Named}
 use Rattle.statement_laws.specs.Named as named
 use Rattle.statement_laws.specs.Operands.{named_by, register_named}
 use Rattle.statement_laws.specs.Effects.{effect}
-use Rattle.statement_laws.specs.Jumps.{ends_block, jumps, jumps_by_list, number_of_label}
+use Rattle.statement_laws.specs.Jumps.{count_of, ends_block, jumps, jumps_by_list, number_of_label}
 
 -- in every program, activation and memory the instruction does this and goes on to the next statement;
 -- after an error it does nothing but that
@@ -310,3 +314,23 @@ CallsAct =
     → (program : Code) (next : ℕ) (a : Activation) (w : World)
     → performed program (instruction c body n s) next a w
     ≡ calls s.code id instance (bindings_of c s.actuals (parameter_names c id)) program next a w
+
+-- ---- numbers of statements
+
+-- the code of a block by its statements
+pub record IsNumbered (c : Context) (b : Block) : Type 0 where
+  -- each that isn't empty has the number that counts those before it
+  pub each :
+      (front : List Statement) (s : Statement) (rest : List Statement) → b.body ≡ front ++ s ∷ rest
+      → is_empty s.code ≡ false
+      → slice_get (statements_of c b) (count_of front)
+      ≡ Some (record { instr = instruction c b.body (count_of front) s; line = s.line })
+  -- behind them one returns, as BE does, with the line of the END clause
+  pub last :
+      slice_get (statements_of c b) (count_of b.body)
+      ≡ Some (record { instr = Returns end_word.Be; line = b.end_line })
+  -- and there is no other
+  pub count : length (statements_of c b) ≡ count_of b.body + 1
+
+abbrev pub StatementsAreNumbered : Type 0
+StatementsAreNumbered = (c : Context) (b : Block) → IsNumbered c b

@@ -1,5 +1,5 @@
 //! Laws of statements: each function does nothing, and its contract is the law.
-ghost use Rattle.statement_laws.specs.Laws.{BitLogicActs, CallsAct, ComparisonsAct, DataBlocksAct, EndsAct, IdleActs, JumpListsAct, LoadsAct, NumbersAct, OperandsAreNamed, PlainJumpsAct, RelayActs, ShiftsAct, TimingActs};
+ghost use Rattle.statement_laws.specs.Laws.{BitLogicActs, CallsAct, ComparisonsAct, DataBlocksAct, EndsAct, IdleActs, JumpListsAct, LoadsAct, NumbersAct, OperandsAreNamed, PlainJumpsAct, RelayActs, ShiftsAct, StatementsAreNumbered, TimingActs};
 
 /// Whatever its instruction takes, an operand names something: a variable alone, whose place the layout
 /// tells, and a called block aren't claimed here.
@@ -76,4 +76,10 @@ pub fn ends_act()
 /// each parameter stands for what is passed for its name.
 pub fn calls_act()
     ensures { CallsAct }
+{}
+
+/// The code of a block is made of the instructions of its statements but the empty ones, each at the
+/// number that counts those before it, and of one that returns behind them.
+pub fn statements_are_numbered()
+    ensures { StatementsAreNumbered }
 {}
