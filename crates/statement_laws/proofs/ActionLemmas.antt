@@ -124,7 +124,7 @@ is_written (named.Parameter index w) = true
 is_written _ = false
 
 written_place : (x : Named) (p : Parts) → is_written x ≡ true
-    → places.located Writing (flat_of x) p.own p.memory ≡ reading.place Writing x p
+    → places.located Writing (flat_of x) p.own p.memory ≡ reading.place_of_operand Writing x p
 written_place (named.Place spot) p e = place_same Writing (named.Place spot) p refl
 written_place (named.Parameter index w) p e = place_same Writing (named.Parameter index w) p refl
 written_place _ p e = absurd (false≢true e)
@@ -147,10 +147,10 @@ put_same b value r p =
 seek_same : (x : Named) (p : Parts) (f : Bound → Result Scene ℕ) (g : Bound → Result Parts ℕ)
     → is_written x ≡ true → ((b : Bound) → does.on_scene p (f b) ≡ g b)
     → does.on_scene p (then_ok (places.located Writing (flat_of x) p.own p.memory) f)
-    ≡ then_ok (reading.place Writing x p) g
+    ≡ then_ok (reading.place_of_operand Writing x p) g
 seek_same x p f g e h =
     scene_then p (places.located Writing (flat_of x) p.own p.memory) f
-    ∙ then_same (places.located Writing (flat_of x) p.own p.memory) (reading.place Writing x p)
+    ∙ then_same (places.located Writing (flat_of x) p.own p.memory) (reading.place_of_operand Writing x p)
     (λ b. does.on_scene p (f b)) g (written_place x p e) h
 
 -- one that reads the bit there first
@@ -223,7 +223,7 @@ timer_same : (f : Timer → Option Timer) (n : Number) (p : Parts)
 timer_same f n p =
     ap (λ z. does.on_timers p (then_ok z (λ which. values.faulty 0x26 (change f p.timers which))))
     (numbered_same 1 n p)
-    ∙ by (reading.numbered n p)
+    ∙ by (reading.number_of_item n p)
   where
     changed : (r : Result (List Timer) TimerFault)
         → does.on_timers p (values.faulty 0x26 r)
@@ -246,7 +246,7 @@ counter_same : (f : Counter → Option Counter) (n : Number) (p : Parts)
 counter_same f n p =
     ap (λ z. does.on_counters p (then_ok z (λ which. values.faulty 0x27 (change f p.counters which))))
     (numbered_same 2 n p)
-    ∙ by (reading.numbered n p)
+    ∙ by (reading.number_of_item n p)
   where
     changed : (r : Result (List Counter) TimerFault)
         → does.on_counters p (values.faulty 0x27 r)
@@ -392,7 +392,7 @@ open_length_same (Some n) m = length_same (map.get m.data_blocks n)
 
 plain_load : (x : Named) (p : Parts) → is_read x ≡ true
     → does.does operation.Load (flat_of x) p
-    ≡ then_ok (reading.loaded x p) (λ n. own.on_regs (own.with_loaded n) p)
+    ≡ then_ok (reading.number_to_load x p) (λ n. own.on_regs (own.with_loaded n) p)
 unfolding does.does loads.loading
 plain_load x p e =
     regs_then p (values.loaded (flat_of x) p.own p.memory p.timers p.counters)
@@ -408,7 +408,7 @@ is_loaded x = is_read x
 pub load_same : (x : Named) (p : Parts) → is_loaded x ≡ true
     → does.does (load_operation x) (flat_of x) p ≡ own.loads x p
 unfolding does.does loads.status_loaded data_blocks.loading_open_block data_blocks.open_block_fact
-    reading.loaded reading.number
+    reading.number_to_load reading.number_of_operand
 load_same named.StatusWord p e = refl
 load_same (named.Opened named.DbLength) p e =
     ap (λ n. Ok (own.with_regs (own.with_loaded n p.own.regs) p))
@@ -435,7 +435,7 @@ puts_same : (n : ℕ) (x : Named) (p : Parts) → is_written x ≡ true
 unfolding loads.transferred
 puts_same n x p e =
     seek_same x p (λ b. values.write b (n % 2 ^ bit_count b.width) p.own p.memory)
-    (λ b. reading.written b (n % 2 ^ bit_count b.width) p) e
+    (λ b. reading.with_number_at b (n % 2 ^ bit_count b.width) p) e
     (λ b. written_same b (n % 2 ^ bit_count b.width) p)
 
 -- the operation of T, and what it takes
@@ -469,7 +469,7 @@ is_address (named.Place spot) = true
 is_address _ = false
 
 address_same : (x : Named) (p : Parts) → is_address x ≡ true
-    → pointer.address_loaded (flat_of x) p.own p.memory ≡ own.address_loaded x p
+    → pointer.address_loaded (flat_of x) p.own p.memory ≡ own.address_to_load x p
 address_same named.Nothing p e = refl
 address_same (named.Pointer value) p e = number_same (named.Pointer value) p refl
 address_same (named.Place (named.Fixed a w byte bit)) p e =
@@ -484,7 +484,7 @@ address_same _ p e = absurd (false≢true e)
 address_to : (f : ℕ → Regs) (x : Named) (p : Parts) → is_address x ≡ true
     → does.on_scene p (then_ok (pointer.address_loaded (flat_of x) p.own p.memory)
         (λ n. Ok (pointer.regs_set (f n) p.own p.memory)))
-    ≡ then_ok (own.address_loaded x p) (λ n. Ok (own.with_regs (f n) p))
+    ≡ then_ok (own.address_to_load x p) (λ n. Ok (own.with_regs (f n) p))
 address_to f x p e =
     scene_then p (pointer.address_loaded (flat_of x) p.own p.memory)
     (λ n. Ok (pointer.regs_set (f n) p.own p.memory))
@@ -608,13 +608,13 @@ own_then p (Err e) f = refl
 
 pub open_same : (x : Named) (p : Parts) → is_data_block x ≡ true
     → does.does operation.OpenBlock (flat_of x) p ≡ own.opens x p
-unfolding does.does data_blocks.opening reading.numbered
+unfolding does.does data_blocks.opening reading.number_of_item
 open_same (named.DataBlock di (named.Written n)) p e = opened_same di n p
 open_same (named.DataBlock di (named.InWord from byte)) p e =
     own_then p (places.pointer from byte widths.Word p.own p.memory)
     (λ n. data_blocks.opened_if (data_blocks.is_loaded n p.memory) (if di then 2 else 1) n p.own)
     ∙ then_same (places.pointer from byte widths.Word p.own p.memory)
-    (reading.standing from byte widths.Word p)
+    (reading.stored_number from byte widths.Word p)
     (λ n. does.on_own p (data_blocks.opened_if (data_blocks.is_loaded n p.memory) (if di then 2 else 1) n p.own))
     (λ n. own.opens_number di n p)
     (standing_same from byte widths.Word p) (λ n. opened_same di n p)

@@ -73,7 +73,7 @@ use Rattle.statement_laws.specs.Jumps.{rlo_set, standing_at}
 use Rattle.statement_laws.specs.Laws.{CallsAct, IsNamedActual, is_call}
 use Rattle.statement_laws.specs.Named.{Named}
 use Rattle.statement_laws.specs.Named as named
-use Rattle.statement_laws.specs.Operands.{block_named, block_number, fixed, has_result, named_by, place_at, place_by, with_instance}
+use Rattle.statement_laws.specs.Operands.{block_named, block_number, fixed_place, has_result, named_by, place_at, place_by, with_instance}
 use Rattle.statement_laws.specs.Reading as reading
 use Rattle.statement_laws.proofs.PlaceLemmas.{absent_same, fixed_same, of_area, then_same}
 use Rattle.statement_laws.proofs.SeenLemmas.{about, bits_same, block_same, resolved_parts, view_named}
@@ -82,18 +82,18 @@ use Rattle.statement_laws.proofs.VariableLemmas.{view_same}
 -- ---- what a parameter stands for
 
 if_bound_same : (access : Access) (b : Bound) (o : Option ℕ)
-    → bindings.bound_if access b o ≡ own.bound_if access b o
+    → bindings.bound_if access b o ≡ own.binding_if access b o
 if_bound_same access b None = ap Err (absent_same access b.place.area)
 if_bound_same access b (Some n) = refl
 
 bound_at_same : (access : Access) (b : Bound) (p : Parts)
-    → bindings.bound_place access b p.own p.memory ≡ own.bound_at access b p
+    → bindings.bound_place access b p.own p.memory ≡ own.binding_at access b p
 unfolding bindings.bound_place
 bound_at_same access b p =
     ap (bindings.bound_if access b) (of_area b.place.area b p)
-    ∙ if_bound_same access b (reading.number_of b.place.area b p)
+    ∙ if_bound_same access b (reading.number_at_bound b.place.area b p)
 
-passed_on_same : (o : Option Binding) → bindings.passed_on o ≡ own.passed_on o
+passed_on_same : (o : Option Binding) → bindings.passed_on o ≡ own.binding_passed_on o
 passed_on_same None = refl
 passed_on_same (Some b) = refl
 
@@ -111,17 +111,17 @@ there None = passed.Literal 0
 
 direct_same : (access : Access) (a : Area) (w : Width) (byte bit : ℕ) (p : Parts)
     → bindings.bound_actual access (passed.Direct a w byte bit) p.own p.memory
-    ≡ own.bound access (named.Place (named.Fixed a w byte bit)) p
-unfolding bindings.bound_actual own.bound
+    ≡ own.binding_of access (named.Place (named.Fixed a w byte bit)) p
+unfolding bindings.bound_actual own.binding_of
 direct_same access a w byte bit p =
-    then_same (places.placed access a byte bit w p.own) (reading.fixed access a w byte bit p)
-    (λ b. bindings.bound_place access b p.own p.memory) (λ b. own.bound_at access b p)
+    then_same (places.placed access a byte bit w p.own) (reading.fixed_place access a w byte bit p)
+    (λ b. bindings.bound_place access b p.own p.memory) (λ b. own.binding_at access b p)
     (fixed_same access a w byte bit p) (λ b. bound_at_same access b p)
 
 in_block_bound : (access : Access) (n : ℕ) (w : Width) (byte bit : ℕ) (p : Parts)
     → bindings.bound_actual access (passed.InBlock n area.Db w byte bit) p.own p.memory
-    ≡ own.bound access (named.PlaceIn n w byte bit) p
-unfolding bindings.bound_actual own.bound
+    ≡ own.binding_of access (named.PlaceIn n w byte bit) p
+unfolding bindings.bound_actual own.binding_of
 in_block_bound access n w byte bit p =
     ap (λ r. if data_blocks.is_loaded n p.memory then r else Err 0x3A)
     (bound_at_same access (reading.at area.Db n byte bit w 0) p)
@@ -131,15 +131,15 @@ access_same param = refl
 
 -- for a parameter by its index
 for_same : (o : Option Param) (actual : Passed) (x : Named) (p : Parts)
-    → ((access : Access) → bindings.bound_actual access actual p.own p.memory ≡ own.bound access x p)
-    → bindings.bound_for o actual p.own p.memory ≡ own.bound_for o x p
+    → ((access : Access) → bindings.bound_actual access actual p.own p.memory ≡ own.binding_of access x p)
+    → bindings.bound_for o actual p.own p.memory ≡ own.binding_for o x p
 for_same None actual x p h = refl
 for_same (Some param) actual x p h = h (own.access_of param)
 
 -- one passing, and those behind it
 step_same : (params : List Param) (index : ℕ) (actual : Passed) (x : Named) (rest : List Passing)
     (before : List Binding) (p : Parts)
-    → ((access : Access) → bindings.bound_actual access actual p.own p.memory ≡ own.bound access x p)
+    → ((access : Access) → bindings.bound_actual access actual p.own p.memory ≡ own.binding_of access x p)
     → bindings.bound_params params (record { index = index; actual = actual } ∷ rest) before p.own p.memory
     ≡ own.binds (Some x) (slice_get params index) index before p
     (λ more. bindings.bound_params params rest more p.own p.memory)
@@ -152,7 +152,7 @@ passing_same : (params : List Param) (index : ℕ) (x : Named) (rest : List Pass
     → bindings.bound_params params (with_index index (flat_passed x) ++ rest) before p.own p.memory
     ≡ own.binds (own.if_passable x) (slice_get params index) index before p
     (λ more. bindings.bound_params params rest more p.own p.memory)
-unfolding bindings.bound_actual own.bound
+unfolding bindings.bound_actual own.binding_of
 passing_same params index (named.Constant value) rest before p =
     step_same params index (passed.Literal (reading.bits value)) (named.Constant value) rest before p
     (λ access. refl)
@@ -171,7 +171,7 @@ passing_same params index _ rest before p = refl
 
 db_passed : (b : Bool) (n : ℕ) (w : Width) (byte bit : ℕ)
     → (if not b then Some (passed.InBlock n area.Db w byte bit) else Some (passed.Direct area.Db w byte bit))
-    ≡ flat_passed (if b then fixed area.Db w byte bit else named.PlaceIn n w byte bit)
+    ≡ flat_passed (if b then fixed_place area.Db w byte bit else named.PlaceIn n w byte bit)
 db_passed true n w byte bit = refl
 db_passed false n w byte bit = refl
 
@@ -256,7 +256,7 @@ found_same c name (a ∷ actuals) h =
 one_same : (c : Context) (params : List Param) (index : ℕ) (o : Option Actual) (rest : List Passing)
     (before : List Binding) (p : Parts) → Known c o
     → bindings.bound_params params (passed_actual c index o ++ rest) before p.own p.memory
-    ≡ own.binds (own.passed_by c o) (slice_get params index) index before p
+    ≡ own.binds (own.named_in_call c o) (slice_get params index) index before p
     (λ more. bindings.bound_params params rest more p.own p.memory)
 one_same c params index None rest before p known = refl
 one_same c params index (Some a) rest before p known =
@@ -271,7 +271,7 @@ binds_same : (o : Option Named) (param : Option Param) (index : ℕ) (before : L
     → own.binds o param index before p f ≡ own.binds o param index before p g
 binds_same None param index before p f g h = h before
 binds_same (Some x) param index before p f g h =
-    then_same (own.bound_for param x p) (own.bound_for param x p)
+    then_same (own.binding_for param x p) (own.binding_for param x p)
     (λ b. f (set_at before index b)) (λ b. g (set_at before index b)) refl
     (λ b. h (set_at before index b))
 
@@ -287,7 +287,7 @@ all_same c actuals params index (f ∷ fs) before p h =
         (passed_actual c index o ++ passings_from c actuals (suc index) fs) before p.own p.memory) found.0
     ∙ one_same c params index (own.actual_for f.name actuals) (passings_from c actuals (suc index) fs)
     before p found.1
-    ∙ binds_same (own.passed_by c (own.actual_for f.name actuals)) (slice_get params index) index before p
+    ∙ binds_same (own.named_in_call c (own.actual_for f.name actuals)) (slice_get params index) index before p
     (λ more. bindings.bound_params params (passings_from c actuals (suc index) fs) more p.own p.memory)
     (λ more. own.bindings_from params c actuals (suc index) (map (λ f. f.name) fs) more p)
     (λ more. all_same c actuals params (suc index) fs more p h)
@@ -456,7 +456,7 @@ is_called_name (named.Called id instance) = true
 is_called_name _ = false
 
 db_not_called : (b : Bool) (n : ℕ) (w : Width) (byte bit : ℕ)
-    → is_called_name (if b then fixed area.Db w byte bit else named.PlaceIn n w byte bit) ≡ false
+    → is_called_name (if b then fixed_place area.Db w byte bit else named.PlaceIn n w byte bit) ≡ false
 db_not_called true n w byte bit = refl
 db_not_called false n w byte bit = refl
 

@@ -37,7 +37,7 @@ use Rattle.statement_laws.specs.Effects as own
 use Rattle.statement_laws.specs.Laws.{Acts, BitLogicActs, ComparisonsAct, DataBlocksAct, IdleActs, LoadsAct, NumbersAct, RelayActs, ShiftsAct, TimingActs, is_bit_logic, is_comparison, is_data_block, is_idle, is_load_or_transfer, is_number_instruction, is_relay, is_shift, is_timing}
 use Rattle.statement_laws.specs.Named.{Named}
 use Rattle.statement_laws.specs.Named as named
-use Rattle.statement_laws.specs.Operands.{fixed, named_by}
+use Rattle.statement_laws.specs.Operands.{fixed_place, named_by}
 use Rattle.statement_laws.proofs.ActionLemmas as action_lemmas
 use Rattle.statement_laws.proofs.FlatLemmas.{flat_of}
 use Rattle.statement_laws.proofs.FlatLemmas as flat_lemmas
@@ -65,7 +65,7 @@ first_opened : (m : Mnemonic) (op : Operation) (x : Named) (p : Parts)
     → ((q : Parts) → does.does op (flat_of (as_open x)) q ≡ action m (as_open x) q)
     → does.does_with (opens_first x) op (flat_of x) p ≡ effect m x p
 unfolding does.does_with effect
-first_opened m op (named.PlaceIn n w byte bit) p h = db_first m op n (fixed area.Db w byte bit) p h
+first_opened m op (named.PlaceIn n w byte bit) p h = db_first m op n (fixed_place area.Db w byte bit) p h
 first_opened m op _ p h = h p
 
 -- what an instruction that goes on does, whose operand names this

@@ -67,13 +67,13 @@ flat_of _ = flat.Nothing
 -- ---- places
 
 found_same : (access : Access) (spot : Spot) (p : Parts)
-    → places.located access (flat_spot spot) p.own p.memory ≡ own.found access spot p
-unfolding places.located own.found
+    → places.located access (flat_spot spot) p.own p.memory ≡ own.place_of_spot access spot p
+unfolding places.located own.place_of_spot
 found_same access (named.Fixed a w byte bit) p = fixed_same access a w byte bit p
 found_same access (named.ByMemory a w from byte) p =
     then_same (places.pointer from byte widths.Dword p.own p.memory)
-    (own.standing from byte widths.Dword p)
-    (λ n. places.by_pointer access a w n p.own) (λ n. own.pointed access a w n p)
+    (own.stored_number from byte widths.Dword p)
+    (λ n. places.by_pointer access a w n p.own) (λ n. own.place_of_pointer access a w n p)
     (standing_same from byte widths.Dword p) (λ n. pointed_same access a w n p)
 found_same access (named.ByRegister None w register count) p =
     crossing_same access w (places.address register p.own)
@@ -81,7 +81,7 @@ found_same access (named.ByRegister None w register count) p =
 found_same access (named.ByRegister (Some a) w register count) p =
     pointed_same access a w (places.moved (places.address register p.own) count) p
 
-bound_same : (o : Option Binding) → places.of_binding o ≡ own.bound_place o
+bound_same : (o : Option Binding) → places.of_binding o ≡ own.place_of_binding o
 bound_same None = refl
 bound_same (Some (binding.Bound place w frame)) = refl
 bound_same (Some _) = refl
@@ -92,8 +92,8 @@ is_open (named.PlaceIn block w byte bit) = false
 is_open _ = true
 
 pub place_same : (access : Access) (x : Named) (p : Parts) → is_open x ≡ true
-    → places.located access (flat_of x) p.own p.memory ≡ own.place access x p
-unfolding places.located own.place
+    → places.located access (flat_of x) p.own p.memory ≡ own.place_of_operand access x p
+unfolding places.located own.place_of_operand
 place_same access (named.Place spot) p e = found_same access spot p
 place_same access (named.PlaceIn block w byte bit) p e = absurd (false≢true e)
 place_same access (named.Parameter index w) p e = bound_same (slice_get p.own.inner.bindings index)
@@ -112,7 +112,7 @@ place_same access _ p e = refl
 -- ---- numbers
 
 bound_number_same : (o : Option Binding) (p : Parts)
-    → values.number_of_binding o p.own p.memory ≡ own.bound_number o p
+    → values.number_of_binding o p.own p.memory ≡ own.number_of_binding o p
 bound_number_same None p = refl
 bound_number_same (Some (binding.Bound place w frame)) p =
     read_same (record { place = place; width = w; frame = frame }) p
@@ -128,10 +128,10 @@ is_read _ = true
 spot_read : (spot : Spot) (p : Parts)
     → then_ok (places.located Reading (flat_spot spot) p.own p.memory)
     (λ b. places.read b p.own p.memory)
-    ≡ then_ok (own.found Reading spot p) (λ b. own.number_there Reading b p)
+    ≡ then_ok (own.place_of_spot Reading spot p) (λ b. own.number_or_error Reading b p)
 spot_read spot p =
-    then_same (places.located Reading (flat_spot spot) p.own p.memory) (own.found Reading spot p)
-    (λ b. places.read b p.own p.memory) (λ b. own.number_there Reading b p)
+    then_same (places.located Reading (flat_spot spot) p.own p.memory) (own.place_of_spot Reading spot p)
+    (λ b. places.read b p.own p.memory) (λ b. own.number_or_error Reading b p)
     (found_same Reading spot p) (λ b. read_same b p)
 
 spot_number : (spot : Spot) (p : Parts)
@@ -144,8 +144,8 @@ spot_number (named.ByMemory a w from byte) p = refl
 spot_number (named.ByRegister a w register count) p = refl
 
 pub number_same : (x : Named) (p : Parts) → is_read x ≡ true
-    → values.number (flat_of x) p.own p.memory ≡ own.number x p
-unfolding values.number own.number places.located
+    → values.number (flat_of x) p.own p.memory ≡ own.number_of_operand x p
+unfolding values.number own.number_of_operand places.located
 number_same (named.Place spot) p e = spot_number spot p ∙ spot_read spot p
 number_same (named.PlaceIn block w byte bit) p e = absurd (false≢true e)
 number_same (named.Opened what) p e = absurd (false≢true e)
@@ -162,8 +162,8 @@ number_same _ p e = refl
 -- ---- timers and counters
 
 pub numbered_same : (kind : ℕ) (n : Number) (p : Parts)
-    → values.number_named (flat_number kind n) p.own p.memory ≡ own.numbered n p
-unfolding values.number_named own.numbered
+    → values.number_named (flat_number kind n) p.own p.memory ≡ own.number_of_item n p
+unfolding values.number_named own.number_of_item
 numbered_same kind (named.Written n) p = refl
 numbered_same kind (named.InWord from byte) p = standing_same from byte widths.Word p
 
@@ -198,11 +198,11 @@ one_same (Err code) = refl
 in_word : {A B : Type 0} (code : ℕ) (read : A → B) (all : List A) (from : Area) (byte : ℕ) (p : Parts)
     → then_ok (places.pointer from byte widths.Word p.own p.memory)
     (λ n. values.faulty code (reading read all n))
-    ≡ then_ok (own.standing from byte widths.Word p)
+    ≡ then_ok (own.stored_number from byte widths.Word p)
     (λ n. ok_or (option_map read (slice_get all n)) code)
 in_word code read all from byte p =
     then_same (places.pointer from byte widths.Word p.own p.memory)
-    (own.standing from byte widths.Word p)
+    (own.stored_number from byte widths.Word p)
     (λ n. values.faulty code (reading read all n))
     (λ n. ok_or (option_map read (slice_get all n)) code)
     (standing_same from byte widths.Word p) (λ n. faulty_same code read all n)
@@ -216,12 +216,12 @@ spot_tested (named.ByMemory a w from byte) p = refl
 spot_tested (named.ByRegister a w register count) p = refl
 
 pub tested_same : (x : Named) (p : Parts) → is_read x ≡ true
-    → values.tested (flat_of x) p.own p.memory p.timers p.counters ≡ own.bit x p
-unfolding values.tested values.bit_of_numbered own.bit own.numbered
+    → values.tested (flat_of x) p.own p.memory p.timers p.counters ≡ own.bit_of_operand x p
+unfolding values.tested values.bit_of_numbered own.bit_of_operand own.number_of_item
 tested_same (named.Place spot) p e =
     spot_tested spot p
     ∙ ap values.is_one (number_same (named.Place spot) p e)
-    ∙ one_same (own.number (named.Place spot) p)
+    ∙ one_same (own.number_of_operand (named.Place spot) p)
 tested_same (named.PlaceIn block w byte bit) p e = absurd (false≢true e)
 tested_same (named.Opened what) p e = absurd (false≢true e)
 tested_same (named.Timer (named.Written n)) p e =
@@ -233,11 +233,11 @@ tested_same (named.Counter (named.InWord from byte)) p e = in_word 0x27 is_count
 tested_same (named.Condition f) p e = ap (λ g. Ok (flag_value g p.own.regs.status)) (flag_same f)
 tested_same (named.DataBlock di (named.Written n)) p e =
     ap values.is_one (number_same (named.DataBlock di (named.Written n)) p e)
-    ∙ one_same (own.number (named.DataBlock di (named.Written n)) p)
+    ∙ one_same (own.number_of_operand (named.DataBlock di (named.Written n)) p)
 tested_same (named.DataBlock di (named.InWord from byte)) p e =
     ap values.is_one (number_same (named.DataBlock di (named.InWord from byte)) p e)
-    ∙ one_same (own.number (named.DataBlock di (named.InWord from byte)) p)
-tested_same x p e = ap values.is_one (number_same x p e) ∙ one_same (own.number x p)
+    ∙ one_same (own.number_of_operand (named.DataBlock di (named.InWord from byte)) p)
+tested_same x p e = ap values.is_one (number_same x p e) ∙ one_same (own.number_of_operand x p)
 
 spot_loaded : (spot : Spot) (p : Parts)
     → values.loaded (flat_spot spot) p.own p.memory p.timers p.counters
@@ -248,8 +248,8 @@ spot_loaded (named.ByMemory a w from byte) p = refl
 spot_loaded (named.ByRegister a w register count) p = refl
 
 pub loaded_same : (x : Named) (p : Parts) → is_read x ≡ true
-    → values.loaded (flat_of x) p.own p.memory p.timers p.counters ≡ own.loaded x p
-unfolding values.loaded values.value_of_numbered own.loaded own.numbered
+    → values.loaded (flat_of x) p.own p.memory p.timers p.counters ≡ own.number_to_load x p
+unfolding values.loaded values.value_of_numbered own.number_to_load own.number_of_item
 loaded_same (named.Place spot) p e = spot_loaded spot p ∙ number_same (named.Place spot) p e
 loaded_same (named.PlaceIn block w byte bit) p e = absurd (false≢true e)
 loaded_same (named.Opened what) p e = absurd (false≢true e)
@@ -267,8 +267,8 @@ loaded_same (named.DataBlock di (named.InWord from byte)) p e =
 loaded_same x p e = number_same x p e
 
 pub bcd_same : (x : Named) (p : Parts)
-    → values.bcd_loaded (flat_of x) p.own p.memory p.timers p.counters ≡ own.loaded_bcd x p
-unfolding values.bcd_loaded values.bcd_of_numbered own.loaded_bcd own.numbered
+    → values.bcd_loaded (flat_of x) p.own p.memory p.timers p.counters ≡ own.bcd_to_load x p
+unfolding values.bcd_loaded values.bcd_of_numbered own.bcd_to_load own.number_of_item
 bcd_same (named.Timer (named.Written n)) p = faulty_same 0x26 time_left p.timers n
 bcd_same (named.Timer (named.InWord from byte)) p = in_word 0x26 time_left p.timers from byte p
 bcd_same (named.Counter (named.Written n)) p = faulty_same 0x27 count_bcd p.counters n

@@ -4,13 +4,14 @@ use Rattle.flat_code.specs.Instr.{Returns}
 use Rattle.flat_code.specs.declared.operations.EndOperation.TheVariants as ends
 use Rattle.stl_ast.specs.Statements.{is_empty}
 use Rattle.stl_ast.specs.declared.blocks.Block.{Block}
+use Rattle.stl_ast.specs.declared.mnemonics.Mnemonic.TheVariants as code
 use Rattle.stl_ast.specs.declared.statements.Statement.{Statement}
 use Rattle.stl_types.specs.Context.{Context}
 use Rattle.stl_codegen.specs.Compiled.{Stated}
 use Rattle.stl_codegen.specs.Generated.{returning, stated_from, statements_of}
 use Rattle.stl_codegen.specs.Instruction.{instruction}
 use Rattle.statement_laws.specs.Jumps.{count_of}
-use Rattle.statement_laws.specs.Laws.{StatementsAreNumbered}
+use Rattle.statement_laws.specs.Laws.{FamiliesAreAll, StatementsAreNumbered}
 
 -- a statement with its number
 abbrev stated : Context → List Statement → ℕ → Statement → Stated
@@ -76,3 +77,7 @@ statements_are_numbered c b = record {
   count = length-append (stated_from c b.body 0 b.body) (returning b ∷ [])
       ∙ ap (λ k. k + 1) (length_same c b.body 0 b.body);
 }
+
+pub families_are_all : FamiliesAreAll
+families_are_all code.Empty = refl
+families_are_all _ = refl

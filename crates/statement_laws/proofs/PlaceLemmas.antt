@@ -31,13 +31,13 @@ then_same {A = A} {B = B} r r' f g e h = ap (λ z. then_ok z f) e ∙ by r'
     by (Err code) = refl
 
 open_same : (o : Option ℕ) (e byte bit : ℕ) (w : Width)
-    → places.in_register o e byte bit w ≡ own.in_open o e byte bit w
+    → places.in_register o e byte bit w ≡ own.place_in_open_block o e byte bit w
 open_same None e byte bit w = refl
 open_same (Some number) e byte bit w = refl
 
 pub lying_same : (a : Area) (byte bit : ℕ) (w : Width) (p : Parts)
-    → places.in_area a byte bit w p.own ≡ own.lying a byte bit w p
-unfolding places.in_area own.lying
+    → places.in_area a byte bit w p.own ≡ own.place_in_area a byte bit w p
+unfolding places.in_area own.place_in_area
 lying_same area.Db byte bit w p = open_same p.own.inner.db 0x32 byte bit w
 lying_same area.Di byte bit w p = open_same p.own.inner.di 0x33 byte bit w
 lying_same area.L byte bit w p = refl
@@ -56,27 +56,27 @@ absent_same Writing _ = refl
 pub of_area : (a : Area) (b : Bound) (p : Parts)
     → (if places.is_local a then local_number p.own.locals b.frame b.place.byte b.place.bit b.width
     else number_at p.memory b.place b.width)
-    ≡ own.number_of a b p
+    ≡ own.number_at_bound a b p
 of_area area.L b p = refl
 of_area _ b p = refl
 
 pub there_same : (access : Access) (b : Bound) (p : Parts)
     → ok_or (places.number_in b p.own.locals p.memory) (places.absent access b.place.area)
-    ≡ own.number_there access b p
+    ≡ own.number_or_error access b p
 there_same access b p =
     ap₂ ok_or (of_area b.place.area b p) (absent_same access b.place.area)
 
 pub read_same : (b : Bound) (p : Parts)
-    → places.read b p.own p.memory ≡ own.number_there Reading b p
+    → places.read b p.own p.memory ≡ own.number_or_error Reading b p
 unfolding places.read
 read_same b p = there_same Reading b p
 
 pub standing_same : (from : Area) (byte : ℕ) (w : Width) (p : Parts)
-    → places.pointer from byte w p.own p.memory ≡ own.standing from byte w p
+    → places.pointer from byte w p.own p.memory ≡ own.stored_number from byte w p
 unfolding places.direct
 standing_same from byte w p =
-    then_same (places.in_area from byte 0 w p.own) (own.lying from byte 0 w p)
-    (λ b. places.read b p.own p.memory) (λ b. own.number_there Reading b p)
+    then_same (places.in_area from byte 0 w p.own) (own.place_in_area from byte 0 w p)
+    (λ b. places.read b p.own p.memory) (λ b. own.number_or_error Reading b p)
     (lying_same from byte 0 w p) (λ b. read_same b p)
 
 -- ---- pointers
@@ -100,11 +100,11 @@ if_same b b' x x' y y' e f g =
     ∙ ap (λ z. if b' then x' else z) g
 
 pub pointed_same : (access : Access) (a : Area) (w : Width) (n : ℕ) (p : Parts)
-    → places.by_pointer access a w n p.own ≡ own.pointed access a w n p
-unfolding places.by_pointer own.pointed
+    → places.by_pointer access a w n p.own ≡ own.place_of_pointer access a w n p
+unfolding places.by_pointer own.place_of_pointer
 pointed_same access a w n p =
     if_same (places.is_aligned w n) (own.is_whole w n)
-    (places.at_pointer a w n p.own) (own.lying a (own.byte_of n) (own.bit_of n) w p)
+    (places.at_pointer a w n p.own) (own.place_in_area a (own.byte_of n) (own.bit_of n) w p)
     (Err (places.error_of access 0x28)) (Err (own.bad_bit access))
     (whole_same w n) (lying_same a (own.byte_of n) (own.bit_of n) w p) (ap Err (bit_error access))
 
@@ -115,12 +115,12 @@ peripheral_same area.P _ = refl
 peripheral_same _ w = refl
 
 pub fixed_same : (access : Access) (a : Area) (w : Width) (byte bit : ℕ) (p : Parts)
-    → places.placed access a byte bit w p.own ≡ own.fixed access a w byte bit p
-unfolding own.fixed
+    → places.placed access a byte bit w p.own ≡ own.fixed_place access a w byte bit p
+unfolding own.fixed_place
 fixed_same access a w byte bit p =
     if_same (places.is_peripheral a && places.is_bit w) (own.is_peripheral_bit a w)
     (Err (places.error_of access 0x24)) (Err (own.bad_area access))
-    (places.in_area a byte bit w p.own) (own.lying a byte bit w p)
+    (places.in_area a byte bit w p.own) (own.place_in_area a byte bit w p)
     (peripheral_same a w) (ap Err (area_error access)) (lying_same a byte bit w p)
 
 named_same : (access : Access) (o : Option Place) (w : Width) (n : ℕ) (p : Parts)
@@ -131,8 +131,8 @@ named_same access (Some place) w n p =
     fixed_same access place.area w (own.byte_of n) (own.bit_of n) p
 
 pub crossing_same : (access : Access) (w : Width) (address n : ℕ) (p : Parts)
-    → places.by_crossing access w address n p.own ≡ own.crossing access w address n p
-unfolding places.by_crossing own.crossing
+    → places.by_crossing access w address n p.own ≡ own.place_of_crossing access w address n p
+unfolding places.by_crossing own.place_of_crossing
 crossing_same access w address n p =
     if_same (places.is_aligned w n) (own.is_whole w n)
     (places.in_named access (place_of address) w n p.own)
@@ -171,8 +171,8 @@ written_in_same _ b n p = by (memory.written p.memory b.place b.width n)
     by (Some m) = refl
 
 pub written_same : (b : Bound) (n : ℕ) (p : Parts)
-    → on_scene p (values.write b n p.own p.memory) ≡ own.written b n p
-unfolding values.write own.written
+    → on_scene p (values.write b n p.own p.memory) ≡ own.with_number_at b n p
+unfolding values.write own.with_number_at
 written_same b n p =
     by (values.stored_at b n p.own p.memory)
     ∙ ap₂ ok_or (written_in_same b.place.area b n p) (absent_same Writing b.place.area)

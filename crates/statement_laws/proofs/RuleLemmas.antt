@@ -22,24 +22,24 @@ use Rattle.stl_types.specs.declared.views.ResolvedOperand.TheVariants as view
 use Rattle.stl_codegen.specs.Operations as codegen
 use Rattle.statement_laws.specs.Named.{Named}
 use Rattle.statement_laws.specs.Named as named
-use Rattle.statement_laws.specs.Operands.{fixed, place_at, place_by}
+use Rattle.statement_laws.specs.Operands.{fixed_place, place_at, place_by}
 use Rattle.statement_laws.proofs.ActionLemmas.{add_operation, is_added_address, is_address, is_address_place, is_constant, is_count, is_counter, is_data_block, is_first_address, is_first_address_place, is_freed, is_loaded, is_reset, is_set, is_timer, is_transferred, is_written, load_address_operation, load_operation, or_operation, store_address_operation, transfer_operation}
 use Rattle.statement_laws.proofs.FlatLemmas.{is_read}
 use Rattle.statement_laws.proofs.SeenLemmas.{about, on_named, rule_by, view_named}
 
 -- the place in the DB register, once its data block is open
 abbrev pub as_open : Named → Named
-as_open (named.PlaceIn n w byte bit) = fixed area.Db w byte bit
+as_open (named.PlaceIn n w byte bit) = fixed_place area.Db w byte bit
 as_open x = x
 
 db_open : (b : Bool) (n : ℕ) (w : Width) (byte bit : ℕ)
-    → as_open (if b then fixed area.Db w byte bit else named.PlaceIn n w byte bit)
-    ≡ fixed area.Db w byte bit
+    → as_open (if b then fixed_place area.Db w byte bit else named.PlaceIn n w byte bit)
+    ≡ fixed_place area.Db w byte bit
 db_open true n w byte bit = refl
 db_open false n w byte bit = refl
 
 place_open : (a : Area) (n : ℕ) (w : Width) (byte bit : ℕ)
-    → as_open (place_by a n w byte bit) ≡ fixed a w byte bit
+    → as_open (place_by a n w byte bit) ≡ fixed_place a w byte bit
 place_open area.Db n w byte bit = db_open (nat_eq n 0) n w byte bit
 place_open area.I n w byte bit = refl
 place_open area.Q n w byte bit = refl

@@ -51,7 +51,7 @@ use Rattle.stl_types.specs.declared.views.ResolvedOperand.TheVariants as view
 use Rattle.stl_codegen.specs.Operands as codegen
 use Rattle.statement_laws.specs.Named.{Named, Number, OpenBlock, Spot}
 use Rattle.statement_laws.specs.Named as named
-use Rattle.statement_laws.specs.Operands.{block_number, fixed, named_by, number_in, place_at, place_by, place_in_db, pointer_bits, register_named, symbol_target, target_named}
+use Rattle.statement_laws.specs.Operands.{block_number, fixed_place, named_by, number_in, place_at, place_by, place_in_db, pointer_bits, register_named, symbol_target, target_named}
 use Rattle.statement_laws.specs.Operands as own
 use Rattle.statement_laws.specs.Reading.{bits, bytes_behind, in_bits, or_none}
 use Rattle.statement_laws.proofs.FlatLemmas.{flat_of}
@@ -124,7 +124,7 @@ bits_same (literal.Bytes bytes) = bytes_same 0 bytes
 
 -- a place in DB, by whether it has a number
 db_flat : (b : Bool) (n : ℕ) (w : Width) (byte bit : ℕ)
-    → flat_of (if b then fixed area.Db w byte bit else named.PlaceIn n w byte bit)
+    → flat_of (if b then fixed_place area.Db w byte bit else named.PlaceIn n w byte bit)
     ≡ flat.Direct area.Db w byte bit
 db_flat true n w byte bit = refl
 db_flat false n w byte bit = refl
@@ -145,7 +145,7 @@ opens_first (named.PlaceIn n w byte bit) = Some n
 opens_first _ = None
 
 db_opens : (b : Bool) (n : ℕ) (w : Width) (byte bit : ℕ)
-    → opens_first (if b then fixed area.Db w byte bit else named.PlaceIn n w byte bit)
+    → opens_first (if b then fixed_place area.Db w byte bit else named.PlaceIn n w byte bit)
     ≡ (if not b then Some n else None)
 db_opens true n w byte bit = refl
 db_opens false n w byte bit = refl
@@ -276,7 +276,7 @@ left_same None = refl
 left_same (Some a) = ap Some (letters_same a)
 
 pub direct_named : (a : Letters) (w : Width) (byte bit : ℕ)
-    → view_named None (address 0 a w byte bit) ≡ Some (fixed (own.area_of a) w byte bit)
+    → view_named None (address 0 a w byte bit) ≡ Some (fixed_place (own.area_of a) w byte bit)
 direct_named letters.I w byte bit = refl
 direct_named letters.Q w byte bit = refl
 direct_named letters.M w byte bit = refl

@@ -44,21 +44,21 @@ use Rattle.stl_types.specs.declared.views.ResolvedOperand.{ResolvedOperand}
 use Rattle.stl_types.specs.declared.views.ResolvedOperand.TheVariants as view
 use Rattle.statement_laws.specs.Named.{Named}
 use Rattle.statement_laws.specs.Named as named
-use Rattle.statement_laws.specs.Operands.{block_named, block_number, cell_width, component_named, declared, fixed, has_result, is_fc, laid_out, named_by, number_in, parameter_named, place_at, pointer_bits, variable_by, variable_named, with_instance}
+use Rattle.statement_laws.specs.Operands.{block_named, block_number, cell_width, component_named, components_of_block, fixed_place, has_result, is_fc, place_in_layout, named_by, number_in, parameter_named, place_at, pointer_bits, variable_by, variable_named, with_instance}
 use Rattle.statement_laws.specs.Operands as own
 use Rattle.statement_laws.proofs.SeenLemmas.{about, block_same, carry, direct_named, in_block_same, left_same, letters_same, number_in_same, number_known, opened_named, pointer_same, register_same, resolved_same, symbol_same, view_named}
 
 -- ---- places
 
 area_same : (kind : Simple) (o : Option (Place × Width)) (v : ResolvedOperand) (x : Named)
-    → in_area kind o ≡ Resolved v → laid_out o ≡ Some x → view_named None v ≡ Some x
+    → in_area kind o ≡ Resolved v → place_in_layout o ≡ Some x → view_named None v ≡ Some x
 area_same kind None v x e n = absurd cc
 area_same kind (Some p) v x e n =
     carry None (view.Direct p.0 p.1 side.Both (Some kind)) v (place_at p.0 p.1) x refl e n
 
 -- a place that lies within its arrays
 inside : (b : Bool) (o : Option (Place × Width)) (x : Named)
-    → laid_out (if b then None else o) ≡ Some x → laid_out o ≡ Some x
+    → place_in_layout (if b then None else o) ≡ Some x → place_in_layout o ≡ Some x
 inside true o x n = absurd cc
 inside false o x n = n
 
@@ -72,14 +72,14 @@ judged c temporary false end v e = absurd cc
 -- ---- temporary variables
 
 temporary_at : (c : Context) (spot : ComponentAt) (o : Option Simple) (v : ResolvedOperand) (x : Named)
-    → own_at c true spot o ≡ Resolved v → laid_out (placed area.L 0 spot.offset o) ≡ Some x
+    → own_at c true spot o ≡ Resolved v → place_in_layout (placed area.L 0 spot.offset o) ≡ Some x
     → view_named None v ≡ Some x
 temporary_at c spot None v x e n = absurd cc
 temporary_at c spot (Some kind) v x e n =
     area_same kind (placed area.L 0 spot.offset (Some kind)) v x e n
 
 temporary_walked : (c : Context) (end : PathEnd) (v : ResolvedOperand) (x : Named)
-    → own_walked c true end ≡ Resolved v → laid_out (reached c.layouts area.L 0 end) ≡ Some x
+    → own_walked c true end ≡ Resolved v → place_in_layout (reached c.layouts area.L 0 end) ≡ Some x
     → view_named None v ≡ Some x
 temporary_walked c (walk.Reaches spot) v x e n =
     temporary_at c spot (elementary_at c.layouts spot) v x e n
@@ -90,7 +90,7 @@ temporary_walked c walk.Rests v x e n = absurd cc
 
 static_at : (c : Context) (spot : ComponentAt) (o : Option Simple) (v : ResolvedOperand) (x : Named)
     → in_function c ≡ false → own_at c false spot o ≡ Resolved v
-    → laid_out (placed area.Di 0 spot.offset o) ≡ Some x → view_named None v ≡ Some x
+    → place_in_layout (placed area.Di 0 spot.offset o) ≡ Some x → view_named None v ≡ Some x
 static_at c spot None v x f e n = absurd cc
 static_at c spot (Some kind) v x f e n =
     area_same kind (placed area.Di 0 spot.offset (Some kind)) v x
@@ -99,7 +99,7 @@ static_at c spot (Some kind) v x f e n =
 
 static_walked : (c : Context) (end : PathEnd) (v : ResolvedOperand) (x : Named)
     → in_function c ≡ false → own_walked c false end ≡ Resolved v
-    → laid_out (reached c.layouts area.Di 0 end) ≡ Some x → view_named None v ≡ Some x
+    → place_in_layout (reached c.layouts area.Di 0 end) ≡ Some x → view_named None v ≡ Some x
 static_walked c (walk.Reaches spot) v x f e n =
     static_at c spot (elementary_at c.layouts spot) v x f e n
 static_walked c walk.Unknown v x f e n = absurd cc
@@ -123,25 +123,25 @@ index_same count place (Some b) = by b.result place
 
 parameter_kind : (c : Context) (at : ℕ) (cell : Cell) (kind : Option Simple) (v : ResolvedOperand)
     (x : Named) (spot : ComponentAt) → spot.place ≡ at → in_function c ≡ true
-    → slice_get (declared c) at ≡ Some cell → own_at c false spot kind ≡ Resolved v
+    → slice_get (components_of_block c) at ≡ Some cell → own_at c false spot kind ≡ Resolved v
     → option_map (λ width. named.Parameter
-        (own.parameter_index (has_result (slice_get c.blocks c.block)) (length (declared c)) at) width)
+        (own.parameter_index (has_result (slice_get c.blocks c.block)) (length (components_of_block c)) at) width)
     (option_map width_of kind) ≡ Some x
     → view_named None v ≡ Some x
 parameter_kind c at cell None v x spot p f there e n = absurd cc
 parameter_kind c at cell (Some kind) v x spot p f there e n =
-    carry None (view.Parameter (variables.parameter_index (length (declared c)) at (slice_get c.blocks c.block)) cell.section kind)
+    carry None (view.Parameter (variables.parameter_index (length (components_of_block c)) at (slice_get c.blocks c.block)) cell.section kind)
     v
     (named.Parameter
-        (own.parameter_index (has_result (slice_get c.blocks c.block)) (length (declared c)) at)
+        (own.parameter_index (has_result (slice_get c.blocks c.block)) (length (components_of_block c)) at)
         (width_of kind)) x
     (ap (λ k. Some (named.Parameter k (width_of kind)))
-        (index_same (length (declared c)) at (slice_get c.blocks c.block)))
+        (index_same (length (components_of_block c)) at (slice_get c.blocks c.block)))
     (sym (ap (λ (b : Bool). if b then parameter_at c spot kind
             else in_area kind (placed area.Di 0 spot.offset (Some kind))) f
         ∙ ap₂ (λ index found. variables.parameter index kind found)
-        (ap (λ k. variables.parameter_index (length (declared c)) k (slice_get c.blocks c.block)) p)
-        (ap (slice_get (declared c)) p ∙ there)) ∙ e)
+        (ap (λ k. variables.parameter_index (length (components_of_block c)) k (slice_get c.blocks c.block)) p)
+        (ap (slice_get (components_of_block c)) p ∙ there)) ∙ e)
     n
 
 width_same : (b : Bool) (kind : Option Simple)
@@ -151,7 +151,7 @@ width_same false kind = refl
 
 -- the cell at the place of a parameter
 cell_found : (c : Context) (m : Member) (offset : ℕ) (sound : Bool) (cell : Cell) (v : ResolvedOperand)
-    (x : Named) → in_function c ≡ true → slice_get (declared c) (0 + m.place) ≡ Some cell
+    (x : Named) → in_function c ≡ true → slice_get (components_of_block c) (0 + m.place) ≡ Some cell
     → own_walked c false (if sound then walk.Reaches (record {
           block = c.block;
           temporary = false;
@@ -183,14 +183,14 @@ cell_found c m offset true cell v x f there e n =
     named_by_width : Option Width → Option Named
     named_by_width o = option_map
         (λ width. named.Parameter
-            (own.parameter_index (has_result (slice_get c.blocks c.block)) (length (declared c)) m.place) width)
+            (own.parameter_index (has_result (slice_get c.blocks c.block)) (length (components_of_block c)) m.place) width)
         o
 
-    at_place : slice_get (declared c) m.place ≡ Some cell
-    at_place = ap (slice_get (declared c)) (sym (zero-add m.place)) ∙ there
+    at_place : slice_get (components_of_block c) m.place ≡ Some cell
+    at_place = ap (slice_get (components_of_block c)) (sym (zero-add m.place)) ∙ there
 
 parameter_found : (c : Context) (m : Member) (offset : ℕ) (o : Option Cell) (v : ResolvedOperand)
-    (x : Named) → in_function c ≡ true → slice_get (declared c) (0 + m.place) ≡ o
+    (x : Named) → in_function c ≡ true → slice_get (components_of_block c) (0 + m.place) ≡ o
     → own_walked c false
     (paths.goes_on (paths.entered c.block false (0 + m.place) offset o) (λ spot. walk.Reaches spot))
     ≡ Resolved v
@@ -208,7 +208,7 @@ parameter_found c m offset (Some cell) v x f there e n =
 
 parameter_same : (c : Context) (name : List ℕ) (steps : List PathStep) (m : Member)
     (v : ResolvedOperand) (x : Named) → in_function c ≡ true
-    → component 0 0 0 name (declared c) ≡ Some m
+    → component 0 0 0 name (components_of_block c) ≡ Some m
     → own_walked c false
     (paths.goes_on (outermost c.layouts c.block false 0 name) (λ spot. walked c.layouts spot steps))
     ≡ Resolved v
@@ -216,9 +216,9 @@ parameter_same : (c : Context) (name : List ℕ) (steps : List PathStep) (m : Me
 unfolding outermost
 parameter_same c name (s ∷ ss) m v x f there e n = absurd cc
 parameter_same c name [] m v x f there e n =
-    parameter_found c m _ (slice_get (declared c) (0 + m.place)) v x f refl
+    parameter_found c m _ (slice_get (components_of_block c) (0 + m.place)) v x f refl
     (sym (ap (λ o. own_walked c false
-            (paths.goes_on (paths.found_at (declared c) c.block false 0 0 o) (λ spot. walk.Reaches spot)))
+            (paths.goes_on (paths.found_at (components_of_block c) c.block false 0 0 o) (λ spot. walk.Reaches spot)))
         there) ∙ e)
     n
 
@@ -229,7 +229,7 @@ function_same None = refl
 function_same (Some b) = refl
 
 local_found : (c : Context) (name : List ℕ) (steps : List PathStep) (m : Option Member)
-    (v : ResolvedOperand) (x : Named) → component 0 0 0 name (declared c) ≡ m
+    (v : ResolvedOperand) (x : Named) → component 0 0 0 name (components_of_block c) ≡ m
     → own_walked c (not (is_some m))
     (if is_some (whole_at c.layouts c.block)
     then paths.goes_on
@@ -257,7 +257,7 @@ local_found c name steps (Some m) v x there e n = by (is_fc (slice_get c.blocks 
 
     by : (fc : Bool) → is_fc (slice_get c.blocks c.block) ≡ fc
         → (if fc then parameter_named c m.place steps
-            else laid_out (variable c.layouts area.Di c.block false (step.Named name ∷ steps))) ≡ Some x
+            else place_in_layout (variable c.layouts area.Di c.block false (step.Named name ∷ steps))) ≡ Some x
         → view_named None v ≡ Some x
     by true f h =
         parameter_same c name steps m v x
@@ -274,20 +274,20 @@ local_same : (c : Context) (name : List ℕ) (steps : List PathStep) (v : Resolv
     → view_named None v ≡ Some x
 unfolding walked_local
 local_same c name steps v x e n =
-    local_found c name steps (component 0 0 0 name (declared c)) v x refl e n
+    local_found c name steps (component 0 0 0 name (components_of_block c)) v x refl e n
 
 -- ---- components of data blocks
 
 data_spot : (c : Context) (number : ℕ) (spot : ComponentAt) (o : Option Simple) (v : ResolvedOperand)
     (x : Named) → data_at c number spot o ≡ Resolved v
-    → laid_out (placed area.Db number spot.offset o) ≡ Some x → view_named None v ≡ Some x
+    → place_in_layout (placed area.Db number spot.offset o) ≡ Some x → view_named None v ≡ Some x
 data_spot c number spot None v x e n = absurd cc
 data_spot c number spot (Some kind) v x e n =
     area_same kind (placed area.Db number spot.offset (Some kind)) v x e n
 
 data_end : (c : Context) (number : ℕ) (end : PathEnd) (v : ResolvedOperand) (x : Named)
     → data_walked c number end ≡ Resolved v
-    → laid_out (reached c.layouts area.Db number end) ≡ Some x → view_named None v ≡ Some x
+    → place_in_layout (reached c.layouts area.Db number end) ≡ Some x → view_named None v ≡ Some x
 data_end c number (walk.Reaches spot) v x e n =
     data_spot c number spot (elementary_at c.layouts spot) v x e n
 data_end c number walk.Unknown v x e n = absurd cc
@@ -297,13 +297,13 @@ data_end c number walk.Rests v x e n = absurd cc
 data_placed : (c : Context) (id : BlockId) (steps : List PathStep) (number place : ℕ)
     (v : ResolvedOperand) (x : Named) → number ≡ id.number
     → data_walked c number (walked_data c.layouts place steps) ≡ Resolved v
-    → laid_out (option_and_then (offsets.offset_in c.layouts id section.Global steps)
+    → place_in_layout (option_and_then (offsets.offset_in c.layouts id section.Global steps)
         (if_whole c.layouts place)) ≡ Some x
     → view_named None v ≡ Some x
 data_placed c id steps number place v x is e n = by (is_some (whole_at c.layouts place)) n
   where
     in_db : (db : Bool)
-        → laid_out (if db then offsets.component c.layouts id.number place steps else None) ≡ Some x
+        → place_in_layout (if db then offsets.component c.layouts id.number place steps else None) ≡ Some x
         → view_named None v ≡ Some x
     in_db true h =
         data_end c id.number (walked_data c.layouts place steps) v x
@@ -313,7 +313,7 @@ data_placed c id steps number place v x is e n = by (is_some (whole_at c.layouts
     in_db false h = absurd cc
 
     by : (whole : Bool)
-        → laid_out (option_and_then (offsets.offset_in c.layouts id section.Global steps)
+        → place_in_layout (option_and_then (offsets.offset_in c.layouts id section.Global steps)
             (if whole then Some place else None)) ≡ Some x
         → view_named None v ≡ Some x
     by true h = in_db (is_data_block id.kind) h
@@ -323,7 +323,7 @@ data_known : (c : Context) (id : BlockId) (steps : List PathStep) (number place 
     (v : ResolvedOperand) (x : Named)
     → ((n : ℕ) → number ≡ Some n → n ≡ id.number)
     → data_path c steps number place ≡ Resolved v
-    → laid_out (option_and_then (offsets.offset_in c.layouts id section.Global steps)
+    → place_in_layout (option_and_then (offsets.offset_in c.layouts id section.Global steps)
         (option_and_then (if_whole c.layouts) place)) ≡ Some x
     → view_named None v ≡ Some x
 data_known c id steps (Some number) (Some place) v x is e n =
@@ -338,7 +338,7 @@ data_kind : (c : Context) (id : BlockId) (db : Bool) (steps : List PathStep) (nu
     → data_path c steps number
     (option_and_then (λ id. known_block id (map (λ b. b.id) c.layouts)) (if db then Some id else None))
     ≡ Resolved v
-    → laid_out (option_and_then (offsets.offset_in c.layouts id section.Global steps)
+    → place_in_layout (option_and_then (offsets.offset_in c.layouts id section.Global steps)
         (option_and_then (if_whole c.layouts) (known_block id (map (λ b. b.id) c.layouts)))) ≡ Some x
     → view_named None v ≡ Some x
 data_kind c id true steps number v x is e n =
@@ -352,7 +352,7 @@ data_named : (c : Context) (o : Option BlockId) (steps : List PathStep) (number 
     → data_path c steps number
     (option_and_then (λ id. known_block id (map (λ b. b.id) c.layouts)) (of_kind is_data_block o))
     ≡ Resolved v
-    → laid_out (option_and_then (λ id. offset_of c.layouts id section.Global steps) o) ≡ Some x
+    → place_in_layout (option_and_then (λ id. offset_of c.layouts id section.Global steps) o) ≡ Some x
     → view_named None v ≡ Some x
 unfolding offset_of
 data_named c None steps number v x is e n = absurd cc
@@ -368,7 +368,7 @@ component_same c name steps v x e n =
     (λ k there. ap (option_map (λ (id : BlockId). id.number)) (block_same c name)
         ∙ number_known c name k there)
     e
-    (ap (λ o. laid_out (option_and_then (λ id. offset_of c.layouts id section.Global steps) o))
+    (ap (λ o. place_in_layout (option_and_then (λ id. offset_of c.layouts id section.Global steps) o))
         (block_same c name) ∙ n)
 
 -- ---- called blocks
@@ -416,7 +416,7 @@ pub view_same : (c : Context) (o : Operand) (v : ResolvedOperand) (x : Named)
 unfolding seen named_by
 view_same c operand.Nothing v x e n = carry None view.Nothing v named.Nothing x refl e n
 view_same c (operand.Direct None a w byte bit) v x e n =
-    carry None (address 0 a w byte bit) v (fixed (own.area_of a) w byte bit) x
+    carry None (address 0 a w byte bit) v (fixed_place (own.area_of a) w byte bit) x
     (direct_named a w byte bit) e n
 view_same c (operand.Direct (Some name) a w byte bit) v x e n =
     in_block_same c name a w byte bit v x (data_number c name) refl e n

@@ -39,7 +39,7 @@ use Rattle.statement_laws.specs.Jumps.{rlo_set, standing_at}
 use Rattle.statement_laws.specs.Named.{Named}
 use Rattle.statement_laws.specs.Named as named
 use Rattle.statement_laws.specs.Operands.{has_result, named_by}
-use Rattle.statement_laws.specs.Reading.{at, bits, fixed, no_place, number_of}
+use Rattle.statement_laws.specs.Reading.{at, bits, fixed_place, no_place, number_at_bound}
 
 -- ---- parameters by their names
 
@@ -110,44 +110,44 @@ if_passable (named.PlaceIn block w byte bit) = Some (named.PlaceIn block w byte 
 if_passable (named.Parameter index w) = Some (named.Parameter index w)
 if_passable _ = None
 
-abbrev pub passed_by : Context → Option Actual → Option Named
-passed_by c None = None
-passed_by c (Some a) = option_and_then if_passable (named_by c a.value)
+abbrev pub named_in_call : Context → Option Actual → Option Named
+named_in_call c None = None
+named_in_call c (Some a) = option_and_then if_passable (named_by c a.value)
 
 -- ---- what it stands for
 
 -- a place is bound where it exists: 22 and 23, in the peripheral area 42 and 43
-abbrev pub bound_if : Access → Bound → Option ℕ → Result Binding ℕ
-bound_if access b None = Err (no_place access b.place.area)
-bound_if access b (Some n) = Ok (binding.Bound b.place b.width b.frame)
+abbrev pub binding_if : Access → Bound → Option ℕ → Result Binding ℕ
+binding_if access b None = Err (no_place access b.place.area)
+binding_if access b (Some n) = Ok (binding.Bound b.place b.width b.frame)
 
-abbrev pub bound_at : Access → Bound → Parts → Result Binding ℕ
-bound_at access b p = bound_if access b (number_of b.place.area b p)
+abbrev pub binding_at : Access → Bound → Parts → Result Binding ℕ
+binding_at access b p = binding_if access b (number_at_bound b.place.area b p)
 
 -- what a parameter of the caller stands for
-abbrev pub passed_on : Option Binding → Result Binding ℕ
-passed_on (Some b) = Ok b
-passed_on None = Err 0
+abbrev pub binding_passed_on : Option Binding → Result Binding ℕ
+binding_passed_on (Some b) = Ok b
+binding_passed_on None = Err 0
 
 -- a constant by its value, a place as it is at the call; a place in a data block that is named opens
 -- nothing: 3A where the block isn't loaded
-unfoldable pub bound : Access → Named → Parts → Result Binding ℕ
-bound access (named.Constant value) p = Ok (binding.Constant (bits value))
-bound access (named.Place (named.Fixed a w byte bit)) p =
-    then_ok (fixed access a w byte bit p) (λ b. bound_at access b p)
-bound access (named.PlaceIn block w byte bit) p =
-    if is_loaded block p then bound_at access (at area.Db block byte bit w 0) p else Err 0x3A
-bound access (named.Parameter index w) p = passed_on (slice_get p.own.inner.bindings index)
-bound access _ p = Err 0
+unfoldable pub binding_of : Access → Named → Parts → Result Binding ℕ
+binding_of access (named.Constant value) p = Ok (binding.Constant (bits value))
+binding_of access (named.Place (named.Fixed a w byte bit)) p =
+    then_ok (fixed_place access a w byte bit p) (λ b. binding_at access b p)
+binding_of access (named.PlaceIn block w byte bit) p =
+    if is_loaded block p then binding_at access (at area.Db block byte bit w 0) p else Err 0x3A
+binding_of access (named.Parameter index w) p = binding_passed_on (slice_get p.own.inner.bindings index)
+binding_of access _ p = Err 0
 
 -- of the sections OUT alone is tested as written
 abbrev pub access_of : Param → Access
 access_of param = if nat_eq param.section section_out then Writing else Reading
 
 -- for the parameter of an index; no block has another one
-abbrev pub bound_for : Option Param → Named → Parts → Result Binding ℕ
-bound_for (Some param) x p = bound (access_of param) x p
-bound_for None x p = Err 0
+abbrev pub binding_for : Option Param → Named → Parts → Result Binding ℕ
+binding_for (Some param) x p = binding_of (access_of param) x p
+binding_for None x p = Err 0
 
 -- the parameter of an index stands for what is passed, if something is
 abbrev pub binds :
@@ -155,7 +155,7 @@ abbrev pub binds :
     → (List Binding → Result (List Binding) ℕ) → Result (List Binding) ℕ
 binds None param index bindings p next = next bindings
 binds (Some x) param index bindings p next =
-    then_ok (bound_for param x p) (λ b. next (set_at bindings index b))
+    then_ok (binding_for param x p) (λ b. next (set_at bindings index b))
 
 -- one after the other, by the order of the parameters; the first that can't be bound is the error
 abbrev pub bindings_from :
@@ -163,7 +163,7 @@ abbrev pub bindings_from :
     → Result (List Binding) ℕ
 bindings_from params c actuals index [] bindings p = Ok bindings
 bindings_from params c actuals index (name ∷ names) bindings p =
-    binds (passed_by c (actual_for name actuals)) (slice_get params index) index bindings p
+    binds (named_in_call c (actual_for name actuals)) (slice_get params index) index bindings p
     (λ more. bindings_from params c actuals (suc index) names more p)
 
 -- before, none is supplied

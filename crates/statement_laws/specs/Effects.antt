@@ -47,7 +47,7 @@ use Rattle.machine.specs.declared.places.Access.TheVariants.{Reading, Writing}
 use Rattle.machine.specs.declared.places.Bound.{Bound}
 use Rattle.statement_laws.specs.Named.{Named, Number, OpenBlock}
 use Rattle.statement_laws.specs.Named as named
-use Rattle.statement_laws.specs.Reading.{bit, bits, loaded, loaded_bcd, number, number_there, numbered, place, written}
+use Rattle.statement_laws.specs.Reading.{bcd_to_load, bit_of_operand, bits, number_of_item, number_of_operand, number_or_error, number_to_load, place_of_operand, with_number_at}
 
 -- ---- registers, and what the block holds
 
@@ -84,7 +84,7 @@ low_word p = (regs p).a1 % 2 ^ 16
 
 -- A AN O ON X XN: the bit is read and checked
 abbrev pub checks : Check → Named → Parts → Result Parts ℕ
-checks with x p = then_ok (bit x p) (λ b. on_regs (checked with b) p)
+checks with x p = then_ok (bit_of_operand x p) (λ b. on_regs (checked with b) p)
 
 -- O without operand: AND before OR
 abbrev pub checks_or : Named → Parts → Result Parts ℕ
@@ -115,15 +115,15 @@ number_of_bit b = if b then 1 else 0
 -- a bit is written, and the registers become these
 abbrev pub writes_bit : Bound → Bool → Regs → Parts → Result Parts ℕ
 writes_bit b value r p =
-    then_ok (written b (number_of_bit value) p) (λ q. Ok (with_regs r q))
+    then_ok (with_number_at b (number_of_bit value) p) (λ q. Ok (with_regs r q))
 
 -- the bit at a place that is to be written
 abbrev pub bit_there : Bound → Parts → Result Bool ℕ
-bit_there b p = then_ok (number_there Writing b p) (λ n. Ok (n == 1))
+bit_there b p = then_ok (number_or_error Writing b p) (λ n. Ok (n == 1))
 
 -- =: the RLO that the relay lets through
 abbrev pub assigns : Named → Parts → Result Parts ℕ
-assigns x p = then_ok (place Writing x p) (λ b. writes_bit b (flow p) (stored (flow p) (regs p)) p)
+assigns x p = then_ok (place_of_operand Writing x p) (λ b. writes_bit b (flow p) (stored (flow p) (regs p)) p)
 
 -- S (1) and R (0) of a bit: with RLO 1, and not while the relay is closed
 abbrev pub bit_after : (flow value before : Bool) → Bool
@@ -132,7 +132,7 @@ bit_after false value before = before
 
 abbrev pub sets_bit : (value : Bool) → Named → Parts → Result Parts ℕ
 sets_bit value x p =
-    then_ok (place Writing x p) (λ b.
+    then_ok (place_of_operand Writing x p) (λ b.
     then_ok (bit_there b p) (λ before.
     writes_bit b (bit_after (flow p) value before)
     (stored (bit_after (flow p) value before) (regs p)) p))
@@ -140,7 +140,7 @@ sets_bit value x p =
 -- FP and FN: the operand is the edge bit, which gets the RLO
 abbrev pub tells_edge : (rising : Bool) → Named → Parts → Result Parts ℕ
 tells_edge rising x p =
-    then_ok (place Writing x p) (λ b.
+    then_ok (place_of_operand Writing x p) (λ b.
     then_ok (bit_there b p) (λ before. writes_bit b (rlo p) (edged rising before (regs p)) p))
 
 -- ---- the master control relay
@@ -193,15 +193,15 @@ open_fact named.DiNumber p = unwrap_or p.own.inner.di 0
 abbrev pub loads : Named → Parts → Result Parts ℕ
 loads named.StatusWord p = on_regs (with_loaded (number_of (shown (regs p).status))) p
 loads (named.Opened what) p = on_regs (with_loaded (open_fact what p)) p
-loads x p = then_ok (loaded x p) (λ n. on_regs (with_loaded n) p)
+loads x p = then_ok (number_to_load x p) (λ n. on_regs (with_loaded n) p)
 
 -- LC
 abbrev pub loads_bcd : Named → Parts → Result Parts ℕ
-loads_bcd x p = then_ok (loaded_bcd x p) (λ n. on_regs (with_loaded n) p)
+loads_bcd x p = then_ok (bcd_to_load x p) (λ n. on_regs (with_loaded n) p)
 
 -- the lowest bits of a number go to a place, as many as it has
 abbrev pub puts : ℕ → Named → Parts → Result Parts ℕ
-puts n x p = then_ok (place Writing x p) (λ b. written b (n % 2 ^ bit_count b.width) p)
+puts n x p = then_ok (place_of_operand Writing x p) (λ b. with_number_at b (n % 2 ^ bit_count b.width) p)
 
 -- T: accumulator 1, and 0 while the relay is closed
 abbrev pub transfers : Named → Parts → Result Parts ℕ
@@ -217,16 +217,16 @@ abbrev pub with_ar2 : ℕ → Parts → Parts
 with_ar2 n p = with_regs (record (regs p) { ar2 = n }) p
 
 -- LAR1 and LAR2: accumulator 1, or the operand
-abbrev pub address_loaded : Named → Parts → Result ℕ ℕ
-address_loaded named.Nothing p = Ok (regs p).a1
-address_loaded x p = number x p
+abbrev pub address_to_load : Named → Parts → Result ℕ ℕ
+address_to_load named.Nothing p = Ok (regs p).a1
+address_to_load x p = number_of_operand x p
 
 abbrev pub loads_ar1 : Named → Parts → Result Parts ℕ
 loads_ar1 named.SecondRegister p = Ok (with_ar1 (regs p).ar2 p)
-loads_ar1 x p = then_ok (address_loaded x p) (λ n. Ok (with_ar1 n p))
+loads_ar1 x p = then_ok (address_to_load x p) (λ n. Ok (with_ar1 n p))
 
 abbrev pub loads_ar2 : Named → Parts → Result Parts ℕ
-loads_ar2 x p = then_ok (address_loaded x p) (λ n. Ok (with_ar2 n p))
+loads_ar2 x p = then_ok (address_to_load x p) (λ n. Ok (with_ar2 n p))
 
 -- TAR1 and TAR2: to accumulator 1, whose contents go to accumulator 2, or to the operand
 abbrev pub puts_address : ℕ → Named → Parts → Result Parts ℕ
@@ -294,13 +294,13 @@ or_error code (Err BadBcd) = Err 0x21
 -- an instruction on a timer, on a counter; it may find a digit above 9
 abbrev pub on_timer : (timers.Timer → Option timers.Timer) → Number → Parts → Result Parts ℕ
 on_timer f n p =
-    then_ok (numbered n p) (λ which.
+    then_ok (number_of_item n p) (λ which.
     then_ok (or_error 0x26 (change f p.timers which)) (λ all.
     on_regs string_ended (record p { timers = all })))
 
 abbrev pub on_counter : (counters.Counter → Option counters.Counter) → Number → Parts → Result Parts ℕ
 on_counter f n p =
-    then_ok (numbered n p) (λ which.
+    then_ok (number_of_item n p) (λ which.
     then_ok (or_error 0x27 (change f p.counters which)) (λ all.
     on_regs string_ended (record p { counters = all })))
 
@@ -348,7 +348,7 @@ opens_number di n p = if is_loaded n p then Ok (with_open di n p) else Err 0x3A
 
 -- OPN
 abbrev pub opens : Named → Parts → Result Parts ℕ
-opens (named.DataBlock di n) p = then_ok (numbered n p) (λ which. opens_number di which p)
+opens (named.DataBlock di n) p = then_ok (number_of_item n p) (λ which. opens_number di which p)
 opens x p = Err 0
 
 -- CDB

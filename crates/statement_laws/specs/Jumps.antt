@@ -104,13 +104,13 @@ jumps m target next a w =
 
 -- where JL goes on that is the statement of a number: at the jump behind it that the lowest byte of
 -- accumulator 1 counts from 0, and past the last one, before the label, at the label
-abbrev pub listed : (n target : ℕ) → Regs → ℕ
-listed n target r =
+abbrev pub list_target : (n target : ℕ) → Regs → ℕ
+list_target n target r =
     if nat_lt (r.a1 % 2 ^ 8) (target - suc n) then suc n + r.a1 % 2 ^ 8 else target
 
 -- JL changes no register
 abbrev pub jumps_by_list : (n target : ℕ) → Activation → World → Step
-jumps_by_list n target a w = Went (standing_at (listed n target a.running.regs) a.running.regs a) w
+jumps_by_list n target a w = Went (standing_at (list_target n target a.running.regs) a.running.regs a) w
 
 -- ---- ends of a block
 

@@ -1,5 +1,5 @@
 -- What the laws say, by families of instructions.
-use Rattle.std.specs.Prelude.{◌≡◌, ℕ, Bool, true, false, is_some, List, ◌∷◌, ◌++◌, ◌+◌, length, slice_get, Option, Some, None, Result}
+use Rattle.std.specs.Prelude.{◌≡◌, ℕ, Bool, true, false, not, ◌||◌, is_some, List, ◌∷◌, ◌++◌, ◌+◌, length, slice_get, Option, Some, None, Result}
 use Rattle.std.specs.List.{AllByRecursion}
 use Rattle.plc_base.specs.declared.blocks.BlockId.{BlockId}
 use Rattle.stl_ast.specs.Statements.{is_empty}
@@ -334,3 +334,20 @@ pub record IsNumbered (c : Context) (b : Block) : Type 0 where
 
 abbrev pub StatementsAreNumbered : Type 0
 StatementsAreNumbered = (c : Context) (b : Block) → IsNumbered c b
+
+-- ---- all statements
+
+abbrev pub is_jump_list : Mnemonic → Bool
+is_jump_list code.Jl = true
+is_jump_list _ = false
+
+-- the families together
+abbrev pub is_in_family : Mnemonic → Bool
+is_in_family m =
+    is_bit_logic m || is_load_or_transfer m || is_number_instruction m || is_comparison m || is_shift m
+    || is_timing m || is_relay m || is_data_block m || is_idle m || is_plain_jump m || is_jump_list m
+    || is_end m || is_call m
+
+-- each mnemonic but that of the empty statement is in a family
+abbrev pub FamiliesAreAll : Type 0
+FamiliesAreAll = (m : Mnemonic) → is_in_family m ≡ not (is_empty m)

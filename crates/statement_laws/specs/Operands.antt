@@ -50,19 +50,19 @@ area_of letters.Pi = area.P
 area_of letters.Pq = area.P
 
 -- a fixed place
-abbrev pub fixed : Area → Width → (byte bit : ℕ) → Named
-fixed a width byte bit = named.Place (named.Fixed a width byte bit)
+abbrev pub fixed_place : Area → Width → (byte bit : ℕ) → Named
+fixed_place a width byte bit = named.Place (named.Fixed a width byte bit)
 
 -- a place in DB with the number of a data block lies in that block; no block has the number 0
 abbrev pub place_in_db : (number : ℕ) → Width → (byte bit : ℕ) → Named
 place_in_db number width byte bit =
-    if nat_eq number 0 then fixed area.Db width byte bit
+    if nat_eq number 0 then fixed_place area.Db width byte bit
     else named.PlaceIn number width byte bit
 
 -- a place by its parts, of which the number counts in DB alone
 abbrev pub place_by : Area → (number : ℕ) → Width → (byte bit : ℕ) → Named
 place_by area.Db number width byte bit = place_in_db number width byte bit
-place_by a number width byte bit = fixed a width byte bit
+place_by a number width byte bit = fixed_place a width byte bit
 
 -- the same of a place as symbols and layouts have it
 abbrev pub place_at : Place → Width → Named
@@ -103,8 +103,8 @@ with_instance _ _ = None
 -- ---- variables
 
 -- a place that the layout gives
-abbrev pub laid_out : Option (Place × Width) → Option Named
-laid_out found = option_map (λ p. place_at p.0 p.1) found
+abbrev pub place_in_layout : Option (Place × Width) → Option Named
+place_in_layout found = option_map (λ p. place_at p.0 p.1) found
 
 -- the parameters of a function by their index in a call: as the text has them, but the return value,
 -- which is the first of the components, is the last
@@ -129,34 +129,34 @@ cell_width (Some cell) =
     if nat_eq 0 (length cell.bounds) then option_map width_of (plain_kind cell.of) else None
 
 -- the components that the block with the statement declares, but for its temporary variables
-abbrev pub declared : Context → List Cell
-declared c = cells_at c.layouts c.block false
+abbrev pub components_of_block : Context → List Cell
+components_of_block c = cells_at c.layouts c.block false
 
 -- a parameter of a function, by its place among the components; it has no components
 abbrev pub parameter_named : Context → (place : ℕ) → List PathStep → Option Named
 parameter_named c place [] =
     option_map
     (λ width. named.Parameter
-        (parameter_index (has_result (slice_get c.blocks c.block)) (length (declared c)) place) width)
-    (cell_width (slice_get (declared c) place))
+        (parameter_index (has_result (slice_get c.blocks c.block)) (length (components_of_block c)) place) width)
+    (cell_width (slice_get (components_of_block c) place))
 parameter_named c place (s ∷ ss) = None
 
 -- a variable of the block: what isn't temporary is a parameter in a function, and in a function block it
 -- lies in the data block of the DI register; temporary variables lie in the local bytes
 abbrev pub variable_by : Context → List ℕ → List PathStep → Option Member → Option Named
 variable_by c name steps None =
-    laid_out (variable c.layouts area.L c.block true (step.Named name ∷ steps))
+    place_in_layout (variable c.layouts area.L c.block true (step.Named name ∷ steps))
 variable_by c name steps (Some m) =
     if is_fc (slice_get c.blocks c.block) then parameter_named c m.place steps
-    else laid_out (variable c.layouts area.Di c.block false (step.Named name ∷ steps))
+    else place_in_layout (variable c.layouts area.Di c.block false (step.Named name ∷ steps))
 
 abbrev pub variable_named : Context → List ℕ → List PathStep → Option Named
-variable_named c name steps = variable_by c name steps (component 0 0 0 name (declared c))
+variable_named c name steps = variable_by c name steps (component 0 0 0 name (components_of_block c))
 
 -- a component of a data block
 abbrev pub component_named : Context → BlockName → List PathStep → Option Named
 component_named c name steps =
-    laid_out
+    place_in_layout
     (option_and_then (λ id. offset_of c.layouts id section.Global steps) (block_named c name))
 
 -- ---- words
@@ -202,7 +202,7 @@ pointer_bits (Some a) byte bit = pointer_area a + 8 * byte + bit
 -- what an operand names in a block; none where a name isn't there
 unfoldable pub named_by : Context → Operand → Option Named
 named_by c operand.Nothing = Some named.Nothing
-named_by c (operand.Direct None a width byte bit) = Some (fixed (area_of a) width byte bit)
+named_by c (operand.Direct None a width byte bit) = Some (fixed_place (area_of a) width byte bit)
 named_by c (operand.Direct (Some name) a width byte bit) =
     option_map (λ number. place_by (area_of a) number width byte bit) (block_number c name)
 named_by c (operand.Timer number) = Some (named.Timer (named.Written number))

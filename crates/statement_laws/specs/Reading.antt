@@ -72,17 +72,17 @@ at a number byte bit width frame = record {
 }
 
 -- a place in the data block that a register has open; the error of a register with none
-abbrev pub in_open : Option ℕ → (error byte bit : ℕ) → Width → Result Bound ℕ
-in_open None error byte bit width = Err error
-in_open (Some number) error byte bit width = Ok (at area.Db number byte bit width 0)
+abbrev pub place_in_open_block : Option ℕ → (error byte bit : ℕ) → Width → Result Bound ℕ
+place_in_open_block None error byte bit width = Err error
+place_in_open_block (Some number) error byte bit width = Ok (at area.Db number byte bit width 0)
 
 -- where a byte or bit of an area lies: in DB and DI in the open data block, where none is open 32 and
 -- 33; in L in the local bytes of the innermost frame; else in memory
-unfoldable pub lying : Area → (byte bit : ℕ) → Width → Parts → Result Bound ℕ
-lying area.Db byte bit width p = in_open p.own.inner.db 0x32 byte bit width
-lying area.Di byte bit width p = in_open p.own.inner.di 0x33 byte bit width
-lying area.L byte bit width p = Ok (at area.L 0 byte bit width (length p.own.locals.starts - 1))
-lying a byte bit width p = Ok (at a 0 byte bit width 0)
+unfoldable pub place_in_area : Area → (byte bit : ℕ) → Width → Parts → Result Bound ℕ
+place_in_area area.Db byte bit width p = place_in_open_block p.own.inner.db 0x32 byte bit width
+place_in_area area.Di byte bit width p = place_in_open_block p.own.inner.di 0x33 byte bit width
+place_in_area area.L byte bit width p = Ok (at area.L 0 byte bit width (length p.own.locals.starts - 1))
+place_in_area a byte bit width p = Ok (at a 0 byte bit width 0)
 
 -- no such place: 22 where it is read, 23 where it is written; in the peripheral area 42 and 43
 abbrev pub no_place : Access → Area → ℕ
@@ -92,20 +92,20 @@ no_place Writing area.P = 0x43
 no_place Writing _ = 0x23
 
 -- the number at a place, in local bytes or in memory
-abbrev pub number_of : Area → Bound → Parts → Option ℕ
-number_of area.L b p = local_number p.own.locals b.frame b.place.byte b.place.bit b.width
-number_of _ b p = number_at p.memory b.place b.width
+abbrev pub number_at_bound : Area → Bound → Parts → Option ℕ
+number_at_bound area.L b p = local_number p.own.locals b.frame b.place.byte b.place.bit b.width
+number_at_bound _ b p = number_at p.memory b.place b.width
 
 -- the same, or the error of a place that isn't there
-abbrev pub number_there : Access → Bound → Parts → Result ℕ ℕ
-number_there access b p = ok_or (number_of b.place.area b p) (no_place access b.place.area)
+abbrev pub number_or_error : Access → Bound → Parts → Result ℕ ℕ
+number_or_error access b p = ok_or (number_at_bound b.place.area b p) (no_place access b.place.area)
 
 -- ---- pointers
 
 -- what stands in a word or a double word at a byte of an area
-abbrev pub standing : Area → (byte : ℕ) → Width → Parts → Result ℕ ℕ
-standing from byte width p =
-    then_ok (lying from byte 0 width p) (λ b. number_there Reading b p)
+abbrev pub stored_number : Area → (byte : ℕ) → Width → Parts → Result ℕ ℕ
+stored_number from byte width p =
+    then_ok (place_in_area from byte 0 width p) (λ b. number_or_error Reading b p)
 
 -- the byte of a pointer in bits 3 to 18, its bit in bits 0 to 2
 abbrev pub byte_of : ℕ → ℕ
@@ -130,9 +130,9 @@ bad_area Reading = 0x24
 bad_area Writing = 0x25
 
 -- where a pointer leads in an area
-unfoldable pub pointed : Access → Area → Width → (pointer : ℕ) → Parts → Result Bound ℕ
-pointed access a width pointer p =
-    if is_whole width pointer then lying a (byte_of pointer) (bit_of pointer) width p
+unfoldable pub place_of_pointer : Access → Area → Width → (pointer : ℕ) → Parts → Result Bound ℕ
+place_of_pointer access a width pointer p =
+    if is_whole width pointer then place_in_area a (byte_of pointer) (bit_of pointer) width p
     else Err (bad_bit access)
 
 -- the peripheral area has no bit operands
@@ -141,9 +141,9 @@ is_peripheral_bit area.P widths.Bit = true
 is_peripheral_bit a width = false
 
 -- a place of an area that the operand or a pointer names
-unfoldable pub fixed : Access → Area → Width → (byte bit : ℕ) → Parts → Result Bound ℕ
-fixed access a width byte bit p =
-    if is_peripheral_bit a width then Err (bad_area access) else lying a byte bit width p
+unfoldable pub fixed_place : Access → Area → Width → (byte bit : ℕ) → Parts → Result Bound ℕ
+fixed_place access a width byte bit p =
+    if is_peripheral_bit a width then Err (bad_area access) else place_in_area a byte bit width p
 
 -- the area of an address; none, too, where its bit 31 is 0
 abbrev pub area_of : (address : ℕ) → Option Area
@@ -153,10 +153,10 @@ area_of address = option_map (λ place. place.area) (place_of address)
 abbrev pub in_area_of : Access → Option Area → Width → (pointer : ℕ) → Parts → Result Bound ℕ
 in_area_of access None width pointer p = Err (bad_area access)
 in_area_of access (Some a) width pointer p =
-    fixed access a width (byte_of pointer) (bit_of pointer) p
+    fixed_place access a width (byte_of pointer) (bit_of pointer) p
 
-unfoldable pub crossing : Access → Width → (address pointer : ℕ) → Parts → Result Bound ℕ
-crossing access width address pointer p =
+unfoldable pub place_of_crossing : Access → Width → (address pointer : ℕ) → Parts → Result Bound ℕ
+place_of_crossing access width address pointer p =
     if is_whole width pointer then in_area_of access (area_of address) width pointer p
     else Err (bad_bit access)
 
@@ -165,83 +165,83 @@ abbrev pub address_in : (register : ℕ) → Parts → ℕ
 address_in register p = if register == 1 then p.own.regs.ar1 else p.own.regs.ar2
 
 -- an address so many bits further on, in bits 0 to 18
-abbrev pub further : (address count : ℕ) → ℕ
-further address count = (address % 2 ^ 19 + count % 2 ^ 19) % 2 ^ 19
+abbrev pub address_moved : (address count : ℕ) → ℕ
+address_moved address count = (address % 2 ^ 19 + count % 2 ^ 19) % 2 ^ 19
 
 -- ---- the place of an operand
 
-unfoldable pub found : Access → Spot → Parts → Result Bound ℕ
-found access (named.Fixed a width byte bit) p = fixed access a width byte bit p
-found access (named.ByMemory a width from byte) p =
-    then_ok (standing from byte widths.Dword p) (λ pointer. pointed access a width pointer p)
-found access (named.ByRegister (Some a) width register count) p =
-    pointed access a width (further (address_in register p) count) p
-found access (named.ByRegister None width register count) p =
-    crossing access width (address_in register p) (further (address_in register p) count) p
+unfoldable pub place_of_spot : Access → Spot → Parts → Result Bound ℕ
+place_of_spot access (named.Fixed a width byte bit) p = fixed_place access a width byte bit p
+place_of_spot access (named.ByMemory a width from byte) p =
+    then_ok (stored_number from byte widths.Dword p) (λ pointer. place_of_pointer access a width pointer p)
+place_of_spot access (named.ByRegister (Some a) width register count) p =
+    place_of_pointer access a width (address_moved (address_in register p) count) p
+place_of_spot access (named.ByRegister None width register count) p =
+    place_of_crossing access width (address_in register p) (address_moved (address_in register p) count) p
 
 -- the place that a parameter stands for
-abbrev pub bound_place : Option Binding → Result Bound ℕ
-bound_place (Some (binding.Bound place width frame)) =
+abbrev pub place_of_binding : Option Binding → Result Bound ℕ
+place_of_binding (Some (binding.Bound place width frame)) =
     Ok (record { place = place; width = width; frame = frame })
-bound_place _ = Err 0
+place_of_binding _ = Err 0
 
 -- the place of what an operand names
-unfoldable pub place : Access → Named → Parts → Result Bound ℕ
-place access (named.Place spot) p = found access spot p
-place access (named.Parameter index width) p = bound_place (slice_get p.own.inner.bindings index)
-place access _ p = Err 0
+unfoldable pub place_of_operand : Access → Named → Parts → Result Bound ℕ
+place_of_operand access (named.Place spot) p = place_of_spot access spot p
+place_of_operand access (named.Parameter index width) p = place_of_binding (slice_get p.own.inner.bindings index)
+place_of_operand access _ p = Err 0
 
 -- ---- numbers and bits
 
 -- the number that a parameter stands for
-abbrev pub bound_number : Option Binding → Parts → Result ℕ ℕ
-bound_number (Some (binding.Bound place width frame)) p =
-    number_there Reading (record { place = place; width = width; frame = frame }) p
-bound_number (Some (binding.Constant value)) p = Ok value
-bound_number _ p = Err 0
+abbrev pub number_of_binding : Option Binding → Parts → Result ℕ ℕ
+number_of_binding (Some (binding.Bound place width frame)) p =
+    number_or_error Reading (record { place = place; width = width; frame = frame }) p
+number_of_binding (Some (binding.Constant value)) p = Ok value
+number_of_binding _ p = Err 0
 
 -- the number of a timer, counter or data block
-unfoldable pub numbered : Number → Parts → Result ℕ ℕ
-numbered (named.Written number) p = Ok number
-numbered (named.InWord from byte) p = standing from byte widths.Word p
+unfoldable pub number_of_item : Number → Parts → Result ℕ ℕ
+number_of_item (named.Written number) p = Ok number
+number_of_item (named.InWord from byte) p = stored_number from byte widths.Word p
 
 -- what is read of a timer; 26 where there is none of the number
 abbrev pub of_timer : {A : Type 0} → (Timer → A) → Number → Parts → Result A ℕ
 of_timer read n p =
-    then_ok (numbered n p) (λ number. ok_or (option_map read (slice_get p.timers number)) 0x26)
+    then_ok (number_of_item n p) (λ number. ok_or (option_map read (slice_get p.timers number)) 0x26)
 
 -- and of a counter; 27
 abbrev pub of_counter : {A : Type 0} → (Counter → A) → Number → Parts → Result A ℕ
 of_counter read n p =
-    then_ok (numbered n p) (λ number. ok_or (option_map read (slice_get p.counters number)) 0x27)
+    then_ok (number_of_item n p) (λ number. ok_or (option_map read (slice_get p.counters number)) 0x27)
 
 -- the number at a place or of a constant
-unfoldable pub number : Named → Parts → Result ℕ ℕ
-number (named.Place spot) p = then_ok (found Reading spot p) (λ b. number_there Reading b p)
-number (named.Parameter index width) p = bound_number (slice_get p.own.inner.bindings index) p
-number (named.Constant value) p = Ok (bits value)
-number (named.Pointer value) p = Ok value
-number _ p = Err 0
+unfoldable pub number_of_operand : Named → Parts → Result ℕ ℕ
+number_of_operand (named.Place spot) p = then_ok (place_of_spot Reading spot p) (λ b. number_or_error Reading b p)
+number_of_operand (named.Parameter index width) p = number_of_binding (slice_get p.own.inner.bindings index) p
+number_of_operand (named.Constant value) p = Ok (bits value)
+number_of_operand (named.Pointer value) p = Ok value
+number_of_operand _ p = Err 0
 
 -- what L reads: of a timer the time left in units of its base, of a counter its value
-unfoldable pub loaded : Named → Parts → Result ℕ ℕ
-loaded (named.Timer n) p = of_timer units_left n p
-loaded (named.Counter n) p = of_counter (λ (counter : Counter). counter.value) n p
-loaded x p = number x p
+unfoldable pub number_to_load : Named → Parts → Result ℕ ℕ
+number_to_load (named.Timer n) p = of_timer units_left n p
+number_to_load (named.Counter n) p = of_counter (λ (counter : Counter). counter.value) n p
+number_to_load x p = number_of_operand x p
 
 -- what LC reads: the same in BCD
-unfoldable pub loaded_bcd : Named → Parts → Result ℕ ℕ
-loaded_bcd (named.Timer n) p = of_timer time_left n p
-loaded_bcd (named.Counter n) p = of_counter count_bcd n p
-loaded_bcd _ p = Err 0
+unfoldable pub bcd_to_load : Named → Parts → Result ℕ ℕ
+bcd_to_load (named.Timer n) p = of_timer time_left n p
+bcd_to_load (named.Counter n) p = of_counter count_bcd n p
+bcd_to_load _ p = Err 0
 
 -- the bit that a bit logic instruction reads: of a timer its output, of a counter whether its value is
 -- above 0
-unfoldable pub bit : Named → Parts → Result Bool ℕ
-bit (named.Timer n) p = of_timer (λ (timer : Timer). timer.output) n p
-bit (named.Counter n) p = of_counter is_counting n p
-bit (named.Condition flag) p = Ok (flag_value flag p.own.regs.status)
-bit x p = then_ok (number x p) (λ n. Ok (n == 1))
+unfoldable pub bit_of_operand : Named → Parts → Result Bool ℕ
+bit_of_operand (named.Timer n) p = of_timer (λ (timer : Timer). timer.output) n p
+bit_of_operand (named.Counter n) p = of_counter is_counting n p
+bit_of_operand (named.Condition flag) p = Ok (flag_value flag p.own.regs.status)
+bit_of_operand x p = then_ok (number_of_operand x p) (λ n. Ok (n == 1))
 
 -- ---- writing
 
@@ -260,5 +260,5 @@ written_in area.L b n p =
 written_in _ b n p =
     option_map (λ m. with_memory m p) (memory.written p.memory b.place b.width n)
 
-unfoldable pub written : Bound → ℕ → Parts → Result Parts ℕ
-written b n p = ok_or (written_in b.place.area b n p) (no_place Writing b.place.area)
+unfoldable pub with_number_at : Bound → ℕ → Parts → Result Parts ℕ
+with_number_at b n p = ok_or (written_in b.place.area b n p) (no_place Writing b.place.area)

@@ -1,5 +1,5 @@
 //! Laws of statements: each function does nothing, and its contract is the law.
-ghost use Rattle.statement_laws.specs.Laws.{BitLogicActs, CallsAct, ComparisonsAct, DataBlocksAct, EndsAct, IdleActs, JumpListsAct, LoadsAct, NumbersAct, OperandsAreNamed, PlainJumpsAct, RelayActs, ShiftsAct, StatementsAreNumbered, TimingActs};
+ghost use Rattle.statement_laws.specs.Laws.{BitLogicActs, CallsAct, ComparisonsAct, DataBlocksAct, EndsAct, FamiliesAreAll, IdleActs, JumpListsAct, LoadsAct, NumbersAct, OperandsAreNamed, PlainJumpsAct, RelayActs, ShiftsAct, StatementsAreNumbered, TimingActs};
 
 /// Whatever its instruction takes, an operand names something: a variable alone, whose place the layout
 /// tells, and a called block aren't claimed here.
@@ -82,4 +82,9 @@ pub fn calls_act()
 /// number that counts those before it, and of one that returns behind them.
 pub fn statements_are_numbered()
     ensures { StatementsAreNumbered }
+{}
+
+/// Each mnemonic but that of the empty statement is of one of the families that the laws speak of.
+pub fn families_are_all()
+    ensures { FamiliesAreAll }
 {}
