@@ -1,12 +1,10 @@
 -- Each operation of the code does with its operand what the mnemonic says with what is named.
-use Rattle.std.proofs.Common.{ℕ, ◌≡◌, ◌==◌, ◌%◌, ◌^◌, nat_lt, Bool, true, false, ◌&&◌, not, is_some, List, [], ◌∷◌, length, slice_get, Option, Some, None, unwrap_or, Result, Ok, Err, ok_or, option_map, if◌then◌else◌, refl, sym, ◌∙◌, ap, ap₂, subst}
+use Rattle.std.proofs.Common.{ℕ, ◌≡◌, ◌==◌, ◌%◌, ◌^◌, Bool, true, false, List, [], ◌∷◌, length, Option, Some, None, unwrap_or, Result, Ok, Err, ok_or, if◌then◌else◌, refl, ◌∙◌, ap}
 use Rattle.std.specs.FinMap as map
 use Rattle.std.proofs.lemmas.Bool.{false≢true}
 use Rattle.plc_base.specs.declared.instructions.Check.{Check}
 use Rattle.plc_base.specs.declared.instructions.Check.TheVariants as check
 use Rattle.plc_base.specs.declared.instructions.TimerKind.{TimerKind}
-use Rattle.plc_base.specs.declared.places.Area.{Area}
-use Rattle.plc_base.specs.declared.places.Area.TheVariants as area
 use Rattle.plc_base.specs.declared.places.Width.TheVariants as widths
 use Rattle.plc_base.specs.Widths.{bit_count}
 use Rattle.plc_mem.specs.Areas.{Areas}
@@ -27,16 +25,13 @@ use Rattle.timers_counters.specs.declared.faults.TimerFault.TheVariants.{BadBcd,
 use Rattle.frames.specs.Relay.{zone_ended, zone_opened}
 use Rattle.flat_code.specs.Placed.{is_empty}
 use Rattle.flat_code.specs.declared.operands.Operand.{Operand}
-use Rattle.flat_code.specs.declared.operands.Operand.TheVariants as flat
 use Rattle.flat_code.specs.declared.operations.Adding.TheVariants as adding
 use Rattle.flat_code.specs.declared.operations.Logic.{Logic}
-use Rattle.flat_code.specs.declared.operations.Number.{Number as NumberOperation}
 use Rattle.flat_code.specs.declared.operations.Operation.{Operation}
 use Rattle.flat_code.specs.declared.operations.Operation.TheVariants as operation
 use Rattle.flat_code.specs.declared.operations.PointerOperation.TheVariants as pointers
 use Rattle.flat_code.specs.declared.operations.RelayOperation.TheVariants as relay
 use Rattle.flat_code.specs.declared.operations.Shift.{Shift}
-use Rattle.stl_ast.specs.declared.literals.Literal.{Literal}
 use Rattle.stl_ast.specs.declared.literals.Literal.TheVariants as literal
 use Rattle.machine.specs.BitLogic as bit_logic
 use Rattle.machine.specs.DataBlocks as data_blocks
@@ -50,13 +45,13 @@ use Rattle.machine.specs.Pointers as pointer
 use Rattle.machine.specs.Relay as zones
 use Rattle.machine.specs.Timing as timing
 use Rattle.machine.specs.Values as values
-use Rattle.machine.specs.declared.places.Access.TheVariants.{Reading, Writing}
+use Rattle.machine.specs.declared.places.Access.TheVariants.{Writing}
 use Rattle.machine.specs.declared.places.Bound.{Bound}
 use Rattle.statement_laws.specs.Effects as own
 use Rattle.statement_laws.specs.Named.{Named, Number, OpenBlock, Spot}
 use Rattle.statement_laws.specs.Named as named
 use Rattle.statement_laws.specs.Reading as reading
-use Rattle.statement_laws.proofs.FlatLemmas.{bcd_same, flat_block, flat_number, flat_of, flat_spot, is_read, loaded_same, number_same, numbered_same, place_same, tested_same}
+use Rattle.statement_laws.proofs.FlatLemmas.{bcd_same, flat_number, flat_of, flat_spot, is_read, loaded_same, number_same, numbered_same, place_same, tested_same}
 use Rattle.statement_laws.proofs.PlaceLemmas.{standing_same, then_same, there_same, written_same}
 
 -- ---- results
@@ -105,7 +100,7 @@ unfolding does.does nesting.nesting
 nest_same with o p =
     own_if p (length p.own.inner.brackets == 7)
     (nesting.with_brackets (entry_of with p.own.regs ∷ p.own.inner.brackets)
-        (record p.own { regs = begun p.own.regs }))
+    (record p.own { regs = begun p.own.regs }))
 
 pub unnest_same : (o : Operand) (p : Parts)
     → does.does operation.Unnest o p ≡ own.closes_bracket p
@@ -183,17 +178,17 @@ bit_set_same : (value : Bool) (x : Named) (p : Parts) → is_written x ≡ true
 unfolding bit_logic.bit_set
 bit_set_same value x p e =
     let writes : Bound → Bool → Result Parts ℕ =
-        λ b bit. own.writes_bit b bit (stored bit p.own.regs) p in
+    λ b bit. own.writes_bit b bit (stored bit p.own.regs) p in
     seek_same x p
     (λ b. then_ok (bit_logic.bit_before b p.own p.memory)
-        (λ before. bit_logic.set_at value b before p.own p.memory))
+    (λ before. bit_logic.set_at value b before p.own p.memory))
     (λ b. then_ok (own.bit_there b p) (λ before. writes b (own.bit_after (own.flow p) value before)))
     e
     (λ b. before_same b p (λ before. bit_logic.set_at value b before p.own p.memory)
-        (λ before. writes b (own.bit_after (own.flow p) value before))
-        (λ before. put_same b (bit_logic.bit_after (own.flow p) value before)
-            (stored (bit_logic.bit_after (own.flow p) value before) p.own.regs) p
-            ∙ ap (writes b) (after_same (own.flow p) value before)))
+    (λ before. writes b (own.bit_after (own.flow p) value before))
+    (λ before. put_same b (bit_logic.bit_after (own.flow p) value before)
+    (stored (bit_logic.bit_after (own.flow p) value before) p.own.regs) p
+    ∙ ap (writes b) (after_same (own.flow p) value before)))
 
 pub edge_same : (rising : Bool) (x : Named) (p : Parts) → is_written x ≡ true
     → does.does (operation.Edge rising) (flat_of x) p ≡ own.tells_edge rising x p
@@ -201,12 +196,12 @@ unfolding does.does bit_logic.edge
 edge_same rising x p e =
     seek_same x p
     (λ b. then_ok (bit_logic.bit_before b p.own p.memory)
-        (λ before. bit_logic.edge_at rising b before p.own p.memory))
+    (λ before. bit_logic.edge_at rising b before p.own p.memory))
     (λ b. then_ok (own.bit_there b p)
-        (λ before. own.writes_bit b (own.rlo p) (edged rising before p.own.regs) p)) e
+    (λ before. own.writes_bit b (own.rlo p) (edged rising before p.own.regs) p)) e
     (λ b. before_same b p (λ before. bit_logic.edge_at rising b before p.own p.memory)
-        (λ before. own.writes_bit b (own.rlo p) (edged rising before p.own.regs) p)
-        (λ before. put_same b (own.rlo p) (edged rising before p.own.regs) p))
+    (λ before. own.writes_bit b (own.rlo p) (edged rising before p.own.regs) p)
+    (λ before. put_same b (own.rlo p) (edged rising before p.own.regs) p))
 
 -- ---- timers and counters
 
@@ -218,7 +213,7 @@ error_same code (Err BadBcd) = refl
 
 timer_same : (f : Timer → Option Timer) (n : Number) (p : Parts)
     → does.on_timers p (then_ok (values.number_named (flat_number 1 n) p.own p.memory)
-        (λ which. values.faulty 0x26 (change f p.timers which)))
+    (λ which. values.faulty 0x26 (change f p.timers which)))
     ≡ own.on_timer f n p
 timer_same f n p =
     ap (λ z. does.on_timers p (then_ok z (λ which. values.faulty 0x26 (change f p.timers which))))
@@ -235,13 +230,13 @@ timer_same f n p =
     by : (z : Result ℕ ℕ)
         → does.on_timers p (then_ok z (λ which. values.faulty 0x26 (change f p.timers which)))
         ≡ then_ok z (λ which. then_ok (own.or_error 0x26 (change f p.timers which))
-            (λ all. own.on_regs own.string_ended (record p { timers = all })))
+        (λ all. own.on_regs own.string_ended (record p { timers = all })))
     by (Ok which) = changed (change f p.timers which)
     by (Err e) = refl
 
 counter_same : (f : Counter → Option Counter) (n : Number) (p : Parts)
     → does.on_counters p (then_ok (values.number_named (flat_number 2 n) p.own p.memory)
-        (λ which. values.faulty 0x27 (change f p.counters which)))
+    (λ which. values.faulty 0x27 (change f p.counters which)))
     ≡ own.on_counter f n p
 counter_same f n p =
     ap (λ z. does.on_counters p (then_ok z (λ which. values.faulty 0x27 (change f p.counters which))))
@@ -258,7 +253,7 @@ counter_same f n p =
     by : (z : Result ℕ ℕ)
         → does.on_counters p (then_ok z (λ which. values.faulty 0x27 (change f p.counters which)))
         ≡ then_ok z (λ which. then_ok (own.or_error 0x27 (change f p.counters which))
-            (λ all. own.on_regs own.string_ended (record p { counters = all })))
+        (λ all. own.on_regs own.string_ended (record p { counters = all })))
     by (Ok which) = changed (change f p.counters which)
     by (Err e) = refl
 
@@ -368,7 +363,7 @@ end_zone_same o p = by p.own.inner.relay.zones
   where
     by : (open_zones : List Bool)
         → does.on_own p (if is_empty open_zones then Err 0
-            else Ok (zones.with_zones (zone_ended p.own.inner.relay) p.own))
+        else Ok (zones.with_zones (zone_ended p.own.inner.relay) p.own))
         ≡ own.ends_zone_of open_zones p
     by [] = refl
     by (value ∷ around) = refl
@@ -483,7 +478,7 @@ address_same _ p e = absurd (false≢true e)
 -- with another address in AR1, in AR2
 address_to : (f : ℕ → Regs) (x : Named) (p : Parts) → is_address x ≡ true
     → does.on_scene p (then_ok (pointer.address_loaded (flat_of x) p.own p.memory)
-        (λ n. Ok (pointer.regs_set (f n) p.own p.memory)))
+    (λ n. Ok (pointer.regs_set (f n) p.own p.memory)))
     ≡ then_ok (own.address_to_load x p) (λ n. Ok (own.with_regs (f n) p))
 address_to f x p e =
     scene_then p (pointer.address_loaded (flat_of x) p.own p.memory)
@@ -684,10 +679,10 @@ logic_same what w f x p e h =
 pub shift_same : (what : Shift) (f : ℕ → Regs → Regs) (x : Named) (p : Parts)
     → is_count x ≡ true
     → ((o : Operand) → numbers.shifted what o p.own.regs
-        ≡ f (unwrap_or (numbers.constant 8 o) (p.own.regs.a2 % 2 ^ 8)) p.own.regs)
+    ≡ f (unwrap_or (numbers.constant 8 o) (p.own.regs.a2 % 2 ^ 8)) p.own.regs)
     → does.does (operation.Shift what) (flat_of x) p ≡ own.on_regs (f (own.places x p)) p
 unfolding does.does
 shift_same what f x p e h =
     ap (λ r. Ok (own.with_regs r p))
     (h (flat_of x)
-        ∙ ap (λ k. f (unwrap_or k (p.own.regs.a2 % 2 ^ 8)) p.own.regs) (constant_same 8 x e))
+    ∙ ap (λ k. f (unwrap_or k (p.own.regs.a2 % 2 ^ 8)) p.own.regs) (constant_same 8 x e))

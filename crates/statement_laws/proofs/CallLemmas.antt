@@ -1,5 +1,5 @@
 -- A call enters its block with each parameter bound to what is passed for its name.
-use Rattle.std.proofs.Common.{ℕ, zero, suc, ◌≡◌, ◌+◌, nat_eq, Bool, true, false, is_some, not, List, [], ◌∷◌, ◌++◌, map, length, replicate, take, drop, codes, slice_get, find, flat_map, Option, Some, None, Result, Ok, Err, bytes_eq, if◌then◌else◌, refl, sym, ◌∙◌, ap, ap₂, subst}
+use Rattle.std.proofs.Common.{ℕ, suc, ◌≡◌, nat_eq, Bool, true, false, is_some, not, List, [], ◌∷◌, ◌++◌, map, length, replicate, codes, slice_get, find, flat_map, Option, Some, None, Result, Ok, Err, bytes_eq, if◌then◌else◌, refl, sym, ◌∙◌, ap, ap₂}
 use Rattle.std.specs.List.{AllByRecursion, list_all}
 use Rattle.std.specs.Option.{option_map, option_and_then}
 use Rattle.std.proofs.lemmas.Bool.{false≢true}
@@ -16,7 +16,6 @@ use Rattle.frames.specs.declared.Activation.{Activation}
 use Rattle.frames.specs.declared.bindings.Binding.{Binding}
 use Rattle.frames.specs.declared.bindings.Binding.TheVariants as binding
 use Rattle.flat_code.specs.Instr.{Calls, Passing}
-use Rattle.flat_code.specs.Records.{section_out}
 use Rattle.flat_code.specs.declared.operands.Passed.{Passed}
 use Rattle.flat_code.specs.declared.operands.Passed.TheVariants as passed
 use Rattle.flat_code.specs.declared.operations.CallOperation.{CallOperation}
@@ -36,44 +35,38 @@ use Rattle.stl_ast.specs.declared.operands.Numbered.TheVariants as numbered
 use Rattle.stl_ast.specs.declared.operands.Operand.{Operand}
 use Rattle.stl_ast.specs.declared.operands.Operand.TheVariants as operand
 use Rattle.stl_ast.specs.declared.statements.Actual.{Actual}
-use Rattle.stl_ast.specs.declared.statements.Statement.{Statement}
 use Rattle.block_layout.specs.Blocks.{known_block, named_block}
 use Rattle.block_layout.specs.Paths.{cells_at, if_whole, whole_at}
-use Rattle.block_layout.specs.declared.blocks.BlockLayout.{BlockLayout}
 use Rattle.block_layout.specs.declared.cells.Cell.{Cell}
 use Rattle.block_layout.specs.declared.cells.Element.{Element}
 use Rattle.block_layout.specs.declared.cells.Element.TheVariants as element
 use Rattle.stl_types.specs.Context.{Context}
 use Rattle.stl_types.specs.Parameters.{Callee, callee_at, callee_by, callee_of, formal_here, dtime, formal_of, formals_of, is_sound_formal, mode, ob_nr, returns, sign, source_callee, system_callee, system_formals}
 use Rattle.stl_types.specs.Resolution.{seen}
-use Rattle.stl_types.specs.Resolved.{resolved}
 use Rattle.stl_types.specs.declared.parameters.Formal.{Formal}
-use Rattle.stl_types.specs.declared.views.Resolution.TheVariants.{Resolved}
 use Rattle.stl_types.specs.declared.views.Register.TheVariants as register
 use Rattle.stl_types.specs.declared.views.ResolvedOperand.{ResolvedOperand}
 use Rattle.stl_types.specs.declared.views.ResolvedOperand.TheVariants as view
 use Rattle.stl_codegen.specs.Instruction.{block_at, call_instr, in_order, instr_by, instruction, passings_to, resolved_instr, return_last, view_instr}
-use Rattle.stl_codegen.specs.Operands as codegen
 use Rattle.stl_codegen.specs.Operations.{call_of, jump_of}
-use Rattle.stl_codegen.specs.Passed.{passed_actual, passed_place, passed_seen, passed_view, passings_from, supplied, with_index}
+use Rattle.stl_codegen.specs.Passed.{passed_actual, passed_place, passed_seen, passed_view, passings_from, with_index}
 use Rattle.machine.specs.Bindings as bindings
 use Rattle.machine.specs.Code.{Code, Head}
 use Rattle.machine.specs.DataBlocks as data_blocks
 use Rattle.machine.specs.Entering as entering
-use Rattle.machine.specs.Parts.{Own, Parts, own_of, parts_of, then_ok}
+use Rattle.machine.specs.Parts.{Parts, own_of, parts_of, then_ok}
 use Rattle.machine.specs.Places as places
 use Rattle.machine.specs.Statement as machine
 use Rattle.machine.specs.Statement.{Step, Went, World, performed}
 use Rattle.machine.specs.SystemCalls as system
 use Rattle.machine.specs.declared.places.Access.{Access}
-use Rattle.machine.specs.declared.places.Access.TheVariants.{Reading, Writing}
 use Rattle.machine.specs.declared.places.Bound.{Bound}
 use Rattle.statement_laws.specs.Calls as own
 use Rattle.statement_laws.specs.Jumps.{rlo_set, standing_at}
 use Rattle.statement_laws.specs.Laws.{CallsAct, IsNamedActual, is_call}
 use Rattle.statement_laws.specs.Named.{Named}
 use Rattle.statement_laws.specs.Named as named
-use Rattle.statement_laws.specs.Operands.{block_named, block_number, fixed_place, has_result, named_by, place_at, place_by, with_instance}
+use Rattle.statement_laws.specs.Operands.{block_named, block_number, fixed_place, has_result, named_by, place_by, with_instance}
 use Rattle.statement_laws.specs.Reading as reading
 use Rattle.statement_laws.proofs.PlaceLemmas.{absent_same, fixed_same, of_area, then_same}
 use Rattle.statement_laws.proofs.SeenLemmas.{about, bits_same, block_same, resolved_parts, view_named}
@@ -264,7 +257,7 @@ one_same c params index (Some a) rest before p known =
     (actual_passed c a known)
     ∙ passing_same params index known.named rest before p
     ∙ ap (λ z. own.binds (option_and_then own.if_passable z) (slice_get params index) index before p
-        (λ more. bindings.bound_params params rest more p.own p.memory)) (sym known.names)
+    (λ more. bindings.bound_params params rest more p.own p.memory)) (sym known.names)
 
 binds_same : (o : Option Named) (param : Option Param) (index : ℕ) (before : List Binding) (p : Parts)
     (f g : List Binding → Result (List Binding) ℕ) → ((more : List Binding) → f more ≡ g more)
@@ -284,7 +277,7 @@ all_same c actuals params index [] before p h = refl
 all_same c actuals params index (f ∷ fs) before p h =
     let found = found_same c f.name actuals h in
     ap (λ o. bindings.bound_params params
-        (passed_actual c index o ++ passings_from c actuals (suc index) fs) before p.own p.memory) found.0
+    (passed_actual c index o ++ passings_from c actuals (suc index) fs) before p.own p.memory) found.0
     ∙ one_same c params index (own.actual_for f.name actuals) (passings_from c actuals (suc index) fs)
     before p found.1
     ∙ binds_same (own.named_in_call c (own.actual_for f.name actuals)) (slice_get params index) index before p
@@ -447,7 +440,7 @@ unfolding callee_of
 names_same c name db id instance callee names known =
     names_by c id (is_system_function id.kind) (is_function id.kind) (is_function_block id.kind) callee
     (sym (ap (λ o. option_and_then (λ (id : BlockId). callee_by c id id.kind) o)
-            (block_is c name db id instance names)) ∙ known)
+    (block_is c name db id instance names)) ∙ known)
 
 -- ---- the called block
 
@@ -479,7 +472,7 @@ called_view : (v : ResolvedOperand) (id : BlockId) (instance : Option ℕ)
 called_view (view.Called other number) id instance e = cc
 called_view (view.Direct place w side declared) id instance e =
     absurd (false≢true (sym (place_not_called place.area place.number w place.byte place.bit)
-        ∙ ap called_or e))
+    ∙ ap called_or e))
 called_view (view.NumberBy numbered.Timer from byte) id instance e = absurd cc
 called_view (view.NumberBy numbered.Counter from byte) id instance e = absurd cc
 called_view (view.NumberBy numbered.Db from byte) id instance e = absurd cc
@@ -520,7 +513,7 @@ unfolding entering.call
 block_entered None id instance passings bind next a w same = refl
 block_entered (Some h) id instance passings bind next a w same =
     ap (λ r. machine.after_call
-        (entering.called_with r (machine.callee_of id instance h) next a w.memory) next a w)
+    (entering.called_with r (machine.callee_of id instance h) next a w.memory) next a w)
     (same h.params)
 
 system_entered : (o : Option (List Param)) (n : ℕ) (passings : List Passing)
@@ -531,7 +524,7 @@ unfolding system.system_call
 system_entered None n passings bind next a w same = refl
 system_entered (Some params) n passings bind next a w same =
     ap (λ r. machine.after_system_call
-        (then_ok r (λ bound. Ok (system.given_now params bound a w.memory))) n next a)
+    (then_ok r (λ bound. Ok (system.given_now params bound a w.memory))) n next a)
     (same params)
 
 called_same : (program : Code) (id : BlockId) (instance : Option ℕ) (passings : List Passing)
@@ -560,16 +553,16 @@ unfolding instruction
 calls_act c body n s v name db id instance callee is o e names known actuals program next a w =
     ap (λ i. performed program i next a w)
     (ap (instr_by c body n s) same.no_jump ∙ ap (resolved_instr c s) e
-        ∙ ap (view_instr c s v) same.is ∙ ap (call_instr c s how) viewed
-        ∙ ap (λ z. Calls how id instance (passings_to c s z)) (ap (callee_of c) o ∙ known))
+    ∙ ap (view_instr c s v) same.is ∙ ap (call_instr c s how) viewed
+    ∙ ap (λ z. Calls how id instance (passings_to c s z)) (ap (callee_of c) o ∙ known))
     ∙ ap₂ (λ (made : Bool) (called : Step). if made then called
-        else Went (standing_at next (rlo_set (own.at_call a.running.regs)) a) w)
+    else Went (standing_at next (rlo_set (own.at_call a.running.regs)) a) w)
     (same.made a.running.regs.status.rlo)
     (called_same program id instance (passings_to c s (Some callee))
-        (own.bindings_of c s.actuals (own.parameter_names c id)) next a w
-        (λ params. all_bound c s.actuals (in_order (block_at c.blocks callee.place) callee.formals)
-            (own.parameter_names c id) params (parts_of a.running w.memory w.timers w.counters) actuals
-            (names_same c name db id instance callee names known)))
+    (own.bindings_of c s.actuals (own.parameter_names c id)) next a w
+    (λ params. all_bound c s.actuals (in_order (block_at c.blocks callee.place) callee.formals)
+    (own.parameter_names c id) params (parts_of a.running w.memory w.timers w.counters) actuals
+    (names_same c name db id instance callee names known)))
   where
     how : CallOperation
     how = (call_same s.code is).0
@@ -581,4 +574,4 @@ calls_act c body n s v name db id instance callee is o e names known actuals pro
     viewed =
         called_view v id instance
         (view_same c (operand.Called name db) v (named.Called id instance)
-            (sym (ap (seen c) o) ∙ (resolved_parts c s v e).1) names)
+        (sym (ap (seen c) o) ∙ (resolved_parts c s v e).1) names)

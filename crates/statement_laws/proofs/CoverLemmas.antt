@@ -1,5 +1,5 @@
 -- What an instruction takes is named.
-use Rattle.std.proofs.Common.{ℕ, ◌≡◌, Bool, true, false, is_some, List, Option, Some, None, if◌then◌else◌, refl, sym, ◌∙◌, ap}
+use Rattle.std.proofs.Common.{ℕ, ◌≡◌, Bool, true, is_some, Option, Some, None, refl, sym, ◌∙◌, ap}
 use Rattle.std.specs.Option.{option_map, option_and_then}
 use Rattle.std.proofs.lemmas.Bool.{false≢true}
 use Rattle.stl_ast.specs.declared.names.BlockName.{BlockName}
@@ -7,7 +7,6 @@ use Rattle.stl_ast.specs.declared.operands.Letters.{Letters}
 use Rattle.stl_ast.specs.declared.operands.Operand.{Operand}
 use Rattle.stl_ast.specs.declared.operands.Operand.TheVariants as operand
 use Rattle.stl_ast.specs.declared.operands.PathHead.TheVariants as head
-use Rattle.stl_ast.specs.declared.statements.Statement.{Statement}
 use Rattle.stl_symbols.specs.Symbol.{Symbol, symbol_named}
 use Rattle.stl_symbols.specs.declared.targets.Target.{Target}
 use Rattle.stl_symbols.specs.declared.targets.Target.TheVariants as target
@@ -88,18 +87,18 @@ in_block_there : (c : Context) (name : BlockName) (a : Letters) (w : Width) (byt
     → There (option_map (λ number. place_by (own.area_of a) number w byte bit) (block_number c name))
 in_block_there c name a w byte bit v None d e = absurd cc
 in_block_there c name a w byte bit v (Some number) d e = (
-    place_by (own.area_of a) number w byte bit,
-    ap (option_map (λ number. place_by (own.area_of a) number w byte bit)) (number_known c name number d),
-  )
+  place_by (own.area_of a) number w byte bit,
+  ap (option_map (λ number. place_by (own.area_of a) number w byte bit)) (number_known c name number d),
+)
 
 opened_there : (c : Context) (di : Bool) (name : BlockName) (v : ResolvedOperand) (o : Option ℕ)
     → data_number c name ≡ o → opened_seen di o ≡ Resolved v
     → There (option_map (λ number. named.DataBlock di (named.Written number)) (block_number c name))
 opened_there c di name v None d e = absurd cc
 opened_there c di name v (Some number) d e = (
-    named.DataBlock di (named.Written number),
-    ap (option_map (λ number. named.DataBlock di (named.Written number))) (number_known c name number d),
-  )
+  named.DataBlock di (named.Written number),
+  ap (option_map (λ number. named.DataBlock di (named.Written number))) (number_known c name number d),
+)
 
 named_there : (c : Context) (f : OperandRule) (o : Operand) (v : ResolvedOperand)
     → has_fixed_name o ≡ true → rule_by f (about o) v ≡ None → seen c o ≡ Resolved v

@@ -1,18 +1,15 @@
 -- Each family does what its mnemonics say.
-use Rattle.std.proofs.Common.{ℕ, ◌≡◌, ◌%◌, ◌^◌, Bool, true, false, List, Option, Some, None, unwrap_or, Result, Ok, Err, if◌then◌else◌, refl, sym, ◌∙◌, ap}
+use Rattle.std.proofs.Common.{ℕ, ◌≡◌, Bool, true, false, List, Some, None, Ok, Err, if◌then◌else◌, refl, ◌∙◌, ap}
 use Rattle.std.proofs.lemmas.Bool.{false≢true}
 use Rattle.plc_base.specs.declared.instructions.Check.TheVariants as check
-use Rattle.plc_base.specs.declared.instructions.Compare.TheVariants as compare
 use Rattle.plc_base.specs.declared.instructions.TimerKind.TheVariants as timer
 use Rattle.plc_base.specs.declared.places.Area.TheVariants as area
 use Rattle.alu.specs.Conversions as conversions
 use Rattle.alu.specs.Rotations as rotations
 use Rattle.alu.specs.Shifts as shifts
 use Rattle.alu.specs.WordLogic as word_logic
-use Rattle.flat_code.specs.Instr.{Does}
 use Rattle.flat_code.specs.declared.operations.Logic.TheVariants as logic
 use Rattle.flat_code.specs.declared.operations.Operation.{Operation}
-use Rattle.flat_code.specs.declared.operations.Operation.TheVariants as operation
 use Rattle.flat_code.specs.declared.operations.Shift.TheVariants as shift_word
 use Rattle.stl_ast.specs.declared.declarations.Simple.TheVariants as simple
 use Rattle.stl_ast.specs.declared.mnemonics.Mnemonic.{Mnemonic}
@@ -88,13 +85,13 @@ unfolding instruction
 acts c body n s v x e is h program next a w =
     ap (λ i. performed program i next a w)
     (ap (instr_by c body n s) acted.no_jump ∙ ap (resolved_instr c s) e
-        ∙ ap (view_instr c s v) acted.no_call ∙ ap (end_instr s v) acted.no_end)
+    ∙ ap (view_instr c s v) acted.no_call ∙ ap (end_instr s v) acted.no_end)
     ∙ ap (λ r. went_on r next a)
     (ap (λ k. does.does_with k (operation_for s.code s.operand v) (codegen.operand_of s.operand v) p)
-        (opened_first (about s.operand) v x there)
-        ∙ ap (λ o. does.does_with (opens_first x) (operation_for s.code s.operand v) o p)
-        (operand_flat s.operand v x there)
-        ∙ first_opened s.code (operation_for s.code s.operand v) x p acted.same)
+    (opened_first (about s.operand) v x there)
+    ∙ ap (λ o. does.does_with (opens_first x) (operation_for s.code s.operand v) o p)
+    (operand_flat s.operand v x there)
+    ∙ first_opened s.code (operation_for s.code s.operand v) x p acted.same)
   where
     p : Parts
     p = parts_of a.running w.memory w.timers w.counters
@@ -118,27 +115,27 @@ unfolding operation_for action form_of does.does
 bit_logic code.A o v x is g =
     acted code.A o v x refl refl refl
     (λ q. action_lemmas.checks_same check.A (as_open x) q
-        (holds flat_lemmas.is_read (about o) v x (rules.reads_bit (about o) v g.rule) g.there))
+    (holds flat_lemmas.is_read (about o) v x (rules.reads_bit (about o) v g.rule) g.there))
 bit_logic code.An o v x is g =
     acted code.An o v x refl refl refl
     (λ q. action_lemmas.checks_same check.An (as_open x) q
-        (holds flat_lemmas.is_read (about o) v x (rules.reads_bit (about o) v g.rule) g.there))
+    (holds flat_lemmas.is_read (about o) v x (rules.reads_bit (about o) v g.rule) g.there))
 bit_logic code.O o v x is g =
     acted code.O o v x refl refl refl
     (λ q. ap (λ op. does.does op (flat_of (as_open x)) q) (rules.or_named (about o) v x g.there)
-        ∙ action_lemmas.or_same (as_open x) q (holds flat_lemmas.is_read (about o) v x (rules.reads_bit_or_bare (about o) v g.rule) g.there))
+    ∙ action_lemmas.or_same (as_open x) q (holds flat_lemmas.is_read (about o) v x (rules.reads_bit_or_bare (about o) v g.rule) g.there))
 bit_logic code.On o v x is g =
     acted code.On o v x refl refl refl
     (λ q. action_lemmas.checks_same check.On (as_open x) q
-        (holds flat_lemmas.is_read (about o) v x (rules.reads_bit (about o) v g.rule) g.there))
+    (holds flat_lemmas.is_read (about o) v x (rules.reads_bit (about o) v g.rule) g.there))
 bit_logic code.X o v x is g =
     acted code.X o v x refl refl refl
     (λ q. action_lemmas.checks_same check.X (as_open x) q
-        (holds flat_lemmas.is_read (about o) v x (rules.reads_bit (about o) v g.rule) g.there))
+    (holds flat_lemmas.is_read (about o) v x (rules.reads_bit (about o) v g.rule) g.there))
 bit_logic code.Xn o v x is g =
     acted code.Xn o v x refl refl refl
     (λ q. action_lemmas.checks_same check.Xn (as_open x) q
-        (holds flat_lemmas.is_read (about o) v x (rules.reads_bit (about o) v g.rule) g.there))
+    (holds flat_lemmas.is_read (about o) v x (rules.reads_bit (about o) v g.rule) g.there))
 bit_logic code.AOpen o v x is g =
     acted code.AOpen o v x refl refl refl
     (λ q. action_lemmas.nest_same check.A (flat_of (as_open x)) q)
@@ -163,23 +160,23 @@ bit_logic code.Close o v x is g =
 bit_logic code.Assign o v x is g =
     acted code.Assign o v x refl refl refl
     (λ q. action_lemmas.assign_same (as_open x) q
-        (holds action_lemmas.is_written (about o) v x (rules.writes_bit (about o) v g.rule) g.there))
+    (holds action_lemmas.is_written (about o) v x (rules.writes_bit (about o) v g.rule) g.there))
 bit_logic code.S o v x is g =
     acted code.S o v x refl refl refl
     (λ q. action_lemmas.set_same (as_open x) q
-        (holds action_lemmas.is_set (about o) v x (rules.sets (about o) v g.rule) g.there))
+    (holds action_lemmas.is_set (about o) v x (rules.sets (about o) v g.rule) g.there))
 bit_logic code.R o v x is g =
     acted code.R o v x refl refl refl
     (λ q. action_lemmas.reset_same (as_open x) q
-        (holds action_lemmas.is_reset (about o) v x (rules.resets (about o) v g.rule) g.there))
+    (holds action_lemmas.is_reset (about o) v x (rules.resets (about o) v g.rule) g.there))
 bit_logic code.Fp o v x is g =
     acted code.Fp o v x refl refl refl
     (λ q. action_lemmas.edge_same true (as_open x) q
-        (holds action_lemmas.is_written (about o) v x (rules.writes_bit (about o) v g.rule) g.there))
+    (holds action_lemmas.is_written (about o) v x (rules.writes_bit (about o) v g.rule) g.there))
 bit_logic code.Fn o v x is g =
     acted code.Fn o v x refl refl refl
     (λ q. action_lemmas.edge_same false (as_open x) q
-        (holds action_lemmas.is_written (about o) v x (rules.writes_bit (about o) v g.rule) g.there))
+    (holds action_lemmas.is_written (about o) v x (rules.writes_bit (about o) v g.rule) g.there))
 bit_logic code.Set o v x is g =
     acted code.Set o v x refl refl refl
     (λ q. refl)
@@ -204,41 +201,41 @@ unfolding operation_for action form_of does.does pointer.pointed
 load_or_transfer code.L o v x is g =
     acted code.L o v x refl refl refl
     (λ q. ap (λ op. does.does op (flat_of (as_open x)) q) (rules.load_named (about o) v x g.there)
-        ∙ action_lemmas.load_same (as_open x) q (loads_all x))
+    ∙ action_lemmas.load_same (as_open x) q (loads_all x))
 load_or_transfer code.T o v x is g =
     acted code.T o v x refl refl refl
     (λ q. ap (λ op. does.does op (flat_of (as_open x)) q) (rules.transfer_named (about o) v x g.there)
-        ∙ action_lemmas.transfer_same (as_open x) q (holds action_lemmas.is_transferred (about o) v x (rules.transfers (about o) v g.rule) g.there))
+    ∙ action_lemmas.transfer_same (as_open x) q (holds action_lemmas.is_transferred (about o) v x (rules.transfers (about o) v g.rule) g.there))
 load_or_transfer code.Lc o v x is g =
     acted code.Lc o v x refl refl refl
     (λ q. action_lemmas.load_bcd_same (as_open x) q)
 load_or_transfer code.Lar1 o v x is g =
     acted code.Lar1 o v x refl refl refl
     (λ q. ap (λ op. does.does op (flat_of (as_open x)) q) (rules.load_address_named (about o) v x g.there)
-        ∙ action_lemmas.lar1_same (as_open x) q (holds action_lemmas.is_first_address (about o) v x (rules.loads_ar1 (about o) v g.rule) g.there))
+    ∙ action_lemmas.lar1_same (as_open x) q (holds action_lemmas.is_first_address (about o) v x (rules.loads_ar1 (about o) v g.rule) g.there))
 load_or_transfer code.Lar2 o v x is g =
     acted code.Lar2 o v x refl refl refl
     (λ q. action_lemmas.lar2_same (as_open x) q
-        (holds action_lemmas.is_address (about o) v x (rules.loads_ar2 (about o) v g.rule) g.there))
+    (holds action_lemmas.is_address (about o) v x (rules.loads_ar2 (about o) v g.rule) g.there))
 load_or_transfer code.Tar1 o v x is g =
     acted code.Tar1 o v x refl refl refl
     (λ q. ap (λ op. does.does op (flat_of (as_open x)) q) (rules.store_address_named (about o) v x g.there)
-        ∙ action_lemmas.tar1_same (as_open x) q (holds action_lemmas.is_first_address_place (about o) v x (rules.stores_ar1 (about o) v g.rule) g.there))
+    ∙ action_lemmas.tar1_same (as_open x) q (holds action_lemmas.is_first_address_place (about o) v x (rules.stores_ar1 (about o) v g.rule) g.there))
 load_or_transfer code.Tar2 o v x is g =
     acted code.Tar2 o v x refl refl refl
     (λ q. action_lemmas.tar2_same (as_open x) q
-        (holds action_lemmas.is_address_place (about o) v x (rules.stores_ar2 (about o) v g.rule) g.there))
+    (holds action_lemmas.is_address_place (about o) v x (rules.stores_ar2 (about o) v g.rule) g.there))
 load_or_transfer code.Car o v x is g =
     acted code.Car o v x refl refl refl
     (λ q. refl)
 load_or_transfer code.AddAr1 o v x is g =
     acted code.AddAr1 o v x refl refl refl
     (λ q. action_lemmas.add_ar1_same (as_open x) q
-        (holds action_lemmas.is_added_address (about o) v x (rules.adds_to_ar (about o) v g.rule) g.there))
+    (holds action_lemmas.is_added_address (about o) v x (rules.adds_to_ar (about o) v g.rule) g.there))
 load_or_transfer code.AddAr2 o v x is g =
     acted code.AddAr2 o v x refl refl refl
     (λ q. action_lemmas.add_ar2_same (as_open x) q
-        (holds action_lemmas.is_added_address (about o) v x (rules.adds_to_ar (about o) v g.rule) g.there))
+    (holds action_lemmas.is_added_address (about o) v x (rules.adds_to_ar (about o) v g.rule) g.there))
 load_or_transfer _ o v x is g = absurd (false≢true is)
 
 pub load_or_transfer_acts : LoadsAct
@@ -266,16 +263,16 @@ number_instruction code.Cad o v x is g =
 number_instruction code.Inc o v x is g =
     acted code.Inc o v x refl refl refl
     (λ q. action_lemmas.inc_same (as_open x) q
-        (holds action_lemmas.is_constant (about o) v x (rules.counts 255 (about o) v g.rule) g.there))
+    (holds action_lemmas.is_constant (about o) v x (rules.counts 255 (about o) v g.rule) g.there))
 number_instruction code.Dec o v x is g =
     acted code.Dec o v x refl refl refl
     (λ q. action_lemmas.dec_same (as_open x) q
-        (holds action_lemmas.is_constant (about o) v x (rules.counts 255 (about o) v g.rule) g.there))
+    (holds action_lemmas.is_constant (about o) v x (rules.counts 255 (about o) v g.rule) g.there))
 number_instruction code.Add o v x is g =
     acted code.Add o v x refl refl refl
     (λ q. ap (λ op. does.does op (flat_of (as_open x)) q) (rules.add_named o v x g.there)
-        ∙ action_lemmas.add_same (as_open x) q
-        (holds action_lemmas.is_constant (about o) v x (rules.adds (about o) v g.rule) g.there))
+    ∙ action_lemmas.add_same (as_open x) q
+    (holds action_lemmas.is_constant (about o) v x (rules.adds (about o) v g.rule) g.there))
 number_instruction code.AddI o v x is g =
     acted code.AddI o v x refl refl refl
     (λ q. refl)
@@ -333,33 +330,33 @@ number_instruction code.Negd o v x is g =
 number_instruction code.Aw o v x is g =
     acted code.Aw o v x refl refl refl
     (λ q. action_lemmas.logic_same logic.Aw 16 (word_logic.anded 16) (as_open x) q
-        (holds action_lemmas.is_count (about o) v x (rules.combines simple.Word (about o) v g.rule) g.there)
-        (λ k. refl))
+    (holds action_lemmas.is_count (about o) v x (rules.combines simple.Word (about o) v g.rule) g.there)
+    (λ k. refl))
 number_instruction code.Ow o v x is g =
     acted code.Ow o v x refl refl refl
     (λ q. action_lemmas.logic_same logic.Ow 16 (word_logic.ored 16) (as_open x) q
-        (holds action_lemmas.is_count (about o) v x (rules.combines simple.Word (about o) v g.rule) g.there)
-        (λ k. refl))
+    (holds action_lemmas.is_count (about o) v x (rules.combines simple.Word (about o) v g.rule) g.there)
+    (λ k. refl))
 number_instruction code.Xow o v x is g =
     acted code.Xow o v x refl refl refl
     (λ q. action_lemmas.logic_same logic.Xow 16 (word_logic.xored 16) (as_open x) q
-        (holds action_lemmas.is_count (about o) v x (rules.combines simple.Word (about o) v g.rule) g.there)
-        (λ k. refl))
+    (holds action_lemmas.is_count (about o) v x (rules.combines simple.Word (about o) v g.rule) g.there)
+    (λ k. refl))
 number_instruction code.Ad o v x is g =
     acted code.Ad o v x refl refl refl
     (λ q. action_lemmas.logic_same logic.Ad 32 (word_logic.anded 32) (as_open x) q
-        (holds action_lemmas.is_count (about o) v x (rules.combines simple.Dword (about o) v g.rule) g.there)
-        (λ k. refl))
+    (holds action_lemmas.is_count (about o) v x (rules.combines simple.Dword (about o) v g.rule) g.there)
+    (λ k. refl))
 number_instruction code.Od o v x is g =
     acted code.Od o v x refl refl refl
     (λ q. action_lemmas.logic_same logic.Od 32 (word_logic.ored 32) (as_open x) q
-        (holds action_lemmas.is_count (about o) v x (rules.combines simple.Dword (about o) v g.rule) g.there)
-        (λ k. refl))
+    (holds action_lemmas.is_count (about o) v x (rules.combines simple.Dword (about o) v g.rule) g.there)
+    (λ k. refl))
 number_instruction code.Xod o v x is g =
     acted code.Xod o v x refl refl refl
     (λ q. action_lemmas.logic_same logic.Xod 32 (word_logic.xored 32) (as_open x) q
-        (holds action_lemmas.is_count (about o) v x (rules.combines simple.Dword (about o) v g.rule) g.there)
-        (λ k. refl))
+    (holds action_lemmas.is_count (about o) v x (rules.combines simple.Dword (about o) v g.rule) g.there)
+    (λ k. refl))
 number_instruction _ o v x is g = absurd (false≢true is)
 
 pub number_instruction_acts : NumbersAct
@@ -417,43 +414,43 @@ unfolding operation_for action form_of does.does numbers.counted numbers.shifted
 shift code.Ssi o v x is g =
     acted code.Ssi o v x refl refl refl
     (λ q. action_lemmas.shift_same shift_word.Ssi (shifts.shifted_signed 16) (as_open x) q
-        (holds action_lemmas.is_count (about o) v x (rules.shifts 15 (about o) v g.rule) g.there)
-        (λ k. refl))
+    (holds action_lemmas.is_count (about o) v x (rules.shifts 15 (about o) v g.rule) g.there)
+    (λ k. refl))
 shift code.Ssd o v x is g =
     acted code.Ssd o v x refl refl refl
     (λ q. action_lemmas.shift_same shift_word.Ssd (shifts.shifted_signed 32) (as_open x) q
-        (holds action_lemmas.is_count (about o) v x (rules.shifts 32 (about o) v g.rule) g.there)
-        (λ k. refl))
+    (holds action_lemmas.is_count (about o) v x (rules.shifts 32 (about o) v g.rule) g.there)
+    (λ k. refl))
 shift code.Slw o v x is g =
     acted code.Slw o v x refl refl refl
     (λ q. action_lemmas.shift_same shift_word.Slw (shifts.shifted_left 16) (as_open x) q
-        (holds action_lemmas.is_count (about o) v x (rules.shifts 15 (about o) v g.rule) g.there)
-        (λ k. refl))
+    (holds action_lemmas.is_count (about o) v x (rules.shifts 15 (about o) v g.rule) g.there)
+    (λ k. refl))
 shift code.Srw o v x is g =
     acted code.Srw o v x refl refl refl
     (λ q. action_lemmas.shift_same shift_word.Srw (shifts.shifted_right 16) (as_open x) q
-        (holds action_lemmas.is_count (about o) v x (rules.shifts 15 (about o) v g.rule) g.there)
-        (λ k. refl))
+    (holds action_lemmas.is_count (about o) v x (rules.shifts 15 (about o) v g.rule) g.there)
+    (λ k. refl))
 shift code.Sld o v x is g =
     acted code.Sld o v x refl refl refl
     (λ q. action_lemmas.shift_same shift_word.Sld (shifts.shifted_left 32) (as_open x) q
-        (holds action_lemmas.is_count (about o) v x (rules.shifts 32 (about o) v g.rule) g.there)
-        (λ k. refl))
+    (holds action_lemmas.is_count (about o) v x (rules.shifts 32 (about o) v g.rule) g.there)
+    (λ k. refl))
 shift code.Srd o v x is g =
     acted code.Srd o v x refl refl refl
     (λ q. action_lemmas.shift_same shift_word.Srd (shifts.shifted_right 32) (as_open x) q
-        (holds action_lemmas.is_count (about o) v x (rules.shifts 32 (about o) v g.rule) g.there)
-        (λ k. refl))
+    (holds action_lemmas.is_count (about o) v x (rules.shifts 32 (about o) v g.rule) g.there)
+    (λ k. refl))
 shift code.Rld o v x is g =
     acted code.Rld o v x refl refl refl
     (λ q. action_lemmas.shift_same shift_word.Rld rotations.rotated_left (as_open x) q
-        (holds action_lemmas.is_count (about o) v x (rules.shifts 32 (about o) v g.rule) g.there)
-        (λ k. refl))
+    (holds action_lemmas.is_count (about o) v x (rules.shifts 32 (about o) v g.rule) g.there)
+    (λ k. refl))
 shift code.Rrd o v x is g =
     acted code.Rrd o v x refl refl refl
     (λ q. action_lemmas.shift_same shift_word.Rrd rotations.rotated_right (as_open x) q
-        (holds action_lemmas.is_count (about o) v x (rules.shifts 32 (about o) v g.rule) g.there)
-        (λ k. refl))
+    (holds action_lemmas.is_count (about o) v x (rules.shifts 32 (about o) v g.rule) g.there)
+    (λ k. refl))
 shift code.Rlda o v x is g =
     acted code.Rlda o v x refl refl refl
     (λ q. refl)
@@ -472,35 +469,35 @@ unfolding operation_for action form_of
 timing code.Sp o v x is g =
     acted code.Sp o v x refl refl refl
     (λ q. action_lemmas.start_same timer.Sp (as_open x) q
-        (holds action_lemmas.is_timer (about o) v x (rules.starts_timer (about o) v g.rule) g.there))
+    (holds action_lemmas.is_timer (about o) v x (rules.starts_timer (about o) v g.rule) g.there))
 timing code.Se o v x is g =
     acted code.Se o v x refl refl refl
     (λ q. action_lemmas.start_same timer.Se (as_open x) q
-        (holds action_lemmas.is_timer (about o) v x (rules.starts_timer (about o) v g.rule) g.there))
+    (holds action_lemmas.is_timer (about o) v x (rules.starts_timer (about o) v g.rule) g.there))
 timing code.Sd o v x is g =
     acted code.Sd o v x refl refl refl
     (λ q. action_lemmas.start_same timer.Sd (as_open x) q
-        (holds action_lemmas.is_timer (about o) v x (rules.starts_timer (about o) v g.rule) g.there))
+    (holds action_lemmas.is_timer (about o) v x (rules.starts_timer (about o) v g.rule) g.there))
 timing code.Ss o v x is g =
     acted code.Ss o v x refl refl refl
     (λ q. action_lemmas.start_same timer.Ss (as_open x) q
-        (holds action_lemmas.is_timer (about o) v x (rules.starts_timer (about o) v g.rule) g.there))
+    (holds action_lemmas.is_timer (about o) v x (rules.starts_timer (about o) v g.rule) g.there))
 timing code.Sf o v x is g =
     acted code.Sf o v x refl refl refl
     (λ q. action_lemmas.start_same timer.Sf (as_open x) q
-        (holds action_lemmas.is_timer (about o) v x (rules.starts_timer (about o) v g.rule) g.there))
+    (holds action_lemmas.is_timer (about o) v x (rules.starts_timer (about o) v g.rule) g.there))
 timing code.Fr o v x is g =
     acted code.Fr o v x refl refl refl
     (λ q. action_lemmas.free_same (as_open x) q
-        (holds action_lemmas.is_freed (about o) v x (rules.enables (about o) v g.rule) g.there))
+    (holds action_lemmas.is_freed (about o) v x (rules.enables (about o) v g.rule) g.there))
 timing code.Cu o v x is g =
     acted code.Cu o v x refl refl refl
     (λ q. action_lemmas.up_same (as_open x) q
-        (holds action_lemmas.is_counter (about o) v x (rules.steps_counter (about o) v g.rule) g.there))
+    (holds action_lemmas.is_counter (about o) v x (rules.steps_counter (about o) v g.rule) g.there))
 timing code.Cd o v x is g =
     acted code.Cd o v x refl refl refl
     (λ q. action_lemmas.down_same (as_open x) q
-        (holds action_lemmas.is_counter (about o) v x (rules.steps_counter (about o) v g.rule) g.there))
+    (holds action_lemmas.is_counter (about o) v x (rules.steps_counter (about o) v g.rule) g.there))
 timing _ o v x is g = absurd (false≢true is)
 
 pub timing_acts : TimingActs
@@ -534,7 +531,7 @@ unfolding operation_for action form_of does.does data_blocks.exchanged
 data_block code.Opn o v x is g =
     acted code.Opn o v x refl refl refl
     (λ q. action_lemmas.open_same (as_open x) q
-        (holds action_lemmas.is_data_block (about o) v x (rules.opens (about o) v g.rule) g.there))
+    (holds action_lemmas.is_data_block (about o) v x (rules.opens (about o) v g.rule) g.there))
 data_block code.Cdb o v x is g =
     acted code.Cdb o v x refl refl refl
     (λ q. refl)

@@ -1,11 +1,10 @@
 -- What an operand of the code reads as, where it stands for what is named.
-use Rattle.std.proofs.Common.{ℕ, ◌≡◌, ◌==◌, Bool, true, false, List, [], ◌∷◌, slice_get, Option, Some, None, Result, Ok, Err, ok_or, option_map, if◌then◌else◌, refl, sym, ◌∙◌, ap, ap₂, subst}
+use Rattle.std.proofs.Common.{ℕ, ◌≡◌, ◌==◌, Bool, true, false, List, slice_get, Option, Some, None, Result, Ok, Err, ok_or, option_map, if◌then◌else◌, refl, ◌∙◌, ap}
 use Rattle.std.proofs.lemmas.Bool.{false≢true}
 use Rattle.plc_base.specs.declared.flags.Flag.{Flag}
 use Rattle.plc_base.specs.declared.flags.Flag.TheVariants as flag
 use Rattle.plc_base.specs.declared.places.Area.{Area}
 use Rattle.plc_base.specs.declared.places.Area.TheVariants as area
-use Rattle.plc_base.specs.declared.places.Width.{Width}
 use Rattle.plc_base.specs.declared.places.Width.TheVariants as widths
 use Rattle.status_word.specs.Flags.{flag_value}
 use Rattle.timers_counters.specs.Counter.{Counter, count_bcd, is_counting}
@@ -17,12 +16,11 @@ use Rattle.frames.specs.declared.bindings.Binding.TheVariants as binding
 use Rattle.flat_code.specs.Kinds.{condition_of, flag_of}
 use Rattle.flat_code.specs.declared.operands.Operand.{Operand}
 use Rattle.flat_code.specs.declared.operands.Operand.TheVariants as flat
-use Rattle.machine.specs.Parts.{Own, Parts, then_ok}
+use Rattle.machine.specs.Parts.{Parts, then_ok}
 use Rattle.machine.specs.Places as places
 use Rattle.machine.specs.Values as values
 use Rattle.machine.specs.declared.places.Access.{Access}
-use Rattle.machine.specs.declared.places.Access.TheVariants.{Reading, Writing}
-use Rattle.machine.specs.declared.places.Bound.{Bound}
+use Rattle.machine.specs.declared.places.Access.TheVariants.{Reading}
 use Rattle.statement_laws.specs.Named.{Named, Number, OpenBlock, Spot}
 use Rattle.statement_laws.specs.Named as named
 use Rattle.statement_laws.specs.Reading as own

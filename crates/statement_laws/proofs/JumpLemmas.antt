@@ -1,5 +1,5 @@
 -- Jumps and the ends of a block do what their mnemonics say.
-use Rattle.std.proofs.Common.{ℕ, zero, suc, ◌≡◌, ◌<◌, ◌≤◌, ◌+◌, ◌-◌, ◌%◌, ◌^◌, nat_lt, Bool, true, false, List, [], ◌∷◌, slice_get, Option, Some, None, unwrap_or, bytes_eq, if◌then◌else◌, refl, sym, ◌∙◌, ap, ap₂, arith}
+use Rattle.std.proofs.Common.{ℕ, zero, suc, ◌≡◌, ◌+◌, ◌-◌, ◌%◌, ◌^◌, nat_lt, Bool, true, false, List, [], ◌∷◌, slice_get, Option, Some, None, unwrap_or, if◌then◌else◌, refl, sym, ◌∙◌, ap, ap₂, arith}
 use Rattle.std.proofs.lemmas.Bool.{false≢true}
 use Rattle.std.proofs.lemmas.Bool.Decides.{nat_tests}
 use Rattle.flat_code.specs.Instr.{Jumps}
@@ -8,8 +8,6 @@ use Rattle.flat_code.specs.declared.kinds.JumpOperation.TheVariants as jump
 use Rattle.flat_code.specs.declared.operations.EndOperation.{EndOperation}
 use Rattle.flat_code.specs.declared.operations.EndOperation.TheVariants as ends
 use Rattle.status_word.specs.declared.registers.Regs.{Regs}
-use Rattle.frames.specs.declared.Activation.{Activation}
-use Rattle.stl_ast.specs.Statements.{is_empty}
 use Rattle.stl_ast.specs.declared.mnemonics.Mnemonic.{Mnemonic}
 use Rattle.stl_ast.specs.declared.mnemonics.Mnemonic.TheVariants as code
 use Rattle.stl_ast.specs.declared.operands.Operand.{Operand}
@@ -18,9 +16,8 @@ use Rattle.stl_ast.specs.declared.statements.Statement.{Statement}
 use Rattle.stl_types.specs.Lists.{has_label}
 use Rattle.stl_codegen.specs.Instruction.{counted, end_instr, instr_by, instruction, jump_instr, numbers_from, resolved_instr, target_in, target_of, view_instr}
 use Rattle.stl_codegen.specs.Operations.{call_of, end_of, jump_of}
-use Rattle.machine.specs.Code.{Code}
 use Rattle.machine.specs.Jumps as machine
-use Rattle.machine.specs.Statement.{Step, Went, World, is_ended, performed, returned}
+use Rattle.machine.specs.Statement.{Went, is_ended, performed, returned}
 use Rattle.statement_laws.specs.Jumps as own
 use Rattle.statement_laws.specs.Laws.{EndsAct, JumpListsAct, PlainJumpsAct, is_end, is_plain_jump}
 
@@ -99,10 +96,10 @@ unfolding instruction
 plain_jumps_act c body n s name is o program next a w =
     ap (λ i. performed program i next a w)
     (ap (instr_by c body n s) same.is
-        ∙ same.goes n (target_of body s.operand)
-        ∙ ap (Jumps how) (target_same body s.operand name o))
+    ∙ same.goes n (target_of body s.operand)
+    ∙ ap (Jumps how) (target_same body s.operand name o))
     ∙ ap₂ (λ (taken : Bool) (r : Regs).
-        Went (own.standing_at (if taken then target else next) r a) w)
+    Went (own.standing_at (if taken then target else next) r a) w)
     (same.taken a.running.regs) (same.after a.running.regs)
   where
     target : ℕ
@@ -142,7 +139,7 @@ unfolding instruction machine.listed
 jump_lists_act c body n s name is o program next a w =
     ap (λ i. performed program i next a w)
     (ap (λ m. instr_by c body n s (jump_of m)) is
-        ∙ ap (jump_instr jump.Jl n) (target_same body s.operand name o))
+    ∙ ap (jump_instr jump.Jl n) (target_same body s.operand name o))
     ∙ ap (λ at. Went (own.standing_at at a.running.regs a) w)
     (numbers_same (suc n) (target - suc n) (a.running.regs.a1 % 2 ^ 8) target)
   where
@@ -171,9 +168,9 @@ unfolding instruction
 ends_act c body n s v is e program next a w =
     ap (λ i. performed program i next a w)
     (ap (instr_by c body n s) same.no_jump ∙ ap (resolved_instr c s) e
-        ∙ ap (view_instr c s v) same.no_call ∙ ap (end_instr s v) same.is)
+    ∙ ap (view_instr c s v) same.no_call ∙ ap (end_instr s v) same.is)
     ∙ ap (λ (b : Bool). if b then returned (program.head a.running.frame.block) a w
-        else Went (own.standing_at next (own.rlo_set a.running.regs) a) w)
+    else Went (own.standing_at next (own.rlo_set a.running.regs) a) w)
     (same.ended a.running.regs.status.rlo)
   where
     how : EndOperation

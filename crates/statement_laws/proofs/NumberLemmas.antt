@@ -1,9 +1,6 @@
 -- Each statement that isn't empty has the number that counts those before it.
-use Rattle.std.proofs.Common.{ℕ, zero, suc, ◌≡◌, ◌+◌, Bool, true, false, List, [], ◌∷◌, ◌++◌, length, slice_get, Option, Some, None, if◌then◌else◌, refl, sym, ◌∙◌, ap, ap₂, add-zero, zero-add, length-append, arith}
-use Rattle.flat_code.specs.Instr.{Returns}
-use Rattle.flat_code.specs.declared.operations.EndOperation.TheVariants as ends
+use Rattle.std.proofs.Common.{ℕ, suc, ◌≡◌, ◌+◌, Bool, true, false, List, [], ◌∷◌, ◌++◌, length, slice_get, Some, if◌then◌else◌, refl, sym, ◌∙◌, ap, add-zero, zero-add, length-append, arith}
 use Rattle.stl_ast.specs.Statements.{is_empty}
-use Rattle.stl_ast.specs.declared.blocks.Block.{Block}
 use Rattle.stl_ast.specs.declared.mnemonics.Mnemonic.TheVariants as code
 use Rattle.stl_ast.specs.declared.statements.Statement.{Statement}
 use Rattle.stl_types.specs.Context.{Context}
@@ -23,7 +20,7 @@ numbered : (c : Context) (body : List Statement) (n : ℕ) (front : List Stateme
     ≡ Some (stated c body (n + count_of front) s)
 numbered c body n [] s rest tail e =
     ap (λ b. slice_get ((if b then stated_from c body n rest
-            else stated c body n s ∷ stated_from c body (suc n) rest) ++ tail) 0) e
+    else stated c body n s ∷ stated_from c body (suc n) rest) ++ tail) 0) e
     ∙ ap (λ k. Some (stated c body k s)) (sym (add-zero n))
 numbered c body n (t ∷ ts) s rest tail e =
     by (is_empty t.code) (numbered c body n ts s rest tail e) (numbered c body (suc n) ts s rest tail e)
@@ -34,7 +31,7 @@ numbered c body n (t ∷ ts) s rest tail e =
         → slice_get (stated_from c body (suc n) (ts ++ s ∷ rest) ++ tail) (count_of ts)
         ≡ Some (stated c body (suc n + count_of ts) s)
         → slice_get ((if b then stated_from c body n (ts ++ s ∷ rest)
-            else stated c body n t ∷ stated_from c body (suc n) (ts ++ s ∷ rest)) ++ tail)
+        else stated c body n t ∷ stated_from c body (suc n) (ts ++ s ∷ rest)) ++ tail)
         ((if b then 0 else 1) + count_of ts)
         ≡ Some (stated c body (n + ((if b then 0 else 1) + count_of ts)) s)
     by true here more =

@@ -1,5 +1,5 @@
 -- The machine's places, numbers and writing are those of the laws.
-use Rattle.std.proofs.Common.{ℕ, ◌≡◌, ◌==◌, Bool, true, false, ◌&&◌, not, List, [], ◌∷◌, slice_get, Option, Some, None, Result, Ok, Err, ok_or, option_map, if◌then◌else◌, refl, sym, ◌∙◌, ap, ap₂, subst}
+use Rattle.std.proofs.Common.{ℕ, ◌≡◌, Bool, ◌&&◌, Option, Some, None, Result, Ok, Err, ok_or, option_map, if◌then◌else◌, refl, ◌∙◌, ap, ap₂}
 use Rattle.plc_base.specs.Pointer.{place_of}
 use Rattle.plc_base.specs.declared.places.Area.{Area}
 use Rattle.plc_base.specs.declared.places.Area.TheVariants as area
@@ -10,10 +10,8 @@ use Rattle.plc_mem.specs.Areas.{Areas}
 use Rattle.plc_mem.specs.Number.{number_at}
 use Rattle.plc_mem.specs.Writing as memory
 use Rattle.frames.specs.Locals.{LocalData, local_number, local_written}
-use Rattle.frames.specs.declared.bindings.Binding.{Binding}
-use Rattle.frames.specs.declared.bindings.Binding.TheVariants as binding
 use Rattle.machine.specs.Does.{on_scene}
-use Rattle.machine.specs.Parts.{Own, Parts, Scene, then_ok}
+use Rattle.machine.specs.Parts.{Parts, Scene, then_ok}
 use Rattle.machine.specs.Places as places
 use Rattle.machine.specs.Values as values
 use Rattle.machine.specs.declared.places.Access.{Access}

@@ -1,10 +1,9 @@
 -- What the rules leave of operands: each instruction names what it takes.
-use Rattle.std.proofs.Common.{ℕ, ◌≡◌, nat_eq, Bool, true, false, ◌&&◌, not, Option, Some, None, if◌then◌else◌, refl, sym, ◌∙◌, ap}
+use Rattle.std.proofs.Common.{ℕ, ◌≡◌, nat_eq, Bool, true, false, Option, Some, None, if◌then◌else◌, refl, sym, ◌∙◌, ap}
 use Rattle.plc_base.specs.declared.places.Area.{Area}
 use Rattle.plc_base.specs.declared.places.Area.TheVariants as area
 use Rattle.plc_base.specs.declared.places.Width.{Width}
 use Rattle.flat_code.specs.declared.operations.Adding.TheVariants as adding
-use Rattle.flat_code.specs.declared.operations.Operation.{Operation}
 use Rattle.flat_code.specs.declared.operations.Operation.TheVariants as operation
 use Rattle.stl_ast.specs.declared.declarations.Simple.{Simple}
 use Rattle.stl_ast.specs.declared.literals.Literal.{Literal}
@@ -14,7 +13,6 @@ use Rattle.stl_ast.specs.declared.operands.Operand.{Operand}
 use Rattle.stl_ast.specs.declared.operands.Operand.TheVariants as operand
 use Rattle.stl_types.specs.Constants.{takes_constant}
 use Rattle.stl_types.specs.Operands.{rule_of, takes}
-use Rattle.stl_types.specs.declared.forms.OperandRule.{OperandRule}
 use Rattle.stl_types.specs.declared.forms.OperandRule.TheVariants as form
 use Rattle.stl_types.specs.declared.views.Register.TheVariants as register
 use Rattle.stl_types.specs.declared.views.ResolvedOperand.{ResolvedOperand}
@@ -22,7 +20,7 @@ use Rattle.stl_types.specs.declared.views.ResolvedOperand.TheVariants as view
 use Rattle.stl_codegen.specs.Operations as codegen
 use Rattle.statement_laws.specs.Named.{Named}
 use Rattle.statement_laws.specs.Named as named
-use Rattle.statement_laws.specs.Operands.{fixed_place, place_at, place_by}
+use Rattle.statement_laws.specs.Operands.{fixed_place, place_by}
 use Rattle.statement_laws.proofs.ActionLemmas.{add_operation, is_added_address, is_address, is_address_place, is_constant, is_count, is_counter, is_data_block, is_first_address, is_first_address_place, is_freed, is_loaded, is_reset, is_set, is_timer, is_transferred, is_written, load_address_operation, load_operation, or_operation, store_address_operation, transfer_operation}
 use Rattle.statement_laws.proofs.FlatLemmas.{is_read}
 use Rattle.statement_laws.proofs.SeenLemmas.{about, on_named, rule_by, view_named}

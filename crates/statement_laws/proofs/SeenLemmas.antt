@@ -1,17 +1,14 @@
 -- What an operand resolves to is what it names, and its operand in the code is that for what is named.
-use Rattle.std.proofs.Common.{ℕ, zero, suc, ◌≡◌, ◌+◌, ◌*◌, ◌^◌, nat_eq, Bool, true, false, ◌&&◌, not, ℤ, pos, negsuc, List, [], ◌∷◌, map, codes, slice_get, Option, Some, None, is_none, if◌then◌else◌, refl, sym, ◌∙◌, ap, ap₂, subst}
+use Rattle.std.proofs.Common.{ℕ, suc, ◌≡◌, ◌+◌, ◌*◌, nat_eq, Bool, true, false, ◌&&◌, not, ℤ, pos, negsuc, List, [], ◌∷◌, map, Option, Some, None, is_none, if◌then◌else◌, refl, sym, ◌∙◌, ap}
 use Rattle.std.specs.Option.{option_map, option_and_then}
 use Rattle.std.proofs.Common.{eqb-true}
 use Rattle.std.proofs.lemmas.Option.{same_Some}
-use Rattle.plc_base.specs.Folding.{is_same_name}
 use Rattle.plc_base.specs.Kinds.{is_data_block, is_same_kind}
 use Rattle.plc_base.specs.S5Time.{s5time_of}
 use Rattle.plc_base.specs.declared.blocks.BlockId.{BlockId}
 use Rattle.plc_base.specs.declared.places.Area.{Area}
 use Rattle.plc_base.specs.declared.places.Area.TheVariants as area
-use Rattle.plc_base.specs.declared.places.Place.{Place}
 use Rattle.plc_base.specs.declared.places.Width.{Width}
-use Rattle.flat_code.specs.declared.operands.Operand.{Operand as FlatOperand}
 use Rattle.flat_code.specs.declared.operands.Operand.TheVariants as flat
 use Rattle.stl_ast.specs.declared.literals.Literal.{Literal}
 use Rattle.stl_ast.specs.declared.literals.Literal.TheVariants as literal
@@ -23,9 +20,8 @@ use Rattle.stl_ast.specs.declared.operands.Numbered.{Numbered}
 use Rattle.stl_ast.specs.declared.operands.Numbered.TheVariants as numbered
 use Rattle.stl_ast.specs.declared.operands.Operand.{Operand}
 use Rattle.stl_ast.specs.declared.operands.Operand.TheVariants as operand
-use Rattle.stl_ast.specs.declared.operands.PathHead.TheVariants as head
 use Rattle.stl_ast.specs.declared.statements.Statement.{Statement}
-use Rattle.stl_symbols.specs.Symbol.{Symbol, symbol_named}
+use Rattle.stl_symbols.specs.Symbol.{Symbol}
 use Rattle.stl_symbols.specs.declared.targets.Target.{Target}
 use Rattle.stl_symbols.specs.declared.targets.Target.TheVariants as target
 use Rattle.block_layout.specs.Blocks.{block_of, block_place, is_block_number, is_id, known_block, named_block, of_kind}
@@ -38,7 +34,7 @@ use Rattle.stl_types.specs.Constants.{takes_constant}
 use Rattle.stl_types.specs.Context.{Context, data_number, number_of}
 use Rattle.stl_types.specs.Forms.{form_of}
 use Rattle.stl_types.specs.Operands.{operand_rule, rule_of, rule_seen, statement_rule}
-use Rattle.stl_types.specs.Resolution.{opened_seen, register_of, seen, symbol_seen, target_view}
+use Rattle.stl_types.specs.Resolution.{opened_seen, seen, symbol_seen, target_view}
 use Rattle.stl_types.specs.Resolved.{resolved, seen_view}
 use Rattle.stl_types.specs.declared.forms.OperandRule.{OperandRule}
 use Rattle.stl_types.specs.declared.views.Register.{Register}
@@ -53,7 +49,7 @@ use Rattle.statement_laws.specs.Named.{Named, Number, OpenBlock, Spot}
 use Rattle.statement_laws.specs.Named as named
 use Rattle.statement_laws.specs.Operands.{block_number, fixed_place, named_by, number_in, place_at, place_by, place_in_db, pointer_bits, register_named, symbol_target, target_named}
 use Rattle.statement_laws.specs.Operands as own
-use Rattle.statement_laws.specs.Reading.{bits, bytes_behind, in_bits, or_none}
+use Rattle.statement_laws.specs.Reading.{bits, number_behind, twos_complement, or_zero}
 use Rattle.statement_laws.proofs.FlatLemmas.{flat_of}
 
 -- ---- what a view names
@@ -95,15 +91,15 @@ view_named None _ = None
 
 -- ---- its operand in the code
 
-twos_same : (w : ℕ) (z : ℤ) → twos w z ≡ in_bits w z
+twos_same : (w : ℕ) (z : ℤ) → twos w z ≡ twos_complement w z
 twos_same w (pos n) = refl
 twos_same w (negsuc n) = refl
 
-bytes_same : (n : ℕ) (bytes : List ℕ) → number_from n bytes ≡ bytes_behind n bytes
+bytes_same : (n : ℕ) (bytes : List ℕ) → number_from n bytes ≡ number_behind n bytes
 bytes_same n [] = refl
 bytes_same n (b ∷ bs) = bytes_same (256 * n + b) bs
 
-none_same : (o : Option ℕ) → or_0 o ≡ or_none o
+none_same : (o : Option ℕ) → or_0 o ≡ or_zero o
 none_same None = refl
 none_same (Some n) = refl
 
@@ -334,9 +330,9 @@ placed_number id (l ∷ ls) n e = by (is_id id l.id) refl e (placed_number id ls
 
     by : (first : Bool) → is_id id l.id ≡ first
         → number_at (l ∷ ls) (if first then Some 0
-            else option_map (λ k. suc k) (block_place id (map (λ (b : BlockLayout). b.id) ls))) ≡ Some n
+        else option_map (λ k. suc k) (block_place id (map (λ (b : BlockLayout). b.id) ls))) ≡ Some n
         → (number_at ls (block_place id (map (λ (b : BlockLayout). b.id) ls)) ≡ Some n
-            → id.number ≡ n)
+        → id.number ≡ n)
         → id.number ≡ n
     by true is h more = same_number id l.id n is (here l.broken h)
     by false is h more =
@@ -356,14 +352,14 @@ known_number id ls n e = by (is_block_number id.kind id.number) e
 
 meant_number : (ls : List BlockLayout) (o : Option BlockId) (n : ℕ)
     → number_at ls (option_and_then (λ id. known_block id (map (λ b. b.id) ls))
-        (of_kind is_data_block o)) ≡ Some n
+    (of_kind is_data_block o)) ≡ Some n
     → option_map (λ id. id.number) o ≡ Some n
 meant_number ls None n e = absurd cc
 meant_number ls (Some id) n e = by (is_data_block id.kind) e
   where
     by : (right : Bool)
         → number_at ls (option_and_then (λ id. known_block id (map (λ (b : BlockLayout). b.id) ls))
-            (if right then Some id else None)) ≡ Some n
+        (if right then Some id else None)) ≡ Some n
         → Some id.number ≡ Some n
     by true h = ap Some (known_number id ls n h)
     by false h = absurd cc
@@ -452,7 +448,7 @@ in_block_same c name a w byte bit v x (Some number) d e n =
     carry None (address number a w byte bit) v (place_by (own.area_of a) number w byte bit) x
     (in_block_named a number w byte bit) e
     (ap (option_map (λ number. place_by (own.area_of a) number w byte bit))
-        (sym (number_known c name number d)) ∙ n)
+    (sym (number_known c name number d)) ∙ n)
 
 pub opened_named : (c : Context) (di : Bool) (name : BlockName) (v : ResolvedOperand) (x : Named)
     (o : Option ℕ) → data_number c name ≡ o → opened_seen di o ≡ Resolved v
@@ -462,4 +458,4 @@ opened_named c di name v x None d e n = absurd cc
 opened_named c di name v x (Some number) d e n =
     carry None (view.OpenBlock di number) v (named.DataBlock di (named.Written number)) x refl e
     (ap (option_map (λ number. named.DataBlock di (named.Written number)))
-        (sym (number_known c name number d)) ∙ n)
+    (sym (number_known c name number d)) ∙ n)

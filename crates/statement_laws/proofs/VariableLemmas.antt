@@ -1,5 +1,5 @@
 -- A variable is named by its place in the layout; and then what each operand names.
-use Rattle.std.proofs.Common.{ℕ, zero, suc, ◌≡◌, ◌+◌, ◌-◌, nat_eq, zero-add, Bool, true, false, not, is_some, List, [], ◌∷◌, length, map, codes, slice_get, Option, Some, None, if◌then◌else◌, refl, sym, ◌∙◌, ap, ap₂, subst}
+use Rattle.std.proofs.Common.{ℕ, zero, suc, ◌≡◌, ◌+◌, ◌-◌, nat_eq, zero-add, Bool, true, false, not, is_some, List, [], ◌∷◌, length, map, codes, slice_get, Option, Some, None, if◌then◌else◌, refl, sym, ◌∙◌, ap, ap₂}
 use Rattle.std.proofs.Common.{arith}
 use Rattle.std.proofs.lemmas.Bool.Decides.{nat_tests}
 use Rattle.std.specs.Option.{option_map, option_and_then}
@@ -7,7 +7,6 @@ use Rattle.std.proofs.lemmas.Option.{same_Some}
 use Rattle.plc_base.specs.Folding.{folded, is_same_name}
 use Rattle.plc_base.specs.Kinds.{is_data_block, is_system_function}
 use Rattle.plc_base.specs.declared.blocks.BlockId.{BlockId}
-use Rattle.plc_base.specs.declared.places.Area.{Area}
 use Rattle.plc_base.specs.declared.places.Area.TheVariants as area
 use Rattle.plc_base.specs.declared.places.Place.{Place}
 use Rattle.plc_base.specs.declared.places.Width.{Width}
@@ -20,7 +19,7 @@ use Rattle.stl_ast.specs.declared.operands.Operand.{Operand}
 use Rattle.stl_ast.specs.declared.operands.Operand.TheVariants as operand
 use Rattle.stl_ast.specs.declared.operands.PathHead.TheVariants as head
 use Rattle.stl_symbols.specs.Symbol.{symbol_named}
-use Rattle.block_layout.specs.Blocks.{is_block_number, known_block, named_block, of_kind}
+use Rattle.block_layout.specs.Blocks.{known_block, named_block, of_kind}
 use Rattle.block_layout.specs.Members.{component}
 use Rattle.block_layout.specs.Offsets as offsets
 use Rattle.block_layout.specs.Offsets.{offset_of, placed, reached, variable, width_of}
@@ -33,12 +32,11 @@ use Rattle.block_layout.specs.declared.walks.PathEnd.{PathEnd}
 use Rattle.block_layout.specs.declared.walks.PathEnd.TheVariants as walk
 use Rattle.block_layout.specs.Paths as paths
 use Rattle.stl_types.specs.Addresses.{address, area_left, area_of}
-use Rattle.stl_types.specs.Context.{Context, data_number, data_place, in_function, is_of_function, whole_place}
+use Rattle.stl_types.specs.Context.{Context, data_number, in_function, is_of_function, whole_place}
 use Rattle.stl_types.specs.Resolution.{called_seen, id_at, register_of, seen, whole_block}
 use Rattle.stl_types.specs.Variables.{behind_others, data_at, data_path, data_variable, data_walked, in_area, own_at, own_elementary, own_variable, own_walked, parameter_at}
 use Rattle.stl_types.specs.Variables as variables
-use Rattle.stl_types.specs.declared.views.Resolution.{Resolution}
-use Rattle.stl_types.specs.declared.views.Resolution.TheVariants.{Resolved, Unknown, Unjudged}
+use Rattle.stl_types.specs.declared.views.Resolution.TheVariants.{Resolved, Unjudged}
 use Rattle.stl_types.specs.declared.views.Side.TheVariants as side
 use Rattle.stl_types.specs.declared.views.ResolvedOperand.{ResolvedOperand}
 use Rattle.stl_types.specs.declared.views.ResolvedOperand.TheVariants as view
@@ -95,7 +93,7 @@ static_at c spot None v x f e n = absurd cc
 static_at c spot (Some kind) v x f e n =
     area_same kind (placed area.Di 0 spot.offset (Some kind)) v x
     (sym (ap (λ (b : Bool). if b then parameter_at c spot kind
-        else in_area kind (placed area.Di 0 spot.offset (Some kind))) f) ∙ e) n
+    else in_area kind (placed area.Di 0 spot.offset (Some kind))) f) ∙ e) n
 
 static_walked : (c : Context) (end : PathEnd) (v : ResolvedOperand) (x : Named)
     → in_function c ≡ false → own_walked c false end ≡ Resolved v
@@ -125,7 +123,7 @@ parameter_kind : (c : Context) (at : ℕ) (cell : Cell) (kind : Option Simple) (
     (x : Named) (spot : ComponentAt) → spot.place ≡ at → in_function c ≡ true
     → slice_get (components_of_block c) at ≡ Some cell → own_at c false spot kind ≡ Resolved v
     → option_map (λ width. named.Parameter
-        (own.parameter_index (has_result (slice_get c.blocks c.block)) (length (components_of_block c)) at) width)
+    (own.parameter_index (has_result (slice_get c.blocks c.block)) (length (components_of_block c)) at) width)
     (option_map width_of kind) ≡ Some x
     → view_named None v ≡ Some x
 parameter_kind c at cell None v x spot p f there e n = absurd cc
@@ -133,15 +131,15 @@ parameter_kind c at cell (Some kind) v x spot p f there e n =
     carry None (view.Parameter (variables.parameter_index (length (components_of_block c)) at (slice_get c.blocks c.block)) cell.section kind)
     v
     (named.Parameter
-        (own.parameter_index (has_result (slice_get c.blocks c.block)) (length (components_of_block c)) at)
-        (width_of kind)) x
+    (own.parameter_index (has_result (slice_get c.blocks c.block)) (length (components_of_block c)) at)
+    (width_of kind)) x
     (ap (λ k. Some (named.Parameter k (width_of kind)))
-        (index_same (length (components_of_block c)) at (slice_get c.blocks c.block)))
+    (index_same (length (components_of_block c)) at (slice_get c.blocks c.block)))
     (sym (ap (λ (b : Bool). if b then parameter_at c spot kind
-            else in_area kind (placed area.Di 0 spot.offset (Some kind))) f
-        ∙ ap₂ (λ index found. variables.parameter index kind found)
-        (ap (λ k. variables.parameter_index (length (components_of_block c)) k (slice_get c.blocks c.block)) p)
-        (ap (slice_get (components_of_block c)) p ∙ there)) ∙ e)
+    else in_area kind (placed area.Di 0 spot.offset (Some kind))) f
+    ∙ ap₂ (λ index found. variables.parameter index kind found)
+    (ap (λ k. variables.parameter_index (length (components_of_block c)) k (slice_get c.blocks c.block)) p)
+    (ap (slice_get (components_of_block c)) p ∙ there)) ∙ e)
     n
 
 width_same : (b : Bool) (kind : Option Simple)
@@ -153,20 +151,20 @@ width_same false kind = refl
 cell_found : (c : Context) (m : Member) (offset : ℕ) (sound : Bool) (cell : Cell) (v : ResolvedOperand)
     (x : Named) → in_function c ≡ true → slice_get (components_of_block c) (0 + m.place) ≡ Some cell
     → own_walked c false (if sound then walk.Reaches (record {
-          block = c.block;
-          temporary = false;
-          place = 0 + m.place;
-          depth = 0;
-          offset = offset;
-        }) else walk.Rests) ≡ Resolved v
+      block = c.block;
+      temporary = false;
+      place = 0 + m.place;
+      depth = 0;
+      offset = offset;
+    }) else walk.Rests) ≡ Resolved v
     → parameter_named c m.place [] ≡ Some x → view_named None v ≡ Some x
 cell_found c m offset false cell v x f there e n = absurd cc
 cell_found c m offset true cell v x f there e n =
     parameter_kind c m.place cell kind v x spot (zero-add m.place) f at_place
     (sym (ap (own_at c false spot) (ap (kind_of spot) there)) ∙ e)
     (sym (ap named_by_width
-            (ap cell_width at_place ∙ width_same (nat_eq 0 (length cell.bounds)) (plain_kind cell.of)))
-        ∙ n)
+    (ap cell_width at_place ∙ width_same (nat_eq 0 (length cell.bounds)) (plain_kind cell.of)))
+    ∙ n)
   where
     spot : ComponentAt
     spot = record {
@@ -183,7 +181,7 @@ cell_found c m offset true cell v x f there e n =
     named_by_width : Option Width → Option Named
     named_by_width o = option_map
         (λ width. named.Parameter
-            (own.parameter_index (has_result (slice_get c.blocks c.block)) (length (components_of_block c)) m.place) width)
+        (own.parameter_index (has_result (slice_get c.blocks c.block)) (length (components_of_block c)) m.place) width)
         o
 
     at_place : slice_get (components_of_block c) m.place ≡ Some cell
@@ -218,8 +216,8 @@ parameter_same c name (s ∷ ss) m v x f there e n = absurd cc
 parameter_same c name [] m v x f there e n =
     parameter_found c m _ (slice_get (components_of_block c) (0 + m.place)) v x f refl
     (sym (ap (λ o. own_walked c false
-            (paths.goes_on (paths.found_at (components_of_block c) c.block false 0 0 o) (λ spot. walk.Reaches spot)))
-        there) ∙ e)
+    (paths.goes_on (paths.found_at (components_of_block c) c.block false 0 0 o) (λ spot. walk.Reaches spot)))
+    there) ∙ e)
     n
 
 -- ---- the block's own variables
@@ -233,18 +231,18 @@ local_found : (c : Context) (name : List ℕ) (steps : List PathStep) (m : Optio
     → own_walked c (not (is_some m))
     (if is_some (whole_at c.layouts c.block)
     then paths.goes_on
-        (if is_some m then outermost c.layouts c.block false 0 name
-            else outermost c.layouts c.block true 0 name)
-        (λ spot. walked c.layouts spot steps)
+    (if is_some m then outermost c.layouts c.block false 0 name
+    else outermost c.layouts c.block true 0 name)
+    (λ spot. walked c.layouts spot steps)
     else walk.Rests) ≡ Resolved v
     → variable_by c name steps m ≡ Some x → view_named None v ≡ Some x
 local_found c name steps None v x there e n =
     temporary_walked c
     (walked_from c.layouts c.block true (step.Named name ∷ steps)) v x
     (judged c true (is_some (whole_at c.layouts c.block))
-        (walked_from c.layouts c.block true (step.Named name ∷ steps)) v e)
+    (walked_from c.layouts c.block true (step.Named name ∷ steps)) v e)
     (inside (leaves_from c.layouts c.block true (step.Named name ∷ steps))
-        (reached c.layouts area.L 0 (walked_from c.layouts c.block true (step.Named name ∷ steps))) x n)
+    (reached c.layouts area.L 0 (walked_from c.layouts c.block true (step.Named name ∷ steps))) x n)
 local_found c name steps (Some m) v x there e n = by (is_fc (slice_get c.blocks c.block)) refl n
   where
     path : List PathStep
@@ -257,7 +255,7 @@ local_found c name steps (Some m) v x there e n = by (is_fc (slice_get c.blocks 
 
     by : (fc : Bool) → is_fc (slice_get c.blocks c.block) ≡ fc
         → (if fc then parameter_named c m.place steps
-            else place_in_layout (variable c.layouts area.Di c.block false (step.Named name ∷ steps))) ≡ Some x
+        else place_in_layout (variable c.layouts area.Di c.block false (step.Named name ∷ steps))) ≡ Some x
         → view_named None v ≡ Some x
     by true f h =
         parameter_same c name steps m v x
@@ -266,8 +264,8 @@ local_found c name steps (Some m) v x there e n = by (is_fc (slice_get c.blocks 
         static_walked c (walked_from c.layouts c.block false (step.Named name ∷ steps)) v x
         (sym (function_same (slice_get c.blocks c.block)) ∙ f) sound
         (inside (leaves_from c.layouts c.block false (step.Named name ∷ steps))
-            (reached c.layouts area.Di 0 (walked_from c.layouts c.block false (step.Named name ∷ steps)))
-            x h)
+        (reached c.layouts area.Di 0 (walked_from c.layouts c.block false (step.Named name ∷ steps)))
+        x h)
 
 local_same : (c : Context) (name : List ℕ) (steps : List PathStep) (v : ResolvedOperand) (x : Named)
     → own_variable c name steps ≡ Resolved v → variable_named c name steps ≡ Some x
@@ -298,7 +296,7 @@ data_placed : (c : Context) (id : BlockId) (steps : List PathStep) (number place
     (v : ResolvedOperand) (x : Named) → number ≡ id.number
     → data_walked c number (walked_data c.layouts place steps) ≡ Resolved v
     → place_in_layout (option_and_then (offsets.offset_in c.layouts id section.Global steps)
-        (if_whole c.layouts place)) ≡ Some x
+    (if_whole c.layouts place)) ≡ Some x
     → view_named None v ≡ Some x
 data_placed c id steps number place v x is e n = by (is_some (whole_at c.layouts place)) n
   where
@@ -309,12 +307,12 @@ data_placed c id steps number place v x is e n = by (is_some (whole_at c.layouts
         data_end c id.number (walked_data c.layouts place steps) v x
         (ap (λ k. data_walked c k (walked_data c.layouts place steps)) (sym is) ∙ e)
         (inside (leaves_judged c.layouts (structure_of c.layouts place) steps)
-            (reached c.layouts area.Db id.number (walked_data c.layouts place steps)) x h)
+        (reached c.layouts area.Db id.number (walked_data c.layouts place steps)) x h)
     in_db false h = absurd cc
 
     by : (whole : Bool)
         → place_in_layout (option_and_then (offsets.offset_in c.layouts id section.Global steps)
-            (if whole then Some place else None)) ≡ Some x
+        (if whole then Some place else None)) ≡ Some x
         → view_named None v ≡ Some x
     by true h = in_db (is_data_block id.kind) h
     by false h = absurd cc
@@ -324,7 +322,7 @@ data_known : (c : Context) (id : BlockId) (steps : List PathStep) (number place 
     → ((n : ℕ) → number ≡ Some n → n ≡ id.number)
     → data_path c steps number place ≡ Resolved v
     → place_in_layout (option_and_then (offsets.offset_in c.layouts id section.Global steps)
-        (option_and_then (if_whole c.layouts) place)) ≡ Some x
+    (option_and_then (if_whole c.layouts) place)) ≡ Some x
     → view_named None v ≡ Some x
 data_known c id steps (Some number) (Some place) v x is e n =
     data_placed c id steps number place v x (is number refl) e n
@@ -339,7 +337,7 @@ data_kind : (c : Context) (id : BlockId) (db : Bool) (steps : List PathStep) (nu
     (option_and_then (λ id. known_block id (map (λ b. b.id) c.layouts)) (if db then Some id else None))
     ≡ Resolved v
     → place_in_layout (option_and_then (offsets.offset_in c.layouts id section.Global steps)
-        (option_and_then (if_whole c.layouts) (known_block id (map (λ b. b.id) c.layouts)))) ≡ Some x
+    (option_and_then (if_whole c.layouts) (known_block id (map (λ b. b.id) c.layouts)))) ≡ Some x
     → view_named None v ≡ Some x
 data_kind c id true steps number v x is e n =
     data_known c id steps number (known_block id (map (λ b. b.id) c.layouts)) v x is e n
@@ -366,10 +364,10 @@ component_same : (c : Context) (name : BlockName) (steps : List PathStep) (v : R
 component_same c name steps v x e n =
     data_named c (named_block c.symbols name) steps (data_number c name) v x
     (λ k there. ap (option_map (λ (id : BlockId). id.number)) (block_same c name)
-        ∙ number_known c name k there)
+    ∙ number_known c name k there)
     e
     (ap (λ o. place_in_layout (option_and_then (λ id. offset_of c.layouts id section.Global steps) o))
-        (block_same c name) ∙ n)
+    (block_same c name) ∙ n)
 
 -- ---- called blocks
 

@@ -1,8 +1,8 @@
 -- Calls: what each parameter of the called block stands for, by what the call passes for its name
 -- (docs/SEMANTICS.md, "Calls"). How a block is entered with its parameters bound is the machine's word.
-use Rattle.std.specs.Prelude.{ℕ, suc, nat_eq, Bool, true, false, List, [], ◌∷◌, ◌++◌, map, length, replicate, codes, is_some, slice_get, Option, Some, None, Result, Ok, Err, bytes_eq, if◌then◌else◌}
+use Rattle.std.specs.Prelude.{ℕ, suc, nat_eq, Bool, true, false, List, [], ◌∷◌, ◌++◌, map, length, replicate, codes, slice_get, Option, Some, None, Result, Ok, Err, bytes_eq, if◌then◌else◌}
 use Rattle.std.specs.List.{flat_map}
-use Rattle.std.specs.Option.{option_map, option_and_then}
+use Rattle.std.specs.Option.{option_and_then}
 use Rattle.plc_base.specs.Folding.{folded}
 use Rattle.plc_base.specs.Kinds.{is_system_function}
 use Rattle.plc_base.specs.declared.blocks.BlockId.{BlockId}
@@ -16,7 +16,6 @@ use Rattle.stl_ast.specs.declared.blocks.PartKind.{PartKind}
 use Rattle.stl_ast.specs.declared.blocks.PartKind.TheVariants as part
 use Rattle.stl_ast.specs.declared.mnemonics.Mnemonic.{Mnemonic}
 use Rattle.stl_ast.specs.declared.mnemonics.Mnemonic.TheVariants as code
-use Rattle.stl_ast.specs.declared.operands.Operand.{Operand}
 use Rattle.stl_ast.specs.declared.statements.Actual.{Actual}
 use Rattle.block_layout.specs.Blocks.{known_block}
 use Rattle.block_layout.specs.Paths.{cells_at}
@@ -192,7 +191,7 @@ enters_block None id instance bind next a w = Stuck
 enters_block (Some h) id instance bind next a w =
     after_call
     (called_with (bind h.params (parts_of a.running w.memory w.timers w.counters))
-        (callee_of id instance h) next a w.memory)
+    (callee_of id instance h) next a w.memory)
     next a w
 
 -- a system function is called, by its parameters
@@ -203,7 +202,7 @@ enters_system None number bind next a w = Stuck
 enters_system (Some params) number bind next a w =
     after_system_call
     (then_ok (bind params (parts_of a.running w.memory w.timers w.counters))
-        (λ bindings. Ok (given_now params bindings a w.memory)))
+    (λ bindings. Ok (given_now params bindings a w.memory)))
     number next a
 
 -- a call that is made; CC with RLO 0 sets the four bits and RLO 1, and goes on
@@ -213,6 +212,6 @@ abbrev pub calls :
 calls m id instance bind program next a w =
     if is_made m a.running.regs.status.rlo
     then (if is_system_function id.kind
-        then enters_system (system_function id.number) id.number bind next a w
-        else enters_block (program.head id) id instance bind next a w)
+    then enters_system (system_function id.number) id.number bind next a w
+    else enters_block (program.head id) id instance bind next a w)
     else Went (standing_at next (rlo_set (at_call a.running.regs)) a) w

@@ -1,12 +1,11 @@
 -- What each instruction does that goes on to the next statement, by its mnemonic and by what its operand
 -- names (docs/SEMANTICS.md): to registers and status word, memory, timers and counters, and to what the
 -- block holds.
-use Rattle.std.specs.Prelude.{ℕ, ◌+◌, ◌-◌, ◌%◌, ◌^◌, ◌==◌, nat_lt, Bool, true, false, ◌&&◌, not, is_some, List, [], ◌∷◌, length, slice_get, Option, Some, None, Result, Ok, Err, ok_or, unwrap_or, if◌then◌else◌}
+use Rattle.std.specs.Prelude.{ℕ, ◌+◌, ◌-◌, ◌%◌, ◌^◌, ◌==◌, nat_lt, Bool, true, false, ◌&&◌, not, is_some, List, [], ◌∷◌, length, Option, Some, None, Result, Ok, Err, ok_or, unwrap_or, if◌then◌else◌}
 use Rattle.std.specs.FinMap as map
 use Rattle.plc_base.specs.Widths.{bit_count}
 use Rattle.plc_base.specs.declared.instructions.Check.{Check}
 use Rattle.plc_base.specs.declared.instructions.Check.TheVariants as check
-use Rattle.plc_base.specs.declared.instructions.Compare.{Compare}
 use Rattle.plc_base.specs.declared.instructions.Compare.TheVariants as compare
 use Rattle.plc_base.specs.declared.instructions.TimerKind.{TimerKind}
 use Rattle.plc_base.specs.declared.instructions.TimerKind.TheVariants as timer
@@ -38,12 +37,11 @@ use Rattle.timers_counters.specs.declared.faults.TimerFault.TheVariants.{BadBcd,
 use Rattle.frames.specs.FrameData.{FrameData}
 use Rattle.frames.specs.Relay.{is_closed, zone_ended, zone_opened}
 use Rattle.frames.specs.declared.relay.Relay.{Relay}
-use Rattle.stl_ast.specs.declared.literals.Literal.{Literal}
 use Rattle.stl_ast.specs.declared.literals.Literal.TheVariants as literal
 use Rattle.stl_ast.specs.declared.mnemonics.Mnemonic.{Mnemonic}
 use Rattle.stl_ast.specs.declared.mnemonics.Mnemonic.TheVariants as code
-use Rattle.machine.specs.Parts.{Own, Parts, then_ok}
-use Rattle.machine.specs.declared.places.Access.TheVariants.{Reading, Writing}
+use Rattle.machine.specs.Parts.{Parts, then_ok}
+use Rattle.machine.specs.declared.places.Access.TheVariants.{Writing}
 use Rattle.machine.specs.declared.places.Bound.{Bound}
 use Rattle.statement_laws.specs.Named.{Named, Number, OpenBlock}
 use Rattle.statement_laws.specs.Named as named
@@ -123,7 +121,8 @@ bit_there b p = then_ok (number_or_error Writing b p) (λ n. Ok (n == 1))
 
 -- =: the RLO that the relay lets through
 abbrev pub assigns : Named → Parts → Result Parts ℕ
-assigns x p = then_ok (place_of_operand Writing x p) (λ b. writes_bit b (flow p) (stored (flow p) (regs p)) p)
+assigns x p =
+    then_ok (place_of_operand Writing x p) (λ b. writes_bit b (flow p) (stored (flow p) (regs p)) p)
 
 -- S (1) and R (0) of a bit: with RLO 1, and not while the relay is closed
 abbrev pub bit_after : (flow value before : Bool) → Bool

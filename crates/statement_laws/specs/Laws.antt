@@ -1,5 +1,5 @@
 -- What the laws say, by families of instructions.
-use Rattle.std.specs.Prelude.{◌≡◌, ℕ, Bool, true, false, not, ◌||◌, is_some, List, ◌∷◌, ◌++◌, ◌+◌, length, slice_get, Option, Some, None, Result}
+use Rattle.std.specs.Prelude.{◌≡◌, ℕ, Bool, true, false, not, ◌||◌, is_some, List, ◌∷◌, ◌++◌, ◌+◌, length, slice_get, Option, Some, Result}
 use Rattle.std.specs.List.{AllByRecursion}
 use Rattle.plc_base.specs.declared.blocks.BlockId.{BlockId}
 use Rattle.stl_ast.specs.Statements.{is_empty}

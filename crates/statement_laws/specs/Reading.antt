@@ -1,14 +1,13 @@
 -- What an operand reads as, where its place lies, and what writing to it makes of memory
 -- (docs/SEMANTICS.md, "Memory", "Operands", "Constants"). An error has the code of docs/SEMANTICS.md,
 -- "Synchronous errors"; 0 stands for what no instruction of a program that is loaded comes to.
-use Rattle.std.specs.Prelude.{ℕ, ◌+◌, ◌-◌, ◌*◌, ◌/◌, ◌%◌, ◌^◌, ◌==◌, Bool, true, false, ◌&&◌, not, List, [], ◌∷◌, length, slice_get, ℤ, pos, negsuc, Option, Some, None, Result, Ok, Err, ok_or, if◌then◌else◌}
+use Rattle.std.specs.Prelude.{ℕ, ◌+◌, ◌-◌, ◌*◌, ◌/◌, ◌%◌, ◌^◌, ◌==◌, Bool, true, false, List, [], ◌∷◌, length, slice_get, ℤ, pos, negsuc, Option, Some, None, Result, Ok, Err, ok_or, if◌then◌else◌}
 use Rattle.std.specs.Option.{option_map}
 use Rattle.plc_base.specs.Bcd.{bcd_digits}
 use Rattle.plc_base.specs.Pointer.{place_of}
 use Rattle.plc_base.specs.S5Time.{s5time_of}
 use Rattle.plc_base.specs.declared.places.Area.{Area}
 use Rattle.plc_base.specs.declared.places.Area.TheVariants as area
-use Rattle.plc_base.specs.declared.places.Place.{Place}
 use Rattle.plc_base.specs.declared.places.Width.{Width}
 use Rattle.plc_base.specs.declared.places.Width.TheVariants as widths
 use Rattle.plc_mem.specs.Areas.{Areas}
@@ -22,7 +21,7 @@ use Rattle.frames.specs.declared.bindings.Binding.{Binding}
 use Rattle.frames.specs.declared.bindings.Binding.TheVariants as binding
 use Rattle.stl_ast.specs.declared.literals.Literal.{Literal}
 use Rattle.stl_ast.specs.declared.literals.Literal.TheVariants as literal
-use Rattle.machine.specs.Parts.{Own, Parts, then_ok}
+use Rattle.machine.specs.Parts.{Parts, then_ok}
 use Rattle.machine.specs.declared.places.Access.{Access}
 use Rattle.machine.specs.declared.places.Access.TheVariants.{Reading, Writing}
 use Rattle.machine.specs.declared.places.Bound.{Bound}
@@ -32,34 +31,34 @@ use Rattle.statement_laws.specs.Named as named
 -- ---- constants
 
 -- two's complement in so many bits
-abbrev pub in_bits : (w : ℕ) → ℤ → ℕ
-in_bits w (pos n) = n
-in_bits w (negsuc n) = 2 ^ w - (n + 1)
+abbrev pub twos_complement : (w : ℕ) → ℤ → ℕ
+twos_complement w (pos n) = n
+twos_complement w (negsuc n) = 2 ^ w - (n + 1)
 
 -- bytes as a number, the first one highest, behind the number of those before them
-abbrev pub bytes_behind : ℕ → List ℕ → ℕ
-bytes_behind n [] = n
-bytes_behind n (b ∷ bs) = bytes_behind (256 * n + b) bs
+abbrev pub number_behind : ℕ → List ℕ → ℕ
+number_behind n [] = n
+number_behind n (b ∷ bs) = number_behind (256 * n + b) bs
 
 -- a number where there is one; an S5TIME that is too long stands in no source
-abbrev pub or_none : Option ℕ → ℕ
-or_none None = 0
-or_none (Some n) = n
+abbrev pub or_zero : Option ℕ → ℕ
+or_zero None = 0
+or_zero (Some n) = n
 
 -- the bits of a constant
 unfoldable pub bits : Literal → ℕ
 bits (literal.Truth value) = if value then 1 else 0
-bits (literal.Number value) = in_bits 16 value
+bits (literal.Number value) = twos_complement 16 value
 bits (literal.Binary value) = value
 bits (literal.Byte value) = value
 bits (literal.Word value) = value
 bits (literal.Dword value) = value
-bits (literal.Long value) = in_bits 32 value
+bits (literal.Long value) = twos_complement 32 value
 bits (literal.Count value) = bcd_digits 3 value
-bits (literal.Time ms) = in_bits 32 ms
-bits (literal.S5time ms) = or_none (s5time_of ms)
-bits (literal.Characters bytes) = bytes_behind 0 bytes
-bits (literal.Bytes bytes) = bytes_behind 0 bytes
+bits (literal.Time ms) = twos_complement 32 ms
+bits (literal.S5time ms) = or_zero (s5time_of ms)
+bits (literal.Characters bytes) = number_behind 0 bytes
+bits (literal.Bytes bytes) = number_behind 0 bytes
 
 -- ---- places
 
@@ -188,7 +187,8 @@ place_of_binding _ = Err 0
 -- the place of what an operand names
 unfoldable pub place_of_operand : Access → Named → Parts → Result Bound ℕ
 place_of_operand access (named.Place spot) p = place_of_spot access spot p
-place_of_operand access (named.Parameter index width) p = place_of_binding (slice_get p.own.inner.bindings index)
+place_of_operand access (named.Parameter index width) p =
+    place_of_binding (slice_get p.own.inner.bindings index)
 place_of_operand access _ p = Err 0
 
 -- ---- numbers and bits
@@ -217,8 +217,10 @@ of_counter read n p =
 
 -- the number at a place or of a constant
 unfoldable pub number_of_operand : Named → Parts → Result ℕ ℕ
-number_of_operand (named.Place spot) p = then_ok (place_of_spot Reading spot p) (λ b. number_or_error Reading b p)
-number_of_operand (named.Parameter index width) p = number_of_binding (slice_get p.own.inner.bindings index) p
+number_of_operand (named.Place spot) p =
+    then_ok (place_of_spot Reading spot p) (λ b. number_or_error Reading b p)
+number_of_operand (named.Parameter index width) p =
+    number_of_binding (slice_get p.own.inner.bindings index) p
 number_of_operand (named.Constant value) p = Ok (bits value)
 number_of_operand (named.Pointer value) p = Ok value
 number_of_operand _ p = Err 0
