@@ -9,3 +9,4 @@ pub mod JumpLemmas
 pub mod CoverLemmas
 pub mod CallLemmas
 pub mod NumberLemmas
+pub mod VariableCover

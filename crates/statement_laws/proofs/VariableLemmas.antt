@@ -61,7 +61,7 @@ inside true o x n = absurd cc
 inside false o x n = n
 
 -- a block that breaks no rule
-judged : (c : Context) (temporary b : Bool) (end : PathEnd) (v : ResolvedOperand)
+pub judged : (c : Context) (temporary b : Bool) (end : PathEnd) (v : ResolvedOperand)
     → own_walked c temporary (if b then end else walk.Rests) ≡ Resolved v
     → own_walked c temporary end ≡ Resolved v
 judged c temporary true end v e = e
@@ -222,7 +222,7 @@ parameter_same c name [] m v x f there e n =
 
 -- ---- the block's own variables
 
-function_same : (b : Option Block) → is_fc b ≡ is_of_function b
+pub function_same : (b : Option Block) → is_fc b ≡ is_of_function b
 function_same None = refl
 function_same (Some b) = refl
 

@@ -1,6 +1,8 @@
 -- What the laws say, by families of instructions.
-use Rattle.std.specs.Prelude.{◌≡◌, ℕ, Bool, true, false, not, ◌||◌, is_some, List, ◌∷◌, ◌++◌, ◌+◌, length, slice_get, Option, Some, Result}
+use Rattle.std.specs.Prelude.{◌≡◌, ℕ, Bool, true, false, not, ◌||◌, is_some, List, ◌∷◌, ◌++◌, ◌+◌, length, slice_get, Option, Some, Result, nat_eq, ◌&&◌}
 use Rattle.std.specs.List.{AllByRecursion}
+use Rattle.std.specs.Option.{option_and_then}
+use Rattle.plc_base.specs.Folding.{folded}
 use Rattle.plc_base.specs.declared.blocks.BlockId.{BlockId}
 use Rattle.stl_ast.specs.Statements.{is_empty}
 use Rattle.stl_ast.specs.declared.blocks.Block.{Block}
@@ -12,7 +14,9 @@ use Rattle.stl_ast.specs.declared.operands.Operand.TheVariants as operand
 use Rattle.stl_ast.specs.declared.operands.PathHead.TheVariants as head
 use Rattle.stl_ast.specs.declared.statements.Actual.{Actual}
 use Rattle.stl_ast.specs.declared.statements.Statement.{Statement}
-use Rattle.stl_types.specs.Context.{Context}
+use Rattle.block_layout.specs.Paths.{folded_path, leaves_judged, leaves_local, plain_kind, structure_of}
+use Rattle.block_layout.specs.declared.cells.Cell.{Cell}
+use Rattle.stl_types.specs.Context.{Context, data_place}
 use Rattle.stl_types.specs.Parameters.{Callee, callee_of}
 use Rattle.stl_types.specs.Resolution.{seen}
 use Rattle.stl_types.specs.declared.views.Resolution.TheVariants.{Resolved}
@@ -29,7 +33,7 @@ use Rattle.machine.specs.Statement.{World, performed, went_on}
 use Rattle.statement_laws.specs.Calls.{bindings_of, calls, parameter_names}
 use Rattle.statement_laws.specs.Named.{Named}
 use Rattle.statement_laws.specs.Named as named
-use Rattle.statement_laws.specs.Operands.{named_by, register_named}
+use Rattle.statement_laws.specs.Operands.{components_of_block, is_fc, named_by, register_named}
 use Rattle.statement_laws.specs.Effects.{effect}
 use Rattle.statement_laws.specs.Jumps.{count_of, ends_block, jumps, jumps_by_list, number_of_label}
 
@@ -286,6 +290,38 @@ abbrev pub OperandsAreNamed : Type 0
 OperandsAreNamed =
     (c : Context) (s : Statement) (v : ResolvedOperand) → has_fixed_name s.operand ≡ true
     → resolved c s ≡ Some v → (x : Named) × (named_by c s.operand ≡ Some x)
+
+-- a component of elementary type, and no array
+abbrev pub is_elementary : Cell → Bool
+is_elementary cell = nat_eq 0 (length cell.bounds) && is_some (plain_kind cell.of)
+
+-- the parameters of a function are of elementary type
+abbrev pub HasElementaryParameters : Context → Type 0
+HasElementaryParameters c =
+    is_fc (slice_get c.blocks c.block) ≡ true
+    → AllByRecursion (λ cell. is_elementary cell ≡ true) (components_of_block c)
+
+-- a variable: a path from a declared name, or into a data block
+abbrev pub is_variable : Operand → Bool
+is_variable (operand.Named (head.Local name) steps) = true
+is_variable (operand.Named (head.InBlock name) steps) = true
+is_variable _ = false
+
+-- no index of its path lies outside its array
+abbrev pub stays_inside : Context → Operand → Bool
+stays_inside c (operand.Named (head.Local name) steps) =
+    not (leaves_local c.layouts c.block (folded name) (folded_path steps))
+stays_inside c (operand.Named (head.InBlock name) steps) =
+    not (leaves_judged c.layouts (option_and_then (structure_of c.layouts) (data_place c name))
+    (folded_path steps))
+stays_inside c _ = true
+
+-- and then a variable is named, too
+abbrev pub VariablesAreNamed : Type 0
+VariablesAreNamed =
+    (c : Context) (s : Statement) (v : ResolvedOperand) → HasElementaryParameters c
+    → is_variable s.operand ≡ true → stays_inside c s.operand ≡ true → resolved c s ≡ Some v
+    → (x : Named) × (named_by c s.operand ≡ Some x)
 
 -- ---- calls
 

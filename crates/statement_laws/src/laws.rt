@@ -1,10 +1,14 @@
 //! Laws of statements: each function does nothing, and its contract is the law.
-ghost use Rattle.statement_laws.specs.Laws.{BitLogicActs, CallsAct, ComparisonsAct, DataBlocksAct, EndsAct, FamiliesAreAll, IdleActs, JumpListsAct, LoadsAct, NumbersAct, OperandsAreNamed, PlainJumpsAct, RelayActs, ShiftsAct, StatementsAreNumbered, TimingActs};
+ghost use Rattle.statement_laws.specs.Laws.{BitLogicActs, CallsAct, ComparisonsAct, DataBlocksAct, EndsAct, FamiliesAreAll, IdleActs, JumpListsAct, LoadsAct, NumbersAct, OperandsAreNamed, PlainJumpsAct, RelayActs, ShiftsAct, StatementsAreNumbered, TimingActs, VariablesAreNamed};
 
-/// Whatever its instruction takes, an operand names something: a variable alone, whose place the layout
-/// tells, and a called block aren't claimed here.
+/// Whatever its instruction takes, an operand that is no variable and no called block names something.
 pub fn operands_are_named()
     ensures { OperandsAreNamed }
+{}
+
+/// A variable that its instruction takes is named, where no index leaves its array.
+pub fn variables_are_named()
+    ensures { VariablesAreNamed }
 {}
 
 /// A statement of bit logic does what its mnemonic says with what its operand names: it reads and checks
