@@ -1,0 +1,283 @@
+-- What an operand of the code reads as, where it stands for what is named.
+use Rattle.std.proofs.Common.{ℕ, ◌≡◌, ◌==◌, Bool, true, false, List, slice_get, Option, Some, None, Result, Ok, Err, ok_or, option_map, if◌then◌else◌, refl, ◌∙◌, ap}
+use Rattle.std.proofs.lemmas.Bool.{false≢true}
+use Rattle.plc_base.specs.declared.flags.Flag.{Flag}
+use Rattle.plc_base.specs.declared.flags.Flag.TheVariants as flag
+use Rattle.plc_base.specs.declared.places.Area.{Area}
+use Rattle.plc_base.specs.declared.places.Area.TheVariants as area
+use Rattle.plc_base.specs.declared.places.Width.TheVariants as widths
+use Rattle.status_word.specs.Flags.{flag_value}
+use Rattle.timers_counters.specs.Counter.{Counter, count_bcd, is_counting}
+use Rattle.timers_counters.specs.Numbered.{reading}
+use Rattle.timers_counters.specs.Timer.{Timer, time_left, units_left}
+use Rattle.timers_counters.specs.declared.faults.TimerFault.TheVariants.{NoNumber}
+use Rattle.frames.specs.declared.bindings.Binding.{Binding}
+use Rattle.frames.specs.declared.bindings.Binding.TheVariants as binding
+use Rattle.flat_code.specs.Kinds.{condition_of, flag_of}
+use Rattle.flat_code.specs.declared.operands.Operand.{Operand}
+use Rattle.flat_code.specs.declared.operands.Operand.TheVariants as flat
+use Rattle.machine.specs.Parts.{Parts, then_ok}
+use Rattle.machine.specs.Places as places
+use Rattle.machine.specs.Values as values
+use Rattle.machine.specs.declared.places.Access.{Access}
+use Rattle.machine.specs.declared.places.Access.TheVariants.{Reading}
+use Rattle.statement_laws.specs.Named.{Named, Number, OpenBlock, Spot}
+use Rattle.statement_laws.specs.Named as named
+use Rattle.statement_laws.specs.Reading as own
+use Rattle.statement_laws.proofs.PlaceLemmas.{crossing_same, fixed_same, pointed_same, read_same, standing_same, then_same}
+
+-- ---- operands of the code
+
+abbrev pub flat_spot : Spot → Operand
+flat_spot (named.Fixed a w byte bit) = flat.Direct a w byte bit
+flat_spot (named.ByMemory a w from byte) = flat.ByMemory a w from byte
+flat_spot (named.ByRegister a w register count) = flat.ByRegister a w register count
+
+-- timers are of kind 1, counters of kind 2
+abbrev pub flat_number : (kind : ℕ) → Number → Operand
+flat_number kind (named.Written number) = flat.Numbered kind number
+flat_number kind (named.InWord from byte) = flat.NumberedBy kind from byte
+
+abbrev pub flat_block : (di : Bool) → Number → Operand
+flat_block di (named.Written number) = flat.OpenBlock (if di then 2 else 1) number
+flat_block di (named.InWord from byte) = flat.OpenBy (if di then 2 else 1) from byte
+
+abbrev pub flat_fact : OpenBlock → Operand
+flat_fact named.DbLength = flat.Literal 0
+flat_fact named.DbNumber = flat.Literal 1
+flat_fact named.DiLength = flat.Literal 2
+flat_fact named.DiNumber = flat.Literal 3
+
+-- the operand of the code for what is named
+abbrev pub flat_of : Named → Operand
+flat_of (named.Place spot) = flat_spot spot
+flat_of (named.PlaceIn block w byte bit) = flat.Direct area.Db w byte bit
+flat_of (named.Parameter index w) = flat.Parameter index w
+flat_of (named.Constant value) = flat.Literal (own.bits value)
+flat_of (named.Pointer value) = flat.Literal value
+flat_of (named.Condition f) = flat.OfStatus (condition_of f)
+flat_of (named.Timer n) = flat_number 1 n
+flat_of (named.Counter n) = flat_number 2 n
+flat_of (named.DataBlock di n) = flat_block di n
+flat_of (named.Opened what) = flat_fact what
+flat_of _ = flat.Nothing
+
+-- ---- places
+
+found_same : (access : Access) (spot : Spot) (p : Parts)
+    → places.located access (flat_spot spot) p.own p.memory ≡ own.place_of_spot access spot p
+unfolding places.located own.place_of_spot
+found_same access (named.Fixed a w byte bit) p = fixed_same access a w byte bit p
+found_same access (named.ByMemory a w from byte) p =
+    then_same (places.pointer from byte widths.Dword p.own p.memory)
+    (own.stored_number from byte widths.Dword p)
+    (λ n. places.by_pointer access a w n p.own) (λ n. own.place_of_pointer access a w n p)
+    (standing_same from byte widths.Dword p) (λ n. pointed_same access a w n p)
+found_same access (named.ByRegister None w register count) p =
+    crossing_same access w (places.address register p.own)
+    (places.moved (places.address register p.own) count) p
+found_same access (named.ByRegister (Some a) w register count) p =
+    pointed_same access a w (places.moved (places.address register p.own) count) p
+
+bound_same : (o : Option Binding) → places.of_binding o ≡ own.place_of_binding o
+bound_same None = refl
+bound_same (Some (binding.Bound place w frame)) = refl
+bound_same (Some _) = refl
+
+-- what is named isn't in a data block that the statement opens first
+abbrev pub is_open : Named → Bool
+is_open (named.PlaceIn block w byte bit) = false
+is_open _ = true
+
+pub place_same : (access : Access) (x : Named) (p : Parts) → is_open x ≡ true
+    → places.located access (flat_of x) p.own p.memory ≡ own.place_of_operand access x p
+unfolding places.located own.place_of_operand
+place_same access (named.Place spot) p e = found_same access spot p
+place_same access (named.PlaceIn block w byte bit) p e = absurd (false≢true e)
+place_same access (named.Parameter index w) p e = bound_same (slice_get p.own.inner.bindings index)
+place_same access (named.Timer (named.Written n)) p e = refl
+place_same access (named.Timer (named.InWord from byte)) p e = refl
+place_same access (named.Counter (named.Written n)) p e = refl
+place_same access (named.Counter (named.InWord from byte)) p e = refl
+place_same access (named.DataBlock di (named.Written n)) p e = refl
+place_same access (named.DataBlock di (named.InWord from byte)) p e = refl
+place_same access (named.Opened named.DbLength) p e = refl
+place_same access (named.Opened named.DbNumber) p e = refl
+place_same access (named.Opened named.DiLength) p e = refl
+place_same access (named.Opened named.DiNumber) p e = refl
+place_same access _ p e = refl
+
+-- ---- numbers
+
+bound_number_same : (o : Option Binding) (p : Parts)
+    → values.number_of_binding o p.own p.memory ≡ own.number_of_binding o p
+bound_number_same None p = refl
+bound_number_same (Some (binding.Bound place w frame)) p =
+    read_same (record { place = place; width = w; frame = frame }) p
+bound_number_same (Some (binding.Constant value)) p = refl
+bound_number_same (Some _) p = refl
+
+-- what is named can be read as a number or a bit, or not at all
+abbrev pub is_read : Named → Bool
+is_read (named.PlaceIn block w byte bit) = false
+is_read (named.Opened what) = false
+is_read _ = true
+
+spot_read : (spot : Spot) (p : Parts)
+    → then_ok (places.located Reading (flat_spot spot) p.own p.memory)
+    (λ b. places.read b p.own p.memory)
+    ≡ then_ok (own.place_of_spot Reading spot p) (λ b. own.number_or_error Reading b p)
+spot_read spot p =
+    then_same (places.located Reading (flat_spot spot) p.own p.memory) (own.place_of_spot Reading spot p)
+    (λ b. places.read b p.own p.memory) (λ b. own.number_or_error Reading b p)
+    (found_same Reading spot p) (λ b. read_same b p)
+
+spot_number : (spot : Spot) (p : Parts)
+    → values.number (flat_spot spot) p.own p.memory
+    ≡ then_ok (places.located Reading (flat_spot spot) p.own p.memory)
+    (λ b. places.read b p.own p.memory)
+unfolding values.number
+spot_number (named.Fixed a w byte bit) p = refl
+spot_number (named.ByMemory a w from byte) p = refl
+spot_number (named.ByRegister a w register count) p = refl
+
+pub number_same : (x : Named) (p : Parts) → is_read x ≡ true
+    → values.number (flat_of x) p.own p.memory ≡ own.number_of_operand x p
+unfolding values.number own.number_of_operand places.located
+number_same (named.Place spot) p e = spot_number spot p ∙ spot_read spot p
+number_same (named.PlaceIn block w byte bit) p e = absurd (false≢true e)
+number_same (named.Opened what) p e = absurd (false≢true e)
+number_same (named.Parameter index w) p e =
+    bound_number_same (slice_get p.own.inner.bindings index) p
+number_same (named.Timer (named.Written n)) p e = refl
+number_same (named.Timer (named.InWord from byte)) p e = refl
+number_same (named.Counter (named.Written n)) p e = refl
+number_same (named.Counter (named.InWord from byte)) p e = refl
+number_same (named.DataBlock di (named.Written n)) p e = refl
+number_same (named.DataBlock di (named.InWord from byte)) p e = refl
+number_same _ p e = refl
+
+-- ---- timers and counters
+
+pub numbered_same : (kind : ℕ) (n : Number) (p : Parts)
+    → values.number_named (flat_number kind n) p.own p.memory ≡ own.number_of_item n p
+unfolding values.number_named own.number_of_item
+numbered_same kind (named.Written n) p = refl
+numbered_same kind (named.InWord from byte) p = standing_same from byte widths.Word p
+
+faulty_same : {A B : Type 0} (code : ℕ) (read : A → B) (all : List A) (n : ℕ)
+    → values.faulty code (reading read all n) ≡ ok_or (option_map read (slice_get all n)) code
+faulty_same {A = A} code read all n = by (slice_get all n)
+  where
+    by : (o : Option A)
+        → values.faulty code (ok_or (option_map read o) NoNumber) ≡ ok_or (option_map read o) code
+    by None = refl
+    by (Some x) = refl
+
+-- a condition by its number in the code
+flag_same : (f : Flag) → flag_of (condition_of f) ≡ f
+unfolding flag_of
+flag_same flag.Br = refl
+flag_same flag.Ov = refl
+flag_same flag.Os = refl
+flag_same flag.EqZero = refl
+flag_same flag.NeZero = refl
+flag_same flag.GtZero = refl
+flag_same flag.LtZero = refl
+flag_same flag.GeZero = refl
+flag_same flag.LeZero = refl
+flag_same flag.Uo = refl
+
+one_same : (r : Result ℕ ℕ) → values.is_one r ≡ then_ok r (λ n. Ok (n == 1))
+one_same (Ok n) = refl
+one_same (Err code) = refl
+
+-- of a timer or a counter by its number in a word
+in_word : {A B : Type 0} (code : ℕ) (read : A → B) (all : List A) (from : Area) (byte : ℕ) (p : Parts)
+    → then_ok (places.pointer from byte widths.Word p.own p.memory)
+    (λ n. values.faulty code (reading read all n))
+    ≡ then_ok (own.stored_number from byte widths.Word p)
+    (λ n. ok_or (option_map read (slice_get all n)) code)
+in_word code read all from byte p =
+    then_same (places.pointer from byte widths.Word p.own p.memory)
+    (own.stored_number from byte widths.Word p)
+    (λ n. values.faulty code (reading read all n))
+    (λ n. ok_or (option_map read (slice_get all n)) code)
+    (standing_same from byte widths.Word p) (λ n. faulty_same code read all n)
+
+spot_tested : (spot : Spot) (p : Parts)
+    → values.tested (flat_spot spot) p.own p.memory p.timers p.counters
+    ≡ values.is_one (values.number (flat_spot spot) p.own p.memory)
+unfolding values.tested
+spot_tested (named.Fixed a w byte bit) p = refl
+spot_tested (named.ByMemory a w from byte) p = refl
+spot_tested (named.ByRegister a w register count) p = refl
+
+pub tested_same : (x : Named) (p : Parts) → is_read x ≡ true
+    → values.tested (flat_of x) p.own p.memory p.timers p.counters ≡ own.bit_of_operand x p
+unfolding values.tested values.bit_of_numbered own.bit_of_operand own.number_of_item
+tested_same (named.Place spot) p e =
+    spot_tested spot p
+    ∙ ap values.is_one (number_same (named.Place spot) p e)
+    ∙ one_same (own.number_of_operand (named.Place spot) p)
+tested_same (named.PlaceIn block w byte bit) p e = absurd (false≢true e)
+tested_same (named.Opened what) p e = absurd (false≢true e)
+tested_same (named.Timer (named.Written n)) p e =
+    faulty_same 0x26 (λ (timer : Timer). timer.output) p.timers n
+tested_same (named.Timer (named.InWord from byte)) p e =
+    in_word 0x26 (λ (timer : Timer). timer.output) p.timers from byte p
+tested_same (named.Counter (named.Written n)) p e = faulty_same 0x27 is_counting p.counters n
+tested_same (named.Counter (named.InWord from byte)) p e = in_word 0x27 is_counting p.counters from byte p
+tested_same (named.Condition f) p e = ap (λ g. Ok (flag_value g p.own.regs.status)) (flag_same f)
+tested_same (named.DataBlock di (named.Written n)) p e =
+    ap values.is_one (number_same (named.DataBlock di (named.Written n)) p e)
+    ∙ one_same (own.number_of_operand (named.DataBlock di (named.Written n)) p)
+tested_same (named.DataBlock di (named.InWord from byte)) p e =
+    ap values.is_one (number_same (named.DataBlock di (named.InWord from byte)) p e)
+    ∙ one_same (own.number_of_operand (named.DataBlock di (named.InWord from byte)) p)
+tested_same x p e = ap values.is_one (number_same x p e) ∙ one_same (own.number_of_operand x p)
+
+spot_loaded : (spot : Spot) (p : Parts)
+    → values.loaded (flat_spot spot) p.own p.memory p.timers p.counters
+    ≡ values.number (flat_spot spot) p.own p.memory
+unfolding values.loaded
+spot_loaded (named.Fixed a w byte bit) p = refl
+spot_loaded (named.ByMemory a w from byte) p = refl
+spot_loaded (named.ByRegister a w register count) p = refl
+
+pub loaded_same : (x : Named) (p : Parts) → is_read x ≡ true
+    → values.loaded (flat_of x) p.own p.memory p.timers p.counters ≡ own.number_to_load x p
+unfolding values.loaded values.value_of_numbered own.number_to_load own.number_of_item
+loaded_same (named.Place spot) p e = spot_loaded spot p ∙ number_same (named.Place spot) p e
+loaded_same (named.PlaceIn block w byte bit) p e = absurd (false≢true e)
+loaded_same (named.Opened what) p e = absurd (false≢true e)
+loaded_same (named.Timer (named.Written n)) p e = faulty_same 0x26 units_left p.timers n
+loaded_same (named.Timer (named.InWord from byte)) p e =
+    in_word 0x26 units_left p.timers from byte p
+loaded_same (named.Counter (named.Written n)) p e =
+    faulty_same 0x27 (λ (counter : Counter). counter.value) p.counters n
+loaded_same (named.Counter (named.InWord from byte)) p e =
+    in_word 0x27 (λ (counter : Counter). counter.value) p.counters from byte p
+loaded_same (named.DataBlock di (named.Written n)) p e =
+    number_same (named.DataBlock di (named.Written n)) p e
+loaded_same (named.DataBlock di (named.InWord from byte)) p e =
+    number_same (named.DataBlock di (named.InWord from byte)) p e
+loaded_same x p e = number_same x p e
+
+pub bcd_same : (x : Named) (p : Parts)
+    → values.bcd_loaded (flat_of x) p.own p.memory p.timers p.counters ≡ own.bcd_to_load x p
+unfolding values.bcd_loaded values.bcd_of_numbered own.bcd_to_load own.number_of_item
+bcd_same (named.Timer (named.Written n)) p = faulty_same 0x26 time_left p.timers n
+bcd_same (named.Timer (named.InWord from byte)) p = in_word 0x26 time_left p.timers from byte p
+bcd_same (named.Counter (named.Written n)) p = faulty_same 0x27 count_bcd p.counters n
+bcd_same (named.Counter (named.InWord from byte)) p = in_word 0x27 count_bcd p.counters from byte p
+bcd_same (named.Place (named.Fixed a w byte bit)) p = refl
+bcd_same (named.Place (named.ByMemory a w from byte)) p = refl
+bcd_same (named.Place (named.ByRegister a w register count)) p = refl
+bcd_same (named.DataBlock di (named.Written n)) p = refl
+bcd_same (named.DataBlock di (named.InWord from byte)) p = refl
+bcd_same (named.Opened named.DbLength) p = refl
+bcd_same (named.Opened named.DbNumber) p = refl
+bcd_same (named.Opened named.DiLength) p = refl
+bcd_same (named.Opened named.DiNumber) p = refl
+bcd_same _ p = refl

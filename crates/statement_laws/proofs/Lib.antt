@@ -1,0 +1,12 @@
+pub mod PlaceLemmas
+pub mod FlatLemmas
+pub mod ActionLemmas
+pub mod SeenLemmas
+pub mod VariableLemmas
+pub mod RuleLemmas
+pub mod FamilyLemmas
+pub mod JumpLemmas
+pub mod CoverLemmas
+pub mod CallLemmas
+pub mod NumberLemmas
+pub mod VariableCover

@@ -1,0 +1,217 @@
+-- Calls: what each parameter of the called block stands for, by what the call passes for its name
+-- (docs/SEMANTICS.md, "Calls"). How a block is entered with its parameters bound is the machine's word.
+use Rattle.std.specs.Prelude.{ℕ, suc, nat_eq, Bool, true, false, List, [], ◌∷◌, ◌++◌, map, length, replicate, codes, slice_get, Option, Some, None, Result, Ok, Err, bytes_eq, if◌then◌else◌}
+use Rattle.std.specs.List.{flat_map}
+use Rattle.std.specs.Option.{option_and_then}
+use Rattle.plc_base.specs.Folding.{folded}
+use Rattle.plc_base.specs.Kinds.{is_system_function}
+use Rattle.plc_base.specs.declared.blocks.BlockId.{BlockId}
+use Rattle.plc_base.specs.declared.places.Area.TheVariants as area
+use Rattle.status_word.specs.declared.registers.Regs.{Regs}
+use Rattle.frames.specs.Bound.{set_at}
+use Rattle.frames.specs.declared.Activation.{Activation}
+use Rattle.frames.specs.declared.bindings.Binding.{Binding}
+use Rattle.frames.specs.declared.bindings.Binding.TheVariants as binding
+use Rattle.stl_ast.specs.declared.blocks.PartKind.{PartKind}
+use Rattle.stl_ast.specs.declared.blocks.PartKind.TheVariants as part
+use Rattle.stl_ast.specs.declared.mnemonics.Mnemonic.{Mnemonic}
+use Rattle.stl_ast.specs.declared.mnemonics.Mnemonic.TheVariants as code
+use Rattle.stl_ast.specs.declared.statements.Actual.{Actual}
+use Rattle.block_layout.specs.Blocks.{known_block}
+use Rattle.block_layout.specs.Paths.{cells_at}
+use Rattle.block_layout.specs.declared.cells.Cell.{Cell}
+use Rattle.block_layout.specs.declared.cells.Element.{Element}
+use Rattle.block_layout.specs.declared.cells.Element.TheVariants as element
+use Rattle.stl_types.specs.Context.{Context}
+use Rattle.flat_code.specs.Records.{section_out}
+use Rattle.flat_code.specs.declared.programs.Param.{Param}
+use Rattle.machine.specs.Code.{Code, Head}
+use Rattle.machine.specs.Entering.{called_with}
+use Rattle.machine.specs.Parts.{Parts, parts_of, then_ok}
+use Rattle.machine.specs.Statement.{Step, Stuck, Went, World, after_call, after_system_call, callee_of}
+use Rattle.machine.specs.SystemCalls.{given_now, system_function}
+use Rattle.machine.specs.declared.places.Access.{Access}
+use Rattle.machine.specs.declared.places.Access.TheVariants.{Reading, Writing}
+use Rattle.machine.specs.declared.places.Bound.{Bound}
+use Rattle.statement_laws.specs.Effects.{is_loaded}
+use Rattle.statement_laws.specs.Jumps.{rlo_set, standing_at}
+use Rattle.statement_laws.specs.Named.{Named}
+use Rattle.statement_laws.specs.Named as named
+use Rattle.statement_laws.specs.Operands.{has_result, named_by}
+use Rattle.statement_laws.specs.Reading.{at, bits, fixed_place, no_place, number_at_bound}
+
+-- ---- parameters by their names
+
+-- a component is a parameter, of the sections IN, OUT and IN_OUT
+abbrev pub is_passed_by_call : PartKind → Bool
+is_passed_by_call part.Input = true
+is_passed_by_call part.Output = true
+is_passed_by_call part.InOut = true
+is_passed_by_call part.Static = false
+is_passed_by_call part.Temp = false
+
+-- the name of a parameter, which is of elementary type
+abbrev pub name_if_plain : Element → List ℕ → List (List ℕ)
+name_if_plain (element.Plain kind) name = name ∷ []
+name_if_plain _ name = []
+
+abbrev pub parameter_name : Cell → List (List ℕ)
+parameter_name cell =
+    if is_passed_by_call cell.section then name_if_plain cell.of cell.name else []
+
+-- in the order of a call the return value, which is declared first, is the last
+abbrev pub in_call_order : (result : Bool) → List (List ℕ) → List (List ℕ)
+in_call_order false names = names
+in_call_order true [] = []
+in_call_order true (result ∷ names) = names ++ result ∷ []
+
+-- the parameters of the nine system functions
+abbrev pub system_names : ℕ → List (List ℕ)
+system_names n =
+    if nat_eq n 32
+    then codes "OB_NR" ∷ codes "DTIME" ∷ codes "SIGN" ∷ codes "RET_VAL" ∷ []
+    else if nat_eq n 33 then codes "OB_NR" ∷ codes "RET_VAL" ∷ []
+    else if nat_eq n 39 then codes "MODE" ∷ codes "OB_NR" ∷ codes "RET_VAL" ∷ []
+    else if nat_eq n 40 then codes "MODE" ∷ codes "OB_NR" ∷ codes "RET_VAL" ∷ []
+    else if nat_eq n 41 then codes "RET_VAL" ∷ []
+    else if nat_eq n 42 then codes "RET_VAL" ∷ []
+    else if nat_eq n 43 then []
+    else if nat_eq n 46 then []
+    else if nat_eq n 64 then codes "RET_VAL" ∷ []
+    else []
+
+-- those of the block at a place of the source; of none there are none
+abbrev pub source_names : Context → Option ℕ → List (List ℕ)
+source_names c None = []
+source_names c (Some place) =
+    in_call_order (has_result (slice_get c.blocks place))
+    (flat_map parameter_name (cells_at c.layouts place false))
+
+-- the parameters of a block in the order of a call
+abbrev pub parameter_names : Context → BlockId → List (List ℕ)
+parameter_names c id =
+    if is_system_function id.kind then system_names id.number
+    else source_names c (known_block id (map (λ b. b.id) c.layouts))
+
+-- ---- what is passed
+
+-- the actual parameter of a name, whose letters may be small or large
+abbrev pub actual_for : List ℕ → List Actual → Option Actual
+actual_for name [] = None
+actual_for name (a ∷ actuals) =
+    if bytes_eq (folded a.name) name then Some a else actual_for name actuals
+
+-- a constant, a place, a place in a data block that is named, or a parameter of the caller is passed
+abbrev pub if_passable : Named → Option Named
+if_passable (named.Constant value) = Some (named.Constant value)
+if_passable (named.Place (named.Fixed a w byte bit)) = Some (named.Place (named.Fixed a w byte bit))
+if_passable (named.PlaceIn block w byte bit) = Some (named.PlaceIn block w byte bit)
+if_passable (named.Parameter index w) = Some (named.Parameter index w)
+if_passable _ = None
+
+abbrev pub named_in_call : Context → Option Actual → Option Named
+named_in_call c None = None
+named_in_call c (Some a) = option_and_then if_passable (named_by c a.value)
+
+-- ---- what it stands for
+
+-- a place is bound where it exists: 22 and 23, in the peripheral area 42 and 43
+abbrev pub binding_if : Access → Bound → Option ℕ → Result Binding ℕ
+binding_if access b None = Err (no_place access b.place.area)
+binding_if access b (Some n) = Ok (binding.Bound b.place b.width b.frame)
+
+abbrev pub binding_at : Access → Bound → Parts → Result Binding ℕ
+binding_at access b p = binding_if access b (number_at_bound b.place.area b p)
+
+-- what a parameter of the caller stands for
+abbrev pub binding_passed_on : Option Binding → Result Binding ℕ
+binding_passed_on (Some b) = Ok b
+binding_passed_on None = Err 0
+
+-- a constant by its value, a place as it is at the call; a place in a data block that is named opens
+-- nothing: 3A where the block isn't loaded
+unfoldable pub binding_of : Access → Named → Parts → Result Binding ℕ
+binding_of access (named.Constant value) p = Ok (binding.Constant (bits value))
+binding_of access (named.Place (named.Fixed a w byte bit)) p =
+    then_ok (fixed_place access a w byte bit p) (λ b. binding_at access b p)
+binding_of access (named.PlaceIn block w byte bit) p =
+    if is_loaded block p then binding_at access (at area.Db block byte bit w 0) p else Err 0x3A
+binding_of access (named.Parameter index w) p = binding_passed_on (slice_get p.own.inner.bindings index)
+binding_of access _ p = Err 0
+
+-- of the sections OUT alone is tested as written
+abbrev pub access_of : Param → Access
+access_of param = if nat_eq param.section section_out then Writing else Reading
+
+-- for the parameter of an index; no block has another one
+abbrev pub binding_for : Option Param → Named → Parts → Result Binding ℕ
+binding_for (Some param) x p = binding_of (access_of param) x p
+binding_for None x p = Err 0
+
+-- the parameter of an index stands for what is passed, if something is
+abbrev pub binds :
+    Option Named → Option Param → (index : ℕ) → List Binding → Parts
+    → (List Binding → Result (List Binding) ℕ) → Result (List Binding) ℕ
+binds None param index bindings p next = next bindings
+binds (Some x) param index bindings p next =
+    then_ok (binding_for param x p) (λ b. next (set_at bindings index b))
+
+-- one after the other, by the order of the parameters; the first that can't be bound is the error
+abbrev pub bindings_from :
+    List Param → Context → List Actual → (index : ℕ) → List (List ℕ) → List Binding → Parts
+    → Result (List Binding) ℕ
+bindings_from params c actuals index [] bindings p = Ok bindings
+bindings_from params c actuals index (name ∷ names) bindings p =
+    binds (named_in_call c (actual_for name actuals)) (slice_get params index) index bindings p
+    (λ more. bindings_from params c actuals (suc index) names more p)
+
+-- before, none is supplied
+abbrev pub bindings_of :
+    Context → List Actual → List (List ℕ) → List Param → Parts → Result (List Binding) ℕ
+bindings_of c actuals names params p =
+    bindings_from params c actuals 0 names (replicate (length params) binding.Unsupplied) p
+
+-- ---- the call
+
+-- CC calls where the RLO is 1
+abbrev pub is_made : Mnemonic → (rlo : Bool) → Bool
+is_made code.Cc rlo = rlo
+is_made _ rlo = true
+
+-- OS 0, OR 0, STA 1, /FC 0
+abbrev pub at_call : Regs → Regs
+at_call r =
+    record r { status = record r.status { os = false; or = false; sta = true; fc = false } }
+
+-- a block of the program is entered, by its head
+abbrev pub enters_block :
+    Option Head → BlockId → Option ℕ → (List Param → Parts → Result (List Binding) ℕ) → (next : ℕ)
+    → Activation → World → Step
+enters_block None id instance bind next a w = Stuck
+enters_block (Some h) id instance bind next a w =
+    after_call
+    (called_with (bind h.params (parts_of a.running w.memory w.timers w.counters))
+    (callee_of id instance h) next a w.memory)
+    next a w
+
+-- a system function is called, by its parameters
+abbrev pub enters_system :
+    Option (List Param) → (number : ℕ) → (List Param → Parts → Result (List Binding) ℕ) → (next : ℕ)
+    → Activation → World → Step
+enters_system None number bind next a w = Stuck
+enters_system (Some params) number bind next a w =
+    after_system_call
+    (then_ok (bind params (parts_of a.running w.memory w.timers w.counters))
+    (λ bindings. Ok (given_now params bindings a w.memory)))
+    number next a
+
+-- a call that is made; CC with RLO 0 sets the four bits and RLO 1, and goes on
+abbrev pub calls :
+    Mnemonic → BlockId → Option ℕ → (List Param → Parts → Result (List Binding) ℕ) → Code → (next : ℕ)
+    → Activation → World → Step
+calls m id instance bind program next a w =
+    if is_made m a.running.regs.status.rlo
+    then (if is_system_function id.kind
+    then enters_system (system_function id.number) id.number bind next a w
+    else enters_block (program.head id) id instance bind next a w)
+    else Went (standing_at next (rlo_set (at_call a.running.regs)) a) w

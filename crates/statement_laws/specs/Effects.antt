@@ -1,0 +1,473 @@
+-- What each instruction does that goes on to the next statement, by its mnemonic and by what its operand
+-- names (docs/SEMANTICS.md): to registers and status word, memory, timers and counters, and to what the
+-- block holds.
+use Rattle.std.specs.Prelude.{ℕ, ◌+◌, ◌-◌, ◌%◌, ◌^◌, ◌==◌, nat_lt, Bool, true, false, ◌&&◌, not, is_some, List, [], ◌∷◌, length, Option, Some, None, Result, Ok, Err, ok_or, unwrap_or, if◌then◌else◌}
+use Rattle.std.specs.FinMap as map
+use Rattle.plc_base.specs.Widths.{bit_count}
+use Rattle.plc_base.specs.declared.instructions.Check.{Check}
+use Rattle.plc_base.specs.declared.instructions.Check.TheVariants as check
+use Rattle.plc_base.specs.declared.instructions.Compare.TheVariants as compare
+use Rattle.plc_base.specs.declared.instructions.TimerKind.{TimerKind}
+use Rattle.plc_base.specs.declared.instructions.TimerKind.TheVariants as timer
+use Rattle.plc_base.specs.declared.places.Area.TheVariants as area
+use Rattle.plc_mem.specs.Areas.{Areas}
+use Rattle.status_word.specs.BareOr.{or_bare}
+use Rattle.status_word.specs.Brackets.{begun, closed, entry_of}
+use Rattle.status_word.specs.Check.{checked}
+use Rattle.status_word.specs.Edge.{edged}
+use Rattle.status_word.specs.SetClear.{clr, negated, saved, set}
+use Rattle.status_word.specs.StatusNumber.{number_of, shown, status_of}
+use Rattle.status_word.specs.Store.{stored}
+use Rattle.status_word.specs.declared.nesting.Bracket.{Bracket}
+use Rattle.status_word.specs.declared.registers.Regs.{Regs}
+use Rattle.alu.specs.Accumulators as accumulators
+use Rattle.alu.specs.Comparison as comparison
+use Rattle.alu.specs.Conversions as conversions
+use Rattle.alu.specs.Division as division
+use Rattle.alu.specs.Products as products
+use Rattle.alu.specs.Rotations as rotations
+use Rattle.alu.specs.Shifts as shifts
+use Rattle.alu.specs.Sums as sums
+use Rattle.alu.specs.WordLogic as word_logic
+use Rattle.timers_counters.specs.Counter as counters
+use Rattle.timers_counters.specs.Numbered.{change}
+use Rattle.timers_counters.specs.Timer as timers
+use Rattle.timers_counters.specs.declared.faults.TimerFault.{TimerFault}
+use Rattle.timers_counters.specs.declared.faults.TimerFault.TheVariants.{BadBcd, NoNumber}
+use Rattle.frames.specs.FrameData.{FrameData}
+use Rattle.frames.specs.Relay.{is_closed, zone_ended, zone_opened}
+use Rattle.frames.specs.declared.relay.Relay.{Relay}
+use Rattle.stl_ast.specs.declared.literals.Literal.TheVariants as literal
+use Rattle.stl_ast.specs.declared.mnemonics.Mnemonic.{Mnemonic}
+use Rattle.stl_ast.specs.declared.mnemonics.Mnemonic.TheVariants as code
+use Rattle.machine.specs.Parts.{Parts, then_ok}
+use Rattle.machine.specs.declared.places.Access.TheVariants.{Writing}
+use Rattle.machine.specs.declared.places.Bound.{Bound}
+use Rattle.statement_laws.specs.Named.{Named, Number, OpenBlock}
+use Rattle.statement_laws.specs.Named as named
+use Rattle.statement_laws.specs.Reading.{bcd_to_load, bit_of_operand, bits, number_of_item, number_of_operand, number_or_error, number_to_load, place_of_operand, with_number_at}
+
+-- ---- registers, and what the block holds
+
+-- the registers, and others in their place
+abbrev pub regs : Parts → Regs
+regs p = p.own.regs
+
+abbrev pub with_regs : Regs → Parts → Parts
+with_regs r p = record p { own = record p.own { regs = r } }
+
+-- an instruction on the registers alone
+abbrev pub on_regs : (Regs → Regs) → Parts → Result Parts ℕ
+on_regs f p = Ok (with_regs (f (regs p)) p)
+
+-- with other data blocks, brackets or another relay
+abbrev pub with_inner : FrameData → Parts → Parts
+with_inner i p = record p { own = record p.own { inner = i } }
+
+-- RLO, and the RLO that the relay lets through: 0 while it is closed
+abbrev pub rlo : Parts → Bool
+rlo p = (regs p).status.rlo
+
+abbrev pub is_relay_closed : Parts → Bool
+is_relay_closed p = is_closed p.own.inner.relay
+
+abbrev pub flow : Parts → Bool
+flow p = rlo p && not (is_relay_closed p)
+
+-- the low word of accumulator 1
+abbrev pub low_word : Parts → ℕ
+low_word p = (regs p).a1 % 2 ^ 16
+
+-- ---- bit logic
+
+-- A AN O ON X XN: the bit is read and checked
+abbrev pub checks : Check → Named → Parts → Result Parts ℕ
+checks with x p = then_ok (bit_of_operand x p) (λ b. on_regs (checked with b) p)
+
+-- O without operand: AND before OR
+abbrev pub checks_or : Named → Parts → Result Parts ℕ
+checks_or named.Nothing p = on_regs or_bare p
+checks_or x p = checks check.O x p
+
+-- A( to XN(: at most seven are open
+abbrev pub with_brackets : List Bracket → Parts → Parts
+with_brackets brackets p = with_inner (record p.own.inner { brackets = brackets }) p
+
+abbrev pub opens_bracket : Check → Parts → Result Parts ℕ
+opens_bracket with p =
+    if length p.own.inner.brackets == 7 then Err 0
+    else on_regs begun (with_brackets (entry_of with (regs p) ∷ p.own.inner.brackets) p)
+
+-- ): the last one
+abbrev pub closes_one : List Bracket → Parts → Result Parts ℕ
+closes_one [] p = Err 0
+closes_one (bracket ∷ rest) p = on_regs (closed bracket) (with_brackets rest p)
+
+abbrev pub closes_bracket : Parts → Result Parts ℕ
+closes_bracket p = closes_one p.own.inner.brackets p
+
+-- a bit as a number
+abbrev pub number_of_bit : Bool → ℕ
+number_of_bit b = if b then 1 else 0
+
+-- a bit is written, and the registers become these
+abbrev pub writes_bit : Bound → Bool → Regs → Parts → Result Parts ℕ
+writes_bit b value r p =
+    then_ok (with_number_at b (number_of_bit value) p) (λ q. Ok (with_regs r q))
+
+-- the bit at a place that is to be written
+abbrev pub bit_there : Bound → Parts → Result Bool ℕ
+bit_there b p = then_ok (number_or_error Writing b p) (λ n. Ok (n == 1))
+
+-- =: the RLO that the relay lets through
+abbrev pub assigns : Named → Parts → Result Parts ℕ
+assigns x p =
+    then_ok (place_of_operand Writing x p) (λ b. writes_bit b (flow p) (stored (flow p) (regs p)) p)
+
+-- S (1) and R (0) of a bit: with RLO 1, and not while the relay is closed
+abbrev pub bit_after : (flow value before : Bool) → Bool
+bit_after true value before = value
+bit_after false value before = before
+
+abbrev pub sets_bit : (value : Bool) → Named → Parts → Result Parts ℕ
+sets_bit value x p =
+    then_ok (place_of_operand Writing x p) (λ b.
+    then_ok (bit_there b p) (λ before.
+    writes_bit b (bit_after (flow p) value before)
+    (stored (bit_after (flow p) value before) (regs p)) p))
+
+-- FP and FN: the operand is the edge bit, which gets the RLO
+abbrev pub tells_edge : (rising : Bool) → Named → Parts → Result Parts ℕ
+tells_edge rising x p =
+    then_ok (place_of_operand Writing x p) (λ b.
+    then_ok (bit_there b p) (λ before. writes_bit b (rlo p) (edged rising before (regs p)) p))
+
+-- ---- the master control relay
+
+abbrev pub with_relay : Relay → Parts → Parts
+with_relay r p = with_inner (record p.own.inner { relay = r }) p
+
+-- MCRA, MCRD
+abbrev pub activates : Bool → Parts → Result Parts ℕ
+activates active p = Ok (with_relay (record p.own.inner.relay { active = active }) p)
+
+-- MCR(: at most eight zones are open
+abbrev pub opens_zone : Parts → Result Parts ℕ
+opens_zone p =
+    if length p.own.inner.relay.zones == 8 then Err 0
+    else on_regs (stored true) (with_relay (zone_opened (rlo p) p.own.inner.relay) p)
+
+-- )MCR
+abbrev pub ends_zone_of : List Bool → Parts → Result Parts ℕ
+ends_zone_of [] p = Err 0
+ends_zone_of (value ∷ around) p =
+    on_regs (stored true) (with_relay (zone_ended p.own.inner.relay) p)
+
+abbrev pub ends_zone : Parts → Result Parts ℕ
+ends_zone p = ends_zone_of p.own.inner.relay.zones p
+
+-- ---- loading and transferring
+
+-- accumulator 1 goes to accumulator 2, and a number to accumulator 1
+abbrev pub with_loaded : ℕ → Regs → Regs
+with_loaded n r = record r { a1 = n; a2 = r.a1 }
+
+-- the length of a data block in bytes, in 32 bits; 0 where none is open or it isn't loaded
+abbrev pub length_of : Option (List ℕ) → ℕ
+length_of None = 0
+length_of (Some bytes) = length bytes % 2 ^ 32
+
+abbrev pub open_length : Option ℕ → Areas → ℕ
+open_length None m = 0
+open_length (Some n) m = length_of (map.get m.data_blocks n)
+
+-- the number and the length of the open data blocks
+abbrev pub open_fact : OpenBlock → Parts → ℕ
+open_fact named.DbLength p = open_length p.own.inner.db p.memory
+open_fact named.DbNumber p = unwrap_or p.own.inner.db 0
+open_fact named.DiLength p = open_length p.own.inner.di p.memory
+open_fact named.DiNumber p = unwrap_or p.own.inner.di 0
+
+-- L
+abbrev pub loads : Named → Parts → Result Parts ℕ
+loads named.StatusWord p = on_regs (with_loaded (number_of (shown (regs p).status))) p
+loads (named.Opened what) p = on_regs (with_loaded (open_fact what p)) p
+loads x p = then_ok (number_to_load x p) (λ n. on_regs (with_loaded n) p)
+
+-- LC
+abbrev pub loads_bcd : Named → Parts → Result Parts ℕ
+loads_bcd x p = then_ok (bcd_to_load x p) (λ n. on_regs (with_loaded n) p)
+
+-- the lowest bits of a number go to a place, as many as it has
+abbrev pub puts : ℕ → Named → Parts → Result Parts ℕ
+puts n x p = then_ok (place_of_operand Writing x p) (λ b. with_number_at b (n % 2 ^ bit_count b.width) p)
+
+-- T: accumulator 1, and 0 while the relay is closed
+abbrev pub transfers : Named → Parts → Result Parts ℕ
+transfers named.StatusWord p = on_regs (λ r. record r { status = status_of r.a1 }) p
+transfers x p = puts (if is_relay_closed p then 0 else (regs p).a1) x p
+
+-- ---- address registers
+
+abbrev pub with_ar1 : ℕ → Parts → Parts
+with_ar1 n p = with_regs (record (regs p) { ar1 = n }) p
+
+abbrev pub with_ar2 : ℕ → Parts → Parts
+with_ar2 n p = with_regs (record (regs p) { ar2 = n }) p
+
+-- LAR1 and LAR2: accumulator 1, or the operand
+abbrev pub address_to_load : Named → Parts → Result ℕ ℕ
+address_to_load named.Nothing p = Ok (regs p).a1
+address_to_load x p = number_of_operand x p
+
+abbrev pub loads_ar1 : Named → Parts → Result Parts ℕ
+loads_ar1 named.SecondRegister p = Ok (with_ar1 (regs p).ar2 p)
+loads_ar1 x p = then_ok (address_to_load x p) (λ n. Ok (with_ar1 n p))
+
+abbrev pub loads_ar2 : Named → Parts → Result Parts ℕ
+loads_ar2 x p = then_ok (address_to_load x p) (λ n. Ok (with_ar2 n p))
+
+-- TAR1 and TAR2: to accumulator 1, whose contents go to accumulator 2, or to the operand
+abbrev pub puts_address : ℕ → Named → Parts → Result Parts ℕ
+puts_address n named.Nothing p = on_regs (with_loaded n) p
+puts_address n x p = puts n x p
+
+abbrev pub stores_ar1 : Named → Parts → Result Parts ℕ
+stores_ar1 named.SecondRegister p = Ok (with_ar2 (regs p).ar1 p)
+stores_ar1 x p = puts_address (regs p).ar1 x p
+
+-- CAR
+abbrev pub exchanges_addresses : Parts → Result Parts ℕ
+exchanges_addresses p = on_regs (λ r. record r { ar1 = r.ar2; ar2 = r.ar1 }) p
+
+-- an integer of 16 bits in 24 bits
+abbrev pub widened_to_24 : (word : ℕ) → ℕ
+widened_to_24 word = if nat_lt word (2 ^ 15) then word else word + (2 ^ 24 - 2 ^ 16)
+
+-- +AR1 and +AR2: the constant, or the integer in the low word of accumulator 1
+abbrev pub added_bits : Named → Parts → ℕ
+added_bits (named.Pointer value) p = value
+added_bits x p = widened_to_24 (low_word p)
+
+-- it is added in bits 0 to 23
+abbrev pub address_after : (address count : ℕ) → ℕ
+address_after address count = accumulators.with_low 24 address ((address + count) % 2 ^ 24)
+
+-- ---- number instructions
+
+-- an instruction that may find no BCD number: 21
+abbrev pub on_bcd : (Regs → Option Regs) → Parts → Result Parts ℕ
+on_bcd f p = then_ok (ok_or (f (regs p)) 0x21) (λ r. Ok (with_regs r p))
+
+-- the constant of an operand in so many bits, where there is one
+abbrev pub constant : (w : ℕ) → Named → Option ℕ
+constant w (named.Constant value) = Some (bits value % 2 ^ w)
+constant w x = None
+
+-- where there always is one
+abbrev pub count : (w : ℕ) → Named → ℕ
+count w x = unwrap_or (constant w x) 0
+
+-- + adds L# to accumulator 1, another constant to its low word
+abbrev pub adds_by : Named → Regs → Regs
+adds_by (named.Constant (literal.Long value)) =
+    accumulators.increased 32 (bits (literal.Long value) % 2 ^ 32)
+adds_by x = accumulators.increased 16 (count 16 x)
+
+-- so many places: the constant, or the lowest byte of accumulator 2
+abbrev pub places : Named → Parts → ℕ
+places x p = unwrap_or (constant 8 x) ((regs p).a2 % 2 ^ 8)
+
+-- ---- timers and counters
+
+-- the logic string ends
+abbrev pub string_ended : Regs → Regs
+string_ended r = record r { status = record r.status { or = false; fc = false } }
+
+-- 21 for a digit above 9, the other code for a number that there isn't
+abbrev pub or_error : {A : Type 0} → (code : ℕ) → Result A TimerFault → Result A ℕ
+or_error code (Ok x) = Ok x
+or_error code (Err NoNumber) = Err code
+or_error code (Err BadBcd) = Err 0x21
+
+-- an instruction on a timer, on a counter; it may find a digit above 9
+abbrev pub on_timer : (timers.Timer → Option timers.Timer) → Number → Parts → Result Parts ℕ
+on_timer f n p =
+    then_ok (number_of_item n p) (λ which.
+    then_ok (or_error 0x26 (change f p.timers which)) (λ all.
+    on_regs string_ended (record p { timers = all })))
+
+abbrev pub on_counter : (counters.Counter → Option counters.Counter) → Number → Parts → Result Parts ℕ
+on_counter f n p =
+    then_ok (number_of_item n p) (λ which.
+    then_ok (or_error 0x27 (change f p.counters which)) (λ all.
+    on_regs string_ended (record p { counters = all })))
+
+-- SP SE SD SS SF
+abbrev pub starts : TimerKind → Named → Parts → Result Parts ℕ
+starts how (named.Timer n) p = on_timer (timers.started how (rlo p) (low_word p)) n p
+starts how x p = Err 0
+
+-- CU, CD
+abbrev pub counts : (Bool → counters.Counter → counters.Counter) → Named → Parts → Result Parts ℕ
+counts f (named.Counter n) p = on_counter (λ k. Some (f (rlo p) k)) n p
+counts f x p = Err 0
+
+-- S of a counter, and of a bit
+abbrev pub sets : Named → Parts → Result Parts ℕ
+sets (named.Counter n) p = on_counter (counters.set_to (rlo p) (low_word p)) n p
+sets x p = sets_bit true x p
+
+-- R of a timer, of a counter, and of a bit
+abbrev pub resets : Named → Parts → Result Parts ℕ
+resets (named.Timer n) p = on_timer (λ t. Some (timers.reset_timer (rlo p) t)) n p
+resets (named.Counter n) p = on_counter (λ k. Some (counters.reset_counter (rlo p) k)) n p
+resets x p = sets_bit false x p
+
+-- FR of a timer and of a counter
+abbrev pub frees : Named → Parts → Result Parts ℕ
+frees (named.Timer n) p = on_timer (λ t. Some (timers.freed_timer (rlo p) t)) n p
+frees (named.Counter n) p = on_counter (λ k. Some (counters.freed_counter (rlo p) k)) n p
+frees x p = Err 0
+
+-- ---- data blocks
+
+-- a data block is loaded
+abbrev pub is_loaded : ℕ → Parts → Bool
+is_loaded n p = is_some (map.get p.memory.data_blocks n)
+
+-- it is open in the DI register, or in the DB register
+abbrev pub with_open : (di : Bool) → ℕ → Parts → Parts
+with_open true n p = with_inner (record p.own.inner { di = Some n }) p
+with_open false n p = with_inner (record p.own.inner { db = Some n }) p
+
+-- it is opened; 3A where it isn't loaded
+abbrev pub opens_number : (di : Bool) → ℕ → Parts → Result Parts ℕ
+opens_number di n p = if is_loaded n p then Ok (with_open di n p) else Err 0x3A
+
+-- OPN
+abbrev pub opens : Named → Parts → Result Parts ℕ
+opens (named.DataBlock di n) p = then_ok (number_of_item n p) (λ which. opens_number di which p)
+opens x p = Err 0
+
+-- CDB
+abbrev pub exchanges_blocks : Parts → Result Parts ℕ
+exchanges_blocks p =
+    Ok (with_inner (record p.own.inner { db = p.own.inner.di; di = p.own.inner.db }) p)
+
+-- ---- the instructions
+
+-- what an instruction does with what its operand names; the empty statement, jumps, calls and the ends
+-- of a block aren't here
+unfoldable pub action : Mnemonic → Named → Parts → Result Parts ℕ
+action code.Nop x p = Ok p
+action code.Bld x p = Ok p
+action code.A x p = checks check.A x p
+action code.An x p = checks check.An x p
+action code.O x p = checks_or x p
+action code.On x p = checks check.On x p
+action code.X x p = checks check.X x p
+action code.Xn x p = checks check.Xn x p
+action code.AOpen x p = opens_bracket check.A p
+action code.AnOpen x p = opens_bracket check.An p
+action code.OOpen x p = opens_bracket check.O p
+action code.OnOpen x p = opens_bracket check.On p
+action code.XOpen x p = opens_bracket check.X p
+action code.XnOpen x p = opens_bracket check.Xn p
+action code.Close x p = closes_bracket p
+action code.Mcra x p = activates true p
+action code.Mcrd x p = activates false p
+action code.McrOpen x p = opens_zone p
+action code.McrClose x p = ends_zone p
+action code.L x p = loads x p
+action code.T x p = transfers x p
+action code.Assign x p = assigns x p
+action code.S x p = sets x p
+action code.R x p = resets x p
+action code.Fp x p = tells_edge true x p
+action code.Fn x p = tells_edge false x p
+action code.Set x p = on_regs set p
+action code.Clr x p = on_regs clr p
+action code.Not x p = on_regs negated p
+action code.Save x p = on_regs saved p
+action code.Lc x p = loads_bcd x p
+action code.Lar1 x p = loads_ar1 x p
+action code.Lar2 x p = loads_ar2 x p
+action code.Tar1 x p = stores_ar1 x p
+action code.Tar2 x p = puts_address (regs p).ar2 x p
+action code.Car x p = exchanges_addresses p
+action code.AddAr1 x p = Ok (with_ar1 (address_after (regs p).ar1 (added_bits x p)) p)
+action code.AddAr2 x p = Ok (with_ar2 (address_after (regs p).ar2 (added_bits x p)) p)
+action code.Tak x p = on_regs accumulators.toggled p
+action code.Push x p = on_regs accumulators.pushed p
+action code.Pop x p = on_regs accumulators.popped p
+action code.Caw x p = on_regs accumulators.with_word_reversed p
+action code.Cad x p = on_regs accumulators.with_bytes_reversed p
+action code.Inc x p = on_regs (accumulators.increased 8 (count 8 x)) p
+action code.Dec x p = on_regs (accumulators.decreased 8 (count 8 x)) p
+action code.Add x p = on_regs (adds_by x) p
+action code.AddI x p = on_regs (sums.added 16) p
+action code.SubI x p = on_regs (sums.subtracted 16) p
+action code.MulI x p = on_regs (products.multiplied 16) p
+action code.DivI x p = on_regs division.divided_i p
+action code.AddD x p = on_regs (sums.added 32) p
+action code.SubD x p = on_regs (sums.subtracted 32) p
+action code.MulD x p = on_regs (products.multiplied 32) p
+action code.DivD x p = on_regs division.divided_d p
+action code.Mod x p = on_regs division.remainder_d p
+action code.EqI x p = on_regs (comparison.compared 16 compare.Eq) p
+action code.NeI x p = on_regs (comparison.compared 16 compare.Ne) p
+action code.GtI x p = on_regs (comparison.compared 16 compare.Gt) p
+action code.LtI x p = on_regs (comparison.compared 16 compare.Lt) p
+action code.GeI x p = on_regs (comparison.compared 16 compare.Ge) p
+action code.LeI x p = on_regs (comparison.compared 16 compare.Le) p
+action code.EqD x p = on_regs (comparison.compared 32 compare.Eq) p
+action code.NeD x p = on_regs (comparison.compared 32 compare.Ne) p
+action code.GtD x p = on_regs (comparison.compared 32 compare.Gt) p
+action code.LtD x p = on_regs (comparison.compared 32 compare.Lt) p
+action code.GeD x p = on_regs (comparison.compared 32 compare.Ge) p
+action code.LeD x p = on_regs (comparison.compared 32 compare.Le) p
+action code.Bti x p = on_bcd conversions.from_bcd_word p
+action code.Itb x p = on_regs conversions.to_bcd_word p
+action code.Btd x p = on_bcd conversions.from_bcd_dword p
+action code.Dtb x p = on_regs conversions.to_bcd_dword p
+action code.Itd x p = on_regs conversions.widened p
+action code.Invi x p = on_regs (conversions.inverted 16) p
+action code.Invd x p = on_regs (conversions.inverted 32) p
+action code.Negi x p = on_regs (sums.negated 16) p
+action code.Negd x p = on_regs (sums.negated 32) p
+action code.Aw x p = on_regs (word_logic.anded 16 (constant 16 x)) p
+action code.Ow x p = on_regs (word_logic.ored 16 (constant 16 x)) p
+action code.Xow x p = on_regs (word_logic.xored 16 (constant 16 x)) p
+action code.Ad x p = on_regs (word_logic.anded 32 (constant 32 x)) p
+action code.Od x p = on_regs (word_logic.ored 32 (constant 32 x)) p
+action code.Xod x p = on_regs (word_logic.xored 32 (constant 32 x)) p
+action code.Ssi x p = on_regs (shifts.shifted_signed 16 (places x p)) p
+action code.Ssd x p = on_regs (shifts.shifted_signed 32 (places x p)) p
+action code.Slw x p = on_regs (shifts.shifted_left 16 (places x p)) p
+action code.Srw x p = on_regs (shifts.shifted_right 16 (places x p)) p
+action code.Sld x p = on_regs (shifts.shifted_left 32 (places x p)) p
+action code.Srd x p = on_regs (shifts.shifted_right 32 (places x p)) p
+action code.Rld x p = on_regs (rotations.rotated_left (places x p)) p
+action code.Rrd x p = on_regs (rotations.rotated_right (places x p)) p
+action code.Rlda x p = on_regs rotations.rotated_left_through p
+action code.Rrda x p = on_regs rotations.rotated_right_through p
+action code.Sp x p = starts timer.Sp x p
+action code.Se x p = starts timer.Se x p
+action code.Sd x p = starts timer.Sd x p
+action code.Ss x p = starts timer.Ss x p
+action code.Sf x p = starts timer.Sf x p
+action code.Fr x p = frees x p
+action code.Cu x p = counts counters.counted_up x p
+action code.Cd x p = counts counters.counted_down x p
+action code.Opn x p = opens x p
+action code.Cdb x p = exchanges_blocks p
+action _ x p = Err 0
+
+-- a place in a data block that the statement opens first: 3A where that isn't loaded, and else the place
+-- in the DB register
+unfoldable pub effect : Mnemonic → Named → Parts → Result Parts ℕ
+effect m (named.PlaceIn block width byte bit) p =
+    then_ok (opens_number false block p) (λ q.
+    action m (named.Place (named.Fixed area.Db width byte bit)) q)
+effect m x p = action m x p

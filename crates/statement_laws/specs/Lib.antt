@@ -1,0 +1,7 @@
+pub mod Named
+pub mod Operands
+pub mod Reading
+pub mod Effects
+pub mod Jumps
+pub mod Calls
+pub mod Laws

@@ -1,0 +1,62 @@
+-- What the operand of a statement can name (docs/SEMANTICS.md, "Operands" and "Constants").
+use Rattle.std.specs.Prelude.{ℕ, Bool, Option}
+use Rattle.plc_base.specs.declared.blocks.BlockId.{BlockId}
+use Rattle.plc_base.specs.declared.flags.Flag.{Flag}
+use Rattle.plc_base.specs.declared.places.Area.{Area}
+use Rattle.plc_base.specs.declared.places.Width.{Width}
+use Rattle.stl_ast.specs.declared.literals.Literal.{Literal}
+
+-- where a bit, byte, word or double word lies
+pub data Spot : Type 0 where
+  -- at a byte, of a bit operand at a bit of it, as MW 2 and M 2.3
+  Fixed : (area : Area) (width : Width) (byte bit : ℕ) → Spot
+  -- where the pointer in a double word leads, as MW [MD 4]
+  ByMemory : (area : Area) (width : Width) (from : Area) (byte : ℕ) → Spot
+  -- so many bits behind the address in AR1 or AR2, as MW [AR1, P#2.0]; without an area it is that of
+  -- the address
+  ByRegister : (area : Option Area) (width : Width) (register bits : ℕ) → Spot
+
+-- the number of a timer, a counter or a data block
+pub data Number : Type 0 where
+  -- as in T 5
+  Written : (number : ℕ) → Number
+  -- that in a word, as in T [MW 4]
+  InWord : (from : Area) (byte : ℕ) → Number
+
+-- what L can tell of the data block in the DB or DI register
+pub data OpenBlock : Type 0 where
+  DbLength : OpenBlock
+  DbNumber : OpenBlock
+  DiLength : OpenBlock
+  DiNumber : OpenBlock
+
+-- what an operand names
+pub data Named : Type 0 where
+  -- no operand stands there
+  Nothing : Named
+  -- a place in memory, in the data block of the DB or DI register, or in the local bytes
+  Place : (spot : Spot) → Named
+  -- a place in a data block that the statement opens first, as DB10.DBW 2
+  PlaceIn : (block : ℕ) (width : Width) (byte bit : ℕ) → Named
+  -- what the parameter of this index stands for, in a function, and the width of its type
+  Parameter : (index : ℕ) (width : Width) → Named
+  -- a constant
+  Constant : (value : Literal) → Named
+  -- a pointer constant by its bits, as P#M 2.0
+  Pointer : (bits : ℕ) → Named
+  -- a condition of the status word, as OV and ==0
+  Condition : (flag : Flag) → Named
+  Timer : (number : Number) → Named
+  Counter : (number : Number) → Named
+  -- a data block to be opened, in the DI register or in the DB register
+  DataBlock : (di : Bool) (number : Number) → Named
+  -- STW
+  StatusWord : Named
+  -- DBLG, DBNO, DILG, DINO
+  Opened : (what : OpenBlock) → Named
+  -- AR2
+  SecondRegister : Named
+  -- the label of a jump
+  Label : Named
+  -- a block that is called, with the data block that is its instance, where the call names one
+  Called : (block : BlockId) (instance : Option ℕ) → Named
