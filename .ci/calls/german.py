@@ -62,6 +62,8 @@ RUNS = [
     ("ORGANIZATION_BLOCK OB 1\nBEGIN\nJU x;\nx: NOP 0;\nEND_ORGANIZATION_BLOCK\n", "", "", 2, "source refused: line 3 rule 17\n"),
     # The line of the word, where its statement has several.
     ("ORGANIZATION_BLOCK OB 1\nBEGIN\nU\nI\n0.0;\nEND_ORGANIZATION_BLOCK\n", "", "", 2, "source refused: line 4 rule 17\n"),
+    # Tokens that are right, and aren't in the translation: `P#C#x` has a count without a number.
+    ("ORGANIZATION_BLOCK OB 1\nBEGIN\nL P#Z#x;\nEND_ORGANIZATION_BLOCK\n", "", "", 2, "source refused: line 3 rule 3\n"),
     # An unknown label is told of the translation, in the same line; then the history.
     ("ORGANIZATION_BLOCK OB 1\nBEGIN\nSPA x;\nEND_ORGANIZATION_BLOCK\n", "", "tick 0\n", 2, "source refused: line 3 rule 26\n"),
     (RUNG, "", "tick 0\n", 4, "history refused: line 1 rule 2\n"),
