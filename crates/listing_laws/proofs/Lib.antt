@@ -1,0 +1,5 @@
+mod BlockLemmas
+mod NameLemmas
+mod OperandLemmas
+mod RangeLemmas
+mod StatementLemmas

@@ -1,0 +1,36 @@
+-- The tree of a program's listing is printable.
+use Rattle.std.specs.Prelude.{◌<◌, ◌*◌}
+use Rattle.std.specs.List.{AllByRecursion}
+use Rattle.flat_code.specs.Image.{IsProgram}
+use Rattle.flat_code.specs.Programs.{CodeBlock, Program}
+use Rattle.flat_code.specs.declared.operands.Operand.{Operand}
+use Rattle.flat_code.specs.declared.operands.Operand.TheVariants as flat
+use Rattle.stl_lexer.specs.Pieces.{Show, tokens_of}
+use Rattle.stl_lexer.specs.Tokens.{AreTokens}
+use Rattle.stl_list.specs.Listing.{listed_source, listed_tree}
+use Rattle.stl_print.specs.Trees.{pieces}
+use Rattle.print_laws.specs.Standing.{IsPrintable}
+
+-- an offset to an address register is one that a pointer constant writes, as P#65535.7 is
+abbrev pub IsWritten : Operand → Type 0
+IsWritten (flat.ByRegister area width register bits) = bits < 8 * 65536
+IsWritten _ = Unit {0}
+
+-- the same of all ops of a block
+abbrev pub IsWrittenBlock : CodeBlock → Type 0
+IsWrittenBlock b = AllByRecursion (λ op. IsWritten op.operand) b.code
+
+-- and of a program
+abbrev pub IsWrittenProgram : Program → Type 0
+IsWrittenProgram p = AllByRecursion IsWrittenBlock p.code_blocks
+
+-- the listing of a program with such offsets is a printable tree
+abbrev pub AreListedPrintable : Type 0
+AreListedPrintable = (p : Program) → IsProgram p → IsWrittenProgram p → IsPrintable (listed_tree p)
+
+-- so its text has just the tokens that were printed
+abbrev pub AreListedTokens : Type 0
+AreListedTokens =
+    (p : Program) → IsProgram p → IsWrittenProgram p
+    → AreTokens (listed_source p) (tokens_of 0 1 (pieces (listed_tree p)))
+    × Show (listed_source p) (pieces (listed_tree p)) (tokens_of 0 1 (pieces (listed_tree p)))

@@ -1,0 +1,163 @@
+-- The text of a printable tree is cut into the tokens that were printed.
+use Rattle.std.specs.Prelude.{◌≡◌, ◌<◌, ◌*◌, ℕ, true, false, List, codes, Option, Some, None}
+use Rattle.std.specs.List.{AllByRecursion}
+use Rattle.std.specs.Str.{str_eq_ignore_ascii_case}
+use Rattle.stl_ast.specs.Declarations.{AreBounds, IsCount}
+use Rattle.stl_ast.specs.Literals.{IsDecimal, IsLong}
+use Rattle.stl_ast.specs.Operands.{IsNumber}
+use Rattle.stl_ast.specs.declared.blocks.Block.{Block}
+use Rattle.stl_ast.specs.declared.blocks.Part.{Part}
+use Rattle.stl_ast.specs.declared.blocks.PathStep.{PathStep}
+use Rattle.stl_ast.specs.declared.blocks.PathStep.TheVariants as step
+use Rattle.stl_ast.specs.declared.blocks.Setting.{Setting}
+use Rattle.stl_ast.specs.declared.blocks.Tree.{Tree}
+use Rattle.stl_ast.specs.declared.declarations.Declaration.{Declaration}
+use Rattle.stl_ast.specs.declared.declarations.ElementType.{ElementType}
+use Rattle.stl_ast.specs.declared.declarations.ElementType.TheVariants as element
+use Rattle.stl_ast.specs.declared.declarations.Init.{Init}
+use Rattle.stl_ast.specs.declared.declarations.TypeTree.{TypeTree}
+use Rattle.stl_ast.specs.declared.literals.Literal.{Literal}
+use Rattle.stl_ast.specs.declared.literals.Literal.TheVariants as literal
+use Rattle.stl_ast.specs.declared.names.BlockName.{BlockName}
+use Rattle.stl_ast.specs.declared.names.BlockName.TheVariants as block
+use Rattle.stl_ast.specs.declared.operands.Operand.{Operand}
+use Rattle.stl_ast.specs.declared.operands.Operand.TheVariants as operand
+use Rattle.stl_ast.specs.declared.operands.PathHead.{PathHead}
+use Rattle.stl_ast.specs.declared.operands.PathHead.TheVariants as head
+use Rattle.stl_ast.specs.declared.statements.Actual.{Actual}
+use Rattle.stl_ast.specs.declared.statements.Statement.{Statement}
+use Rattle.stl_lexer.specs.Forms.{is_word}
+use Rattle.stl_lexer.specs.Pieces.{AreStanding, Show, tokens_of}
+use Rattle.stl_lexer.specs.Tokens.{AreTokens}
+use Rattle.stl_print.specs.Trees.{end_of, pieces, printed}
+
+-- ---- printable trees: no quoted names, and numbers that a source can write
+
+-- a name: a word, but not the one that begins a title
+abbrev pub IsName : List ℕ → Type 0
+IsName name = (is_word name ≡ true) × (str_eq_ignore_ascii_case (codes "TITLE") name ≡ false)
+
+-- a block by its number
+abbrev pub IsNumberedBlock : BlockName → Type 0
+IsNumberedBlock (block.Number id) = IsNumber id.number
+IsNumberedBlock (block.Quoted name) = ⊥
+
+-- the same, or none
+abbrev pub IsNumberedOrNone : Option BlockName → Type 0
+IsNumberedOrNone None = Unit {0}
+IsNumberedOrNone (Some name) = IsNumberedBlock name
+
+-- a step of a path
+abbrev pub IsPrintableStep : PathStep → Type 0
+IsPrintableStep (step.Named name) = IsName name
+IsPrintableStep (step.Index at) = IsDecimal at
+
+-- the steps of a path
+abbrev pub ArePrintableSteps : List PathStep → Type 0
+ArePrintableSteps steps = AllByRecursion IsPrintableStep steps
+
+-- how a path begins; no symbol
+abbrev pub IsPrintableHead : PathHead → Type 0
+IsPrintableHead (head.Local name) = is_word name ≡ true
+IsPrintableHead (head.InBlock name) = IsNumberedBlock name
+IsPrintableHead (head.Symbol name) = ⊥
+
+-- a constant: a truth value, a decimal number, `B#16#`, `W#16#` or `DW#16#`, `L#` or `T#`
+abbrev pub IsPrintableLiteral : Literal → Type 0
+IsPrintableLiteral (literal.Truth value) = Unit {0}
+IsPrintableLiteral (literal.Number value) = IsDecimal value
+IsPrintableLiteral (literal.Binary value) = ⊥
+IsPrintableLiteral (literal.Byte value) = Unit {0}
+IsPrintableLiteral (literal.Word value) = Unit {0}
+IsPrintableLiteral (literal.Dword value) = Unit {0}
+IsPrintableLiteral (literal.Long value) = IsLong value
+IsPrintableLiteral (literal.Count value) = ⊥
+IsPrintableLiteral (literal.Time ms) = IsLong ms
+IsPrintableLiteral (literal.S5time ms) = ⊥
+IsPrintableLiteral (literal.Characters bytes) = ⊥
+IsPrintableLiteral (literal.Bytes bytes) = ⊥
+
+-- an operand
+abbrev pub IsPrintableOperand : Operand → Type 0
+IsPrintableOperand operand.Nothing = Unit {0}
+IsPrintableOperand (operand.Direct name area w byte bit) = IsNumberedOrNone name × IsNumber byte × IsNumber bit
+IsPrintableOperand (operand.Timer number) = IsNumber number
+IsPrintableOperand (operand.Counter number) = IsNumber number
+IsPrintableOperand (operand.Named path steps) = IsPrintableHead path × ArePrintableSteps steps
+IsPrintableOperand (operand.ByMemory area w from byte) = IsNumber byte
+IsPrintableOperand (operand.NumberBy what from byte) = IsNumber byte
+IsPrintableOperand (operand.ByRegister area w register bits) = IsNumber register × (bits < 8 * 65536)
+IsPrintableOperand (operand.Pointer area byte bit) = IsNumber byte × IsNumber bit
+IsPrintableOperand (operand.Constant value) = IsPrintableLiteral value
+IsPrintableOperand (operand.Label name) = IsName name
+IsPrintableOperand (operand.OfStatus flag) = Unit {0}
+IsPrintableOperand (operand.Other name) = IsName name
+IsPrintableOperand (operand.OpenBlock di name) = IsNumberedBlock name
+IsPrintableOperand (operand.Called name instance) = IsNumberedBlock name × IsNumberedOrNone instance
+
+-- an actual parameter
+abbrev pub IsPrintableActual : Actual → Type 0
+IsPrintableActual a = IsName a.name × IsPrintableOperand a.value
+
+-- the label of a statement, where it has one
+abbrev pub IsPrintableLabel : Option (List ℕ) → Type 0
+IsPrintableLabel None = Unit {0}
+IsPrintableLabel (Some name) = IsName name
+
+-- a statement
+abbrev pub IsPrintableStatement : Statement → Type 0
+IsPrintableStatement s = IsPrintableLabel s.label × IsPrintableOperand s.operand × AllByRecursion IsPrintableActual s.actuals
+
+-- a type that is no array; a user-defined one by its number
+abbrev pub IsPrintableElement : ElementType → Type 0
+IsPrintableElement (element.Udt name) = IsNumberedBlock name
+IsPrintableElement _ = Unit {0}
+
+-- an initial value
+abbrev pub IsPrintableInit : Init → Type 0
+IsPrintableInit i = IsCount i.count × IsPrintableLiteral i.value
+
+-- a declaration
+abbrev pub IsPrintableDeclaration : Declaration → Type 0
+IsPrintableDeclaration d =
+    IsName d.name × AllByRecursion AreBounds d.of.arrays × IsPrintableElement d.of.of × AllByRecursion IsPrintableInit d.init
+
+-- a section
+abbrev pub IsPrintablePart : Part → Type 0
+IsPrintablePart p = AllByRecursion IsPrintableDeclaration p.items
+
+-- a setting
+abbrev pub IsPrintableSetting : Setting → Type 0
+IsPrintableSetting s = ArePrintableSteps s.path × IsPrintableLiteral s.value
+
+-- the type of a block, where it has one
+abbrev pub IsPrintableShape : Option TypeTree → Type 0
+IsPrintableShape None = Unit {0}
+IsPrintableShape (Some t) = IsPrintableElement t.of
+
+-- a block
+pub record IsPrintableBlock (b : Block) : Type 0 where
+  pub name : IsNumberedBlock b.name
+  pub parts : AllByRecursion IsPrintablePart b.parts
+  pub shape : IsPrintableShape b.shape
+  pub components : AllByRecursion IsPrintableDeclaration b.components
+  pub instance_of : IsNumberedOrNone b.instance_of
+  pub settings : AllByRecursion IsPrintableSetting b.settings
+  pub body : AllByRecursion IsPrintableStatement b.body
+
+-- a tree
+abbrev pub IsPrintable : Tree → Type 0
+IsPrintable t = AllByRecursion IsPrintableBlock t.blocks
+
+-- ---- its text
+
+-- each of its tokens stands where it is printed: it is the longest there, and breaks no rule
+abbrev pub DoTokensStand : Type 0
+DoTokensStand = (t : Tree) → IsPrintable t → AreStanding false (pieces t) (end_of t.blocks)
+
+-- the text has just these tokens, with their kinds and bytes
+abbrev pub ArePrintedTokens : Type 0
+ArePrintedTokens =
+    (t : Tree) → IsPrintable t
+    → AreTokens (printed t) (tokens_of 0 1 (pieces t))
+    × Show (printed t) (pieces t) (tokens_of 0 1 (pieces t))
