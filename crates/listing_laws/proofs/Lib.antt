@@ -3,3 +3,6 @@ mod NameLemmas
 mod OperandLemmas
 mod RangeLemmas
 mod StatementLemmas
+mod SymbolFileLemmas
+mod SymbolLineLemmas
+mod SymbolOrderLemmas

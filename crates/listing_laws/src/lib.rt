@@ -2,5 +2,7 @@
 #![tactic(auto)]
 
 mod laws;
+mod names;
 
 pub use laws::law_of_listed_trees;
+pub use names::law_of_listed_names;
