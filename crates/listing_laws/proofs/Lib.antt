@@ -2,6 +2,7 @@ mod BlockLemmas
 mod NameLemmas
 mod OperandLemmas
 mod RangeLemmas
+mod RunLemmas
 mod StatementLemmas
 mod SymbolFileLemmas
 mod SymbolLineLemmas

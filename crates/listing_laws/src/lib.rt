@@ -3,6 +3,8 @@
 
 mod laws;
 mod names;
+mod statements;
 
 pub use laws::law_of_listed_trees;
 pub use names::law_of_listed_names;
+pub use statements::law_of_listed_statements;
