@@ -1,4 +1,5 @@
 mod BlockLemmas
+mod LabelLemmas
 mod NameLemmas
 mod OperandLemmas
 mod RangeLemmas
@@ -7,3 +8,4 @@ mod StatementLemmas
 mod SymbolFileLemmas
 mod SymbolLineLemmas
 mod SymbolOrderLemmas
+mod WordLemmas

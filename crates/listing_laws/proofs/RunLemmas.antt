@@ -18,7 +18,7 @@ use Rattle.listing_laws.specs.Statements.{AreNumbersFound, AreRunsFound, AreStar
 
 -- ---- the ops of an instruction in two parts
 
-unaimed : (o : Operand) → aimed (λ n. n) o ≡ o
+pub unaimed : (o : Operand) → aimed (λ n. n) o ≡ o
 unaimed (operand.Jump kind target) = refl
 unaimed _ = refl
 
