@@ -1,8 +1,8 @@
 -- The labels of a listing: apart, and at their statements.
-use Rattle.std.proofs.Common.{◌≡◌, ℕ, zero, suc, ◌+◌, ◌-◌, ◌*◌, ◌/◌, ◌%◌, ◌<◌, ◌≤◌, Bool, true, false, cond, eqb, ltb, List, [], ◌∷◌, ◌++◌, length, map, get_or, Option, Some, None, slice_get, refl, sym, ap, subst, ◌∙◌, arith}
+use Rattle.std.proofs.Common.{◌≡◌, ℕ, suc, ◌+◌, ◌-◌, ◌/◌, ◌%◌, ◌<◌, ◌≤◌, Bool, true, false, List, [], ◌∷◌, ◌++◌, length, map, get_or, Option, Some, None, slice_get, refl, sym, ap, ◌∙◌, arith}
 use Rattle.std.specs.Prelude.{bytes_eq, nat_lt, unwrap_or, ◌==◌, if◌then◌else◌}
-use Rattle.std.specs.List.{AllByRecursion, list_any}
-use Rattle.std.proofs.lemmas.Bool.{eq-eqb, false_from_ne_true, le-ltb, lt-ltb, ltb-true, ne_eqb}
+use Rattle.std.specs.List.{AllByRecursion}
+use Rattle.std.proofs.lemmas.Bool.{false_from_ne_true, ltb-true, ne_eqb}
 use Rattle.std.proofs.lemmas.Bool.Decides.{nat_tests}
 use Rattle.std.proofs.lemmas.Slice.Eq.{bytes_eq-Decides}
 use Rattle.flat_code.specs.Instr.{Instr, Does, Jumps, JumpsByList, Calls, Returns}
@@ -12,16 +12,15 @@ use Rattle.flat_code.specs.declared.operands.Operand.TheVariants as operand
 use Rattle.stl_ast.specs.Statements.{is_empty}
 use Rattle.stl_ast.specs.declared.statements.Statement.{Statement}
 use Rattle.stl_types.specs.Lists.{has_label}
-use Rattle.stl_codegen.specs.Compiled.{Stated, StatedBlock, aimed, code_in, compiled}
-use Rattle.stl_codegen.specs.Instruction.{counted, target_in}
+use Rattle.stl_codegen.specs.Compiled.{Stated, aimed, compiled}
+use Rattle.stl_codegen.specs.Instruction.{target_in}
 use Rattle.stl_list.specs.Labels.{digit, label_of, three_digits}
 use Rattle.stl_list.specs.Lines.{line_at}
 use Rattle.stl_list.specs.Mnemonics.{mnemonic_of, word_by}
-use Rattle.stl_list.specs.Runs.{Run, runs, starts, targets}
-use Rattle.stl_list.specs.Signatures.{Signature}
+use Rattle.stl_list.specs.Runs.{Run, targets}
 use Rattle.stl_list.specs.Statements.{Surroundings, body_of, label_alone, label_at, label_of_end, statement, statement_at, statements_from, surroundings}
 use Rattle.listing_laws.specs.Labels.{AreLabelsApart, AreLabelsReached, HasWord}
-use Rattle.listing_laws.specs.Statements.{jumps_to, offset_in, run_of}
+use Rattle.listing_laws.specs.Statements.{offset_in, run_of}
 use Rattle.listing_laws.proofs.RunLemmas.{runs_found, targets_found}
 
 -- ---- apart

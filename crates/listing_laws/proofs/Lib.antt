@@ -1,7 +1,9 @@
 mod BlockLemmas
 mod LabelLemmas
+mod LineLemmas
 mod NameLemmas
 mod OperandLemmas
+mod OrderLemmas
 mod RangeLemmas
 mod RunLemmas
 mod StatementLemmas

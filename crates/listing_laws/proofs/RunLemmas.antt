@@ -1,19 +1,18 @@
 -- The statements of code: what is found in the ops of statements.
-use Rattle.std.proofs.Common.{◌≡◌, ℕ, zero, suc, ◌+◌, ◌<◌, ◌≤◌, Bool, true, false, cond, not, eqb, ◌||◌, List, [], ◌∷◌, ◌++◌, length, map, append_assoc, Option, Some, None, slice_get, refl, sym, ap, ◌∙◌, arith}
+use Rattle.std.proofs.Common.{◌≡◌, ℕ, zero, suc, ◌+◌, ◌<◌, ◌≤◌, Bool, true, false, cond, eqb, ◌||◌, List, [], ◌∷◌, ◌++◌, length, map, append_assoc, Some, None, slice_get, refl, sym, ap, ◌∙◌, arith}
 use Rattle.std.specs.Prelude.{◌==◌, fold, min, replicate, slice_set, unwrap_or}
-use Rattle.std.specs.List.{AllByRecursion, flat_map, list_any, position_or_len, prefix_len}
+use Rattle.std.specs.List.{AllByRecursion, list_any, position_or_len}
 use Rattle.std.proofs.lemmas.Bool.{eq-eqb, ne_eqb}
 use Rattle.std.proofs.lemmas.Bool.Decides.{nat_tests}
 use Rattle.std.proofs.lemmas.List.{append-nil, length-set}
 use Rattle.flat_code.specs.Codes.{size}
 use Rattle.flat_code.specs.Instr.{Instr, Passing, Does, Jumps, JumpsByList, Calls, Returns}
 use Rattle.flat_code.specs.Ops.{OpData, op_bytes}
-use Rattle.flat_code.specs.declared.kinds.JumpOperation.TheVariants as jump
 use Rattle.flat_code.specs.declared.operands.Operand.{Operand}
 use Rattle.flat_code.specs.declared.operands.Operand.TheVariants as operand
 use Rattle.stl_codegen.specs.Compiled.{Stated, aimed, aimed_op, code_in, offset_from, offset_of, ops_in, placed_ops}
-use Rattle.stl_codegen.specs.Emitted.{call_op, end_op, ending, jump_op, opening, ops_of, passing}
-use Rattle.stl_list.specs.Runs.{Run, marked_by, number_at, runs, runs_from, start_here, starts, starts_from, targets}
+use Rattle.stl_codegen.specs.Emitted.{call_op, ending, opening, ops_of, passing}
+use Rattle.stl_list.specs.Runs.{Run, marked_by, number_at, runs, runs_from, starts, starts_from, targets}
 use Rattle.listing_laws.specs.Statements.{AreNumbersFound, AreRunsFound, AreStartsFound, AreTargetsFound, IsCountFound, goes_to, jumps_to, offset_in, run_of}
 
 -- ---- the ops of an instruction in two parts

@@ -28,6 +28,7 @@ use Rattle.stl_symbols.specs.Symbols.{and_then_lines, most_symbols, symbols_in, 
 use Rattle.stl_symbols.specs.declared.languages.Language.TheVariants.{English}
 use Rattle.print_laws.proofs.lexing.Numerals.{all_weaker, numeral}
 use Rattle.listing_laws.specs.Names.{symbol_of}
+use Rattle.listing_laws.proofs.OrderLemmas.{Pairs}
 use Rattle.listing_laws.proofs.SymbolLineLemmas.{IsNamed, plain_letters, columns_are, line_declares, line_of, name_text_is}
 
 -- ---- the lines of a text
@@ -180,8 +181,7 @@ abbrev pub NotSame : NameEntry → NameEntry → Type 0
 NotSame f e = is_same_name f.name e.name ≡ false
 
 abbrev pub Apart : List NameEntry → Type 0
-Apart [] = Unit {0}
-Apart (e ∷ es) = AllByRecursion (λ f. NotSame f e) es × Apart es
+Apart es = Pairs NotSame es
 
 -- none has the name of one of these symbols
 abbrev Fresh : List Symbol → List NameEntry → Type 0

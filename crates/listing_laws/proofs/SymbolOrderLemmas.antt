@@ -2,7 +2,6 @@
 use Rattle.std.proofs.Common.{◌≡◌, ℕ, zero, suc, ◌+◌, ◌-◌, ◌≤◌, Bool, true, false, cond, not, eqb, List, [], ◌∷◌, ◌++◌, length, length-append, take, get_or, map, Option, Some, None, is_some, Result, Ok, Err, IfOk, refl, ap, subst, ◌∙◌, arith}
 use Rattle.std.specs.Prelude.{nat_eq, ◌==◌, if◌then◌else◌}
 use Rattle.std.specs.Char.{to_ascii_uppercase}
-use Rattle.std.specs.Cmp.{IsStrictWeakOrder}
 use Rattle.std.specs.List.{AllByRecursion, flat_map, list_all, onto_first, slice_split}
 use Rattle.std.specs.Str.Lines.{lines, lines_of_parts, strip_carriage_return}
 use Rattle.std.proofs.lemmas.Bool.{and_parts, ne_eqb}
@@ -15,7 +14,7 @@ use Rattle.plc_base.specs.Texts.{is_blank}
 use Rattle.plc_base.specs.declared.refusals.Refusal.{Refusal}
 use Rattle.flat_code.specs.Programs.{NameEntry}
 use Rattle.stl_codegen.specs.Generated.{has_name, name_entry, names_of}
-use Rattle.stl_codegen.specs.Order.{inserted, is_name_before, sorted}
+use Rattle.stl_codegen.specs.Order.{is_name_before, sorted}
 use Rattle.stl_codegen.proofs.OrderLemmas.{names_ordered}
 use Rattle.stl_list.specs.Symbols.{listed_names}
 use Rattle.stl_symbols.specs.Laws.{AreApart, Passes}
@@ -29,6 +28,7 @@ use Rattle.stl_symbols.specs.declared.targets.Target.TheVariants.{Variable, Time
 use Rattle.stl_symbols.proofs.FileLemmas.{symbols_right}
 use Rattle.listing_laws.specs.Names.{symbol_of}
 use Rattle.listing_laws.proofs.NameLemmas.{all_joined}
+use Rattle.listing_laws.proofs.OrderLemmas.{all_sorted, in_order, length_sorted, order_sorted, pairs_sorted}
 use Rattle.listing_laws.proofs.SymbolLineLemmas.{IsNamed}
 use Rattle.listing_laws.proofs.SymbolFileLemmas.{Apart, IsLine, NotSame, ends_no_line, file_read}
 
@@ -281,89 +281,8 @@ all_few (s ∷ symbols) =
 
 -- ---- in order
 
-abbrev Before : Type 0
-Before = NameEntry → NameEntry → Bool
-
-all_inserted : (P : NameEntry → Type 0) (lt : Before) (x : NameEntry) (ys : List NameEntry) → P x → AllByRecursion P ys → AllByRecursion P (inserted lt x ys)
-all_inserted P lt x [] h k = (h, tt)
-all_inserted P lt x (y ∷ ys) h k = by (lt y x) (all_inserted P lt x ys h k.1)
-  where
-    by : (b : Bool) → AllByRecursion P (inserted lt x ys) → AllByRecursion P (cond b (y ∷ inserted lt x ys) (x ∷ y ∷ ys))
-    by true more = (k.0, more)
-    by false more = (h, k)
-
-all_sorted : (P : NameEntry → Type 0) (lt : Before) (xs : List NameEntry) → AllByRecursion P xs → AllByRecursion P (sorted lt xs)
-unfolding sorted
-all_sorted P lt [] h = tt
-all_sorted P lt (x ∷ xs) h = all_inserted P lt x (sorted lt xs) h.0 (all_sorted P lt xs h.1)
-
-turned : (a b : List ℕ) → is_same_name a b ≡ false → is_same_name b a ≡ false
-turned a b h = nat_list_eq_equiv.symm (folded b) (folded a) ∙ h
-
-apart_inserted : (lt : Before) (x : NameEntry) (ys : List NameEntry) → AllByRecursion (λ y. NotSame y x) ys → Apart ys → Apart (inserted lt x ys)
-apart_inserted lt x [] h k = (tt, tt)
-apart_inserted lt x (y ∷ ys) h k = by (lt y x) (apart_inserted lt x ys h.1 k.1)
-  where
-    by : (b : Bool) → Apart (inserted lt x ys) → Apart (cond b (y ∷ inserted lt x ys) (x ∷ y ∷ ys))
-    by true more = (all_inserted (λ f. NotSame f y) lt x ys (turned y.name x.name h.0) k.0, more)
-    by false more = (h, k)
-
-apart_sorted : (lt : Before) (xs : List NameEntry) → Apart xs → Apart (sorted lt xs)
-unfolding sorted
-apart_sorted lt [] h = tt
-apart_sorted lt (x ∷ xs) h = apart_inserted lt x (sorted lt xs) (all_sorted (λ y. NotSame y x) lt xs h.0) (apart_sorted lt xs h.1)
-
-length_inserted : (lt : Before) (x : NameEntry) (ys : List NameEntry) → length (inserted lt x ys) ≡ suc (length ys)
-length_inserted lt x [] = refl
-length_inserted lt x (y ∷ ys) = by (lt y x) (length_inserted lt x ys)
-  where
-    by : (b : Bool) → length (inserted lt x ys) ≡ suc (length ys) → length (cond b (y ∷ inserted lt x ys) (x ∷ y ∷ ys)) ≡ suc (suc (length ys))
-    by true more = ap (λ n. suc n) more
-    by false more = refl
-
-length_sorted : (lt : Before) (xs : List NameEntry) → length (sorted lt xs) ≡ length xs
-unfolding sorted
-length_sorted lt [] = refl
-length_sorted lt (x ∷ xs) = length_inserted lt x (sorted lt xs) ∙ ap (λ n. suc n) (length_sorted lt xs)
-
--- the first of these, if any, doesn't come before x
-abbrev Heads : Before → NameEntry → List NameEntry → Type 0
-Heads lt x [] = Unit {0}
-Heads lt x (y ∷ ys) = lt y x ≡ false
-
-abbrev InOrder : Before → List NameEntry → Type 0
-InOrder lt [] = Unit {0}
-InOrder lt (x ∷ xs) = Heads lt x xs × InOrder lt xs
-
-heads_inserted : (lt : Before) (y x : NameEntry) (ys : List NameEntry) → lt x y ≡ false → Heads lt y ys → Heads lt y (inserted lt x ys)
-heads_inserted lt y x [] h k = h
-heads_inserted lt y x (z ∷ zs) h k = by (lt z x)
-  where
-    by : (b : Bool) → Heads lt y (cond b (z ∷ inserted lt x zs) (x ∷ z ∷ zs))
-    by true = k
-    by false = h
-
-order_inserted : (lt : Before) → IsStrictWeakOrder lt → (x : NameEntry) (ys : List NameEntry) → InOrder lt ys → InOrder lt (inserted lt x ys)
-order_inserted lt o x [] h = (tt, tt)
-order_inserted lt o x (y ∷ ys) h = by (lt y x) refl (order_inserted lt o x ys h.1)
-  where
-    by : (b : Bool) → lt y x ≡ b → InOrder lt (inserted lt x ys) → InOrder lt (cond b (y ∷ inserted lt x ys) (x ∷ y ∷ ys))
-    by true e more = (heads_inserted lt y x ys (o.one_way y x e) h.0, more)
-    by false e more = (e, h)
-
-order_sorted : (lt : Before) → IsStrictWeakOrder lt → (xs : List NameEntry) → InOrder lt (sorted lt xs)
-unfolding sorted
-order_sorted lt o [] = tt
-order_sorted lt o (x ∷ xs) = order_inserted lt o x (sorted lt xs) (order_sorted lt o xs)
-
-inserted_first : (lt : Before) (x : NameEntry) (ys : List NameEntry) → Heads lt x ys → inserted lt x ys ≡ x ∷ ys
-inserted_first lt x [] h = refl
-inserted_first lt x (y ∷ ys) h = rw h refl
-
-in_order : (lt : Before) (xs : List NameEntry) → InOrder lt xs → sorted lt xs ≡ xs
-unfolding sorted
-in_order lt [] h = refl
-in_order lt (x ∷ xs) h = ap (inserted lt x) (in_order lt xs h.1) ∙ inserted_first lt x xs h.0
+turned : (f e : NameEntry) → NotSame f e → NotSame e f
+turned f e h = nat_list_eq_equiv.symm (folded e.name) (folded f.name) ∙ h
 
 -- ---- the law
 
@@ -378,7 +297,7 @@ names_read language file symbols are =
     let size = length_sorted is_name_before (entries_of symbols) in
     let few = all_few symbols in
     let most = right.few in
-    file_read (names_of symbols) (names_named language file symbols are) (apart_sorted is_name_before (entries_of symbols) (all_apart symbols right.apart)) (omega (arith, size, few, most))
+    file_read (names_of symbols) (names_named language file symbols are) (pairs_sorted NotSame turned is_name_before (entries_of symbols) (all_apart symbols right.apart)) (omega (arith, size, few, most))
 
 back : (es : List NameEntry) → AllByRecursion IsNamed es → entries_of (map symbol_of es) ≡ es
 back [] h = refl
@@ -391,4 +310,4 @@ pub names_kept : (language : Language) (file : List ℕ) (symbols : List Symbol)
     → names_of (map symbol_of (names_of symbols)) ≡ names_of symbols
 names_kept language file symbols are =
     ap (sorted is_name_before) (back (names_of symbols) (names_named language file symbols are))
-    ∙ in_order is_name_before (names_of symbols) (order_sorted is_name_before names_ordered (entries_of symbols))
+    ∙ in_order is_name_before (names_of symbols) (order_sorted is_name_before names_ordered.one_way (entries_of symbols))

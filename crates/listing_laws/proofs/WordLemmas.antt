@@ -1,14 +1,13 @@
 -- The instruction words of a listing.
-use Rattle.std.proofs.Common.{◌≡◌, ℕ, suc, Bool, true, false, if◌then◌else◌, List, [], ◌∷◌, ◌++◌, Option, Some, None, refl, sym, ap, subst, ◌∙◌}
+use Rattle.std.proofs.Common.{◌≡◌, ℕ, suc, Bool, true, false, if◌then◌else◌, List, [], ◌∷◌, Option, Some, None, refl, sym, ap, ◌∙◌}
 use Rattle.std.specs.List.{AllByRecursion}
 use Rattle.plc_base.proofs.ListLemmas.{all_append}
-use Rattle.flat_code.specs.Instr.{Instr, Does, Jumps, JumpsByList, Calls, Returns}
+use Rattle.flat_code.specs.Instr.{Does}
 use Rattle.flat_code.specs.Kinds.{kind_of}
 use Rattle.flat_code.specs.OpCodes.{code_of}
 use Rattle.flat_code.specs.declared.kinds.JumpOperation.{JumpOperation}
 use Rattle.flat_code.specs.declared.kinds.JumpOperation.TheVariants as jump
 use Rattle.flat_code.specs.declared.operands.Operand.{Operand as FlatOperand}
-use Rattle.flat_code.specs.declared.operands.Operand.TheVariants as flat
 use Rattle.flat_code.specs.declared.operations.CallOperation.{CallOperation}
 use Rattle.flat_code.specs.declared.operations.CallOperation.TheVariants as calls
 use Rattle.flat_code.specs.declared.operations.EndOperation.{EndOperation}
@@ -16,9 +15,7 @@ use Rattle.flat_code.specs.declared.operations.EndOperation.TheVariants as ends
 use Rattle.flat_code.specs.declared.operations.Operation.{Operation}
 use Rattle.flat_code.specs.declared.operations.Operation.TheVariants as operation
 use Rattle.stl_ast.specs.Statements.{is_empty}
-use Rattle.stl_ast.specs.declared.blocks.Block.{Block}
 use Rattle.stl_ast.specs.declared.literals.Literal.TheVariants as literal
-use Rattle.stl_ast.specs.declared.mnemonics.Mnemonic.{Mnemonic}
 use Rattle.stl_ast.specs.declared.mnemonics.Mnemonic.TheVariants as code
 use Rattle.stl_ast.specs.declared.operands.Numbered.{Numbered}
 use Rattle.stl_ast.specs.declared.operands.Numbered.TheVariants as numbered
@@ -37,9 +34,8 @@ use Rattle.stl_codegen.specs.Generated.{returning, stated_from, statements_of}
 use Rattle.stl_codegen.specs.Instruction.{call_instr, end_instr, filler, instr_by, instruction, jump_instr, resolved_instr, target_of, view_instr}
 use Rattle.stl_codegen.specs.Operands.{numbered_operand, opened_by, operand_of, register_operand}
 use Rattle.stl_codegen.specs.Operations.{add_operation, call_of, end_of, jump_of, load_operation, load_pointer_operation, operation_for, or_operation, store_pointer_operation, transfer_operation}
-use Rattle.stl_list.specs.Mnemonics.{jump_word, mnemonic_of, word_by, word_of}
-use Rattle.listing_laws.specs.Labels.{AreCallWordsFound, AreEndWordsFound, AreJumpWordsFound, AreWordsFound, GoesOn, HasWord, HaveWords}
-use Rattle.listing_laws.specs.Statements.{run_of}
+use Rattle.stl_list.specs.Mnemonics.{jump_word, word_by, word_of}
+use Rattle.listing_laws.specs.Labels.{AreCallWordsFound, AreEndWordsFound, AreJumpWordsFound, AreWordsFound, HasWord, HaveWords}
 use Rattle.listing_laws.proofs.RunLemmas.{unaimed}
 
 -- ---- where the operand has a say
