@@ -1,4 +1,5 @@
 mod BlockLemmas
+mod IdLemmas
 mod LabelLemmas
 mod LineLemmas
 mod NameLemmas
