@@ -1,9 +1,9 @@
 -- The blocks of a listing by kind and number.
-use Rattle.std.proofs.Common.{◌≡◌, ℕ, zero, suc, ◌+◌, ◌-◌, ◌<◌, ◌≤◌, Bool, true, false, cond, eqb, ltb, not, ◌&&◌, ◌||◌, List, [], ◌∷◌, ◌++◌, length, length-append, append_assoc, map, Option, Some, None, is_some, slice_get, refl, sym, ap, subst, ◌∙◌, arith}
+use Rattle.std.proofs.Common.{◌≡◌, ℕ, zero, suc, Bool, true, false, cond, not, ◌&&◌, ◌||◌, List, [], ◌∷◌, ◌++◌, length, length-append, append_assoc, map, Option, Some, None, is_some, slice_get, refl, sym, ap, subst, ◌∙◌, arith}
 use Rattle.std.specs.Prelude.{nat_eq, nat_lt, if◌then◌else◌}
 use Rattle.std.specs.List.{AllByRecursion, list_any}
 use Rattle.std.specs.Option.{option_and_then, option_map}
-use Rattle.std.proofs.lemmas.Bool.{eq-eqb, not_from_true}
+use Rattle.std.proofs.lemmas.Bool.{eq-eqb}
 use Rattle.std.proofs.lemmas.Bool.Decides.{nat_tests}
 use Rattle.plc_base.proofs.ListLemmas.{all_append, all_back, all_front, nil_parts}
 use Rattle.plc_base.specs.Gathered.{gathered}
@@ -12,7 +12,6 @@ use Rattle.plc_base.specs.Least.{broken_if}
 use Rattle.plc_base.specs.declared.blocks.BlockId.{BlockId}
 use Rattle.plc_base.specs.declared.blocks.BlockKind.{BlockKind}
 use Rattle.plc_base.specs.declared.blocks.BlockKind.TheVariants as kinds
-use Rattle.plc_base.specs.declared.refusals.Refusal.{Refusal}
 use Rattle.flat_code.specs.Programs.{CodeBlock, DataBlock, Program}
 use Rattle.stl_ast.specs.declared.blocks.Block.{Block}
 use Rattle.stl_ast.specs.declared.blocks.Tree.{Tree}
@@ -26,7 +25,7 @@ use Rattle.block_layout.specs.Types.{Types}
 use Rattle.stl_types.specs.Bodies.{first_context}
 use Rattle.stl_types.specs.Context.{Context}
 use Rattle.stl_codegen.specs.Compiled.{StatedBlock, compiled}
-use Rattle.stl_codegen.specs.Generated.{code_block, code_block_of, code_blocks_of, data_block, data_block_of, data_blocks_of, each_block, program_of}
+use Rattle.stl_codegen.specs.Generated.{code_block, code_block_of, code_blocks_of, data_block, data_block_of, data_blocks_of, each_block}
 use Rattle.stl_codegen.specs.Order.{inserted, is_code_before, is_data_before, sorted}
 use Rattle.stl_list.specs.CodeBlocks.{in_lines, listed_blocks, line_reached}
 use Rattle.stl_list.specs.DataBlocks.{listed_data, listed_data_blocks}
@@ -305,11 +304,11 @@ place_there id (i ∷ is) = by (is_id id i) (place_there id is)
 
 -- ---- the program of a source
 
-source_symbols : (symbols : List Symbol) (blocks : List Block) → (types_of symbols blocks).symbols ≡ symbols
+pub source_symbols : (symbols : List Symbol) (blocks : List Block) → (types_of symbols blocks).symbols ≡ symbols
 unfolding types_of with_all_bits with_all_depths
 source_symbols symbols blocks = refl
 
-source_ids : (symbols : List Symbol) (blocks : List Block) → (types_of symbols blocks).ids ≡ ids_of symbols blocks
+pub source_ids : (symbols : List Symbol) (blocks : List Block) → (types_of symbols blocks).ids ≡ ids_of symbols blocks
 unfolding types_of with_all_bits with_all_depths
 source_ids symbols blocks = refl
 
@@ -367,11 +366,11 @@ blocks_kept t symbols listed id plain =
 
 -- ---- each at its place
 
-abbrev NotSame : BlockId → BlockId → Type 0
+abbrev pub NotSame : BlockId → BlockId → Type 0
 NotSame a b = is_same_block a b ≡ false
 
 -- a block of the source isn't one before it
-abbrev Far : Option BlockId → Option BlockId → Type 0
+abbrev pub Far : Option BlockId → Option BlockId → Type 0
 Far None earlier = Unit {0}
 Far (Some id) earlier = is_id id earlier ≡ false
 
@@ -437,14 +436,14 @@ none_beyond symbols before (b ∷ bs) h =
     let parts = nil_parts (broken_if (has_wrong_number symbols b) b.line 44) _ h in
     (none_broken (has_wrong_number symbols b) b.line 44 parts.0, none_beyond symbols (b ∷ before) bs parts.1)
 
-source_apart : (symbols : List Symbol) (blocks : List Block) → rule_22 (types_of symbols blocks) blocks ≡ [] → Pairs Far (ids_of symbols blocks)
+pub source_apart : (symbols : List Symbol) (blocks : List Block) → rule_22 (types_of symbols blocks) blocks ≡ [] → Pairs Far (ids_of symbols blocks)
 unfolding rule_22
 source_apart symbols blocks h =
     let y = types_of symbols blocks in
     let same : y.ids ≡ ids_by y blocks = source_ids symbols blocks ∙ ap (λ (z : List Symbol). ids_of z blocks) (sym (source_symbols symbols blocks)) in
     subst (λ (z : List Symbol). Pairs Far (ids_of z blocks)) (source_symbols symbols blocks) ((none_twice y [] [] blocks same refl h).1)
 
-source_right : (symbols : List Symbol) (blocks : List Block) → rule_44 symbols blocks ≡ [] → AllByRecursion (λ i. is_beyond i ≡ false) (ids_of symbols blocks)
+pub source_right : (symbols : List Symbol) (blocks : List Block) → rule_44 symbols blocks ≡ [] → AllByRecursion (λ i. is_beyond i ≡ false) (ids_of symbols blocks)
 unfolding rule_44
 source_right symbols blocks h = none_beyond symbols [] blocks h
 
@@ -453,7 +452,7 @@ source_right symbols blocks h = none_beyond symbols [] blocks h
 abbrev HasCode : BlockId → Type 0
 HasCode id = is_code id.kind ≡ true
 
-abbrev IsRight : BlockId → Type 0
+abbrev pub IsRight : BlockId → Type 0
 IsRight id = is_block_number id.kind id.number ≡ true
 
 codes_code : (is : List (Option BlockId)) → AllByRecursion HasCode (code_ids is)
@@ -570,14 +569,16 @@ no_data _ h = absurd cc
 
 crossed : (ds : List DataBlock) (ids : List BlockId) → AllByRecursion HasCode ids → AllByRecursion (λ x. AllByRecursion (λ y. NotSame y x) (map (λ d. data_id d.number) ds)) ids
 crossed ds [] h = tt
-crossed ds (id ∷ ids) h =
-    (all_mapped (λ y. NotSame y id) (λ (d : DataBlock). data_id d.number) ds
-    (all_any (λ (d : DataBlock). NotSame (data_id d.number) id) ds (λ d. ap (λ (b : Bool). b && nat_eq d.number id.number) (no_data id.kind h.0))), crossed ds ids h.1)
+crossed ds (id ∷ ids) h = (
+  all_mapped (λ y. NotSame y id) (λ (d : DataBlock). data_id d.number) ds
+      (all_any (λ (d : DataBlock). NotSame (data_id d.number) id) ds (λ d. ap (λ (b : Bool). b && nat_eq d.number id.number) (no_data id.kind h.0))),
+  crossed ds ids h.1,
+)
 
 source_have_code : (t : Tree) (symbols : List Symbol) → AllByRecursion HasCode (map (λ x. x.id) (codes_of t symbols))
 source_have_code t symbols = subst (AllByRecursion HasCode) (sym (source_codes t symbols)) (codes_code (ids_of symbols t.blocks))
 
-program_apart : (t : Tree) (symbols : List Symbol) → Pairs Far (ids_of symbols t.blocks) → Pairs NotSame (program_ids (source_program t symbols))
+pub program_apart : (t : Tree) (symbols : List Symbol) → Pairs Far (ids_of symbols t.blocks) → Pairs NotSame (program_ids (source_program t symbols))
 program_apart t symbols h =
     subst (Pairs NotSame) (sym (ids_are t symbols))
     (pairs_joined NotSame (map (λ b. b.id) (in_lines (map compiled (sorted is_code_before (codes_of t symbols))))) (map (λ d. data_id d.number) (sorted is_data_before (stored_of t symbols)))
@@ -597,7 +598,7 @@ all_weaken : {A : Type 0} (P Q : A → Type 0) (xs : List A) → ((x : A) → P 
 all_weaken P Q [] f h = tt
 all_weaken P Q (x ∷ xs) f h = (f x h.0, all_weaken P Q xs f h.1)
 
-program_right : (t : Tree) (symbols : List Symbol) → AllByRecursion (λ i. is_beyond i ≡ false) (ids_of symbols t.blocks) → AllByRecursion IsRight (program_ids (source_program t symbols))
+pub program_right : (t : Tree) (symbols : List Symbol) → AllByRecursion (λ i. is_beyond i ≡ false) (ids_of symbols t.blocks) → AllByRecursion IsRight (program_ids (source_program t symbols))
 program_right t symbols h =
     let is : List (Option BlockId) = ids_of symbols t.blocks in
     subst (AllByRecursion IsRight) (sym (ids_are t symbols))
@@ -613,7 +614,7 @@ got P [] k x h e = absurd cc
 got P (y ∷ xs) zero x h e = let same : y ≡ x = cc in subst P same h.0
 got P (y ∷ xs) (suc k) x h e = got P xs k x h.1 e
 
-place_of : (ids : List BlockId) (k : ℕ) (id : BlockId) → Pairs NotSame ids → slice_get ids k ≡ Some id → block_place id (map (λ i. Some i) ids) ≡ Some k
+pub place_of : (ids : List BlockId) (k : ℕ) (id : BlockId) → Pairs NotSame ids → slice_get ids k ≡ Some id → block_place id (map (λ i. Some i) ids) ≡ Some k
 place_of [] k id apart e = absurd cc
 place_of (i ∷ ids) zero id apart e =
     let same : i ≡ id = cc in

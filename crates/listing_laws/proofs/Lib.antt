@@ -1,4 +1,5 @@
 mod BlockLemmas
+mod HeadLemmas
 mod IdLemmas
 mod LabelLemmas
 mod LineLemmas

@@ -1,6 +1,8 @@
-//! Laws of listings: the tree of a program's listing is printable.
+//! Laws of listings: the tree of a program's listing is printable, its symbols file is read back, and its
+//! statements, lines, labels and blocks are those of the program.
 #![tactic(auto)]
 
+mod heads;
 mod ids;
 mod labels;
 mod laws;
@@ -8,6 +10,7 @@ mod lines;
 mod names;
 mod statements;
 
+pub use heads::law_of_listed_heads;
 pub use ids::law_of_listed_ids;
 pub use labels::law_of_listed_labels;
 pub use laws::law_of_listed_trees;
