@@ -58,10 +58,10 @@ labels_apart m n h k e = by (nat_lt m 46656) (nat_lt n 46656) refl refl e
 
 -- ---- at their statements
 
-same_label : (n : ℕ) → bytes_eq (label_of n) (label_of n) ≡ true
+pub same_label : (n : ℕ) → bytes_eq (label_of n) (label_of n) ≡ true
 same_label n = (bytes_eq-Decides (label_of n) (label_of n)).1 refl
 
-other_label : (m n : ℕ) → m < 93312 → n < 93312 → (m ≡ n → ⊥) → bytes_eq (label_of m) (label_of n) ≡ false
+pub other_label : (m n : ℕ) → m < 93312 → n < 93312 → (m ≡ n → ⊥) → bytes_eq (label_of m) (label_of n) ≡ false
 other_label m n h k apart = false_from_ne_true (bytes_eq (label_of m) (label_of n)) (λ y. apart (labels_apart m n h k ((bytes_eq-Decides (label_of m) (label_of n)).0 y)))
 
 -- a statement before the one that has the label
@@ -105,10 +105,10 @@ next_found sur k n r rest h few more some =
     ap (λ (b : Bool). target_in (label_of n) ((if b then label_of_end (line_at sur.lines k) (label_at sur.targets k) else statement sur k r ∷ []) ++ rest)) inner
     ∙ found_later (label_of n) (statement sur k r) rest (not_here sur.targets k n h few) some
 
-equal : (k n : ℕ) → (k == n) ≡ true → k ≡ n
+pub equal : (k n : ℕ) → (k == n) ≡ true → k ≡ n
 equal k n e = grind (arith, nat_tests)
 
-below : (k n : ℕ) → k ≤ n → (k == n) ≡ false → k < n
+pub below : (k n : ℕ) → k ≤ n → (k == n) ≡ false → k < n
 below k n low e = grind (arith, nat_tests)
 
 abbrev Words : (ℕ → ℕ) → List Stated → Type 0

@@ -1,6 +1,7 @@
 mod BlockLemmas
 mod HeadLemmas
 mod IdLemmas
+mod JumpLemmas
 mod LabelLemmas
 mod LineLemmas
 mod NameLemmas

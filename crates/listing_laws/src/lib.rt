@@ -4,6 +4,7 @@
 
 mod heads;
 mod ids;
+mod jumps;
 mod labels;
 mod laws;
 mod lines;
@@ -12,6 +13,7 @@ mod statements;
 
 pub use heads::law_of_listed_heads;
 pub use ids::law_of_listed_ids;
+pub use jumps::law_of_listed_jumps;
 pub use labels::law_of_listed_labels;
 pub use laws::law_of_listed_trees;
 pub use lines::law_of_listed_lines;
