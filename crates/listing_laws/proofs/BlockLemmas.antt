@@ -107,7 +107,7 @@ all_inserted P before x [] h k = (h, tt)
 all_inserted P before x (y ∷ ys) h (one, more) =
     either_way (λ l. AllByRecursion P l) (before y x) (y ∷ inserted before x ys) (x ∷ y ∷ ys) (one, all_inserted P before x ys h more) (h, (one, more))
 
-all_sorted : {A : Type 0} (P : A → Type 0) (before : A → A → Bool) (xs : List A) → AllByRecursion P xs → AllByRecursion P (sorted before xs)
+pub all_sorted : {A : Type 0} (P : A → Type 0) (before : A → A → Bool) (xs : List A) → AllByRecursion P xs → AllByRecursion P (sorted before xs)
 unfolding sorted
 all_sorted P before [] h = tt
 all_sorted P before (x ∷ xs) (one, more) = all_inserted P before x (sorted before xs) one (all_sorted P before xs more)

@@ -1,4 +1,5 @@
 mod BlockLemmas
+mod CompiledLemmas
 mod HeadLemmas
 mod IdLemmas
 mod JumpLemmas

@@ -1,5 +1,5 @@
 -- The tree of a program's listing is printable.
-use Rattle.std.specs.Prelude.{◌<◌, ◌*◌}
+use Rattle.std.specs.Prelude.{◌<◌, ◌*◌, List}
 use Rattle.std.specs.List.{AllByRecursion}
 use Rattle.flat_code.specs.Image.{IsProgram}
 use Rattle.flat_code.specs.Programs.{CodeBlock, Program}
@@ -7,6 +7,11 @@ use Rattle.flat_code.specs.declared.operands.Operand.{Operand}
 use Rattle.flat_code.specs.declared.operands.Operand.TheVariants as flat
 use Rattle.stl_lexer.specs.Pieces.{Show, tokens_of}
 use Rattle.stl_lexer.specs.Tokens.{AreTokens}
+use Rattle.stl_ast.specs.WellFormed.{IsWellFormed}
+use Rattle.stl_ast.specs.declared.blocks.Tree.{Tree}
+use Rattle.stl_symbols.specs.Symbol.{Symbol}
+use Rattle.block_layout.specs.declared.blocks.BlockLayout.{BlockLayout}
+use Rattle.stl_codegen.specs.Generated.{program_of}
 use Rattle.stl_list.specs.Listing.{listed_source, listed_tree}
 use Rattle.stl_print.specs.Trees.{pieces}
 use Rattle.print_laws.specs.Standing.{IsPrintable}
@@ -34,3 +39,9 @@ AreListedTokens =
     (p : Program) → IsProgram p → IsWrittenProgram p
     → AreTokens (listed_source p) (tokens_of 0 1 (pieces (listed_tree p)))
     × Show (listed_source p) (pieces (listed_tree p)) (tokens_of 0 1 (pieces (listed_tree p)))
+
+-- the program of a source that is well-formed has such offsets
+abbrev pub AreCompiledWritten : Type 0
+AreCompiledWritten =
+    (t : Tree) (symbols : List Symbol) (layouts : List BlockLayout) → IsWellFormed t
+    → IsWrittenProgram (program_of t symbols layouts)

@@ -4,7 +4,7 @@ ghost use Rattle.stl_print.specs.Gaps.{gap_text, clause_gap, line_behind};
 
 use plc_base::NoMemory;
 
-/// What stands before a token: nothing, one blank, or so many ends of lines.
+/// What stands before a token.
 #[derive(Clone, Copy)]
 pub enum Gap {
     Nothing,
