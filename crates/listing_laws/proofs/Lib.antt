@@ -4,3 +4,4 @@ mod NameLemmas
 mod OperandLemmas
 mod RangeLemmas
 mod StatementLemmas
+pub mod declared
