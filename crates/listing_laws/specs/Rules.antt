@@ -13,6 +13,7 @@ use Rattle.block_layout.specs.Rule42.{broken_42}
 use Rattle.block_layout.specs.Rule43.{contains_itself}
 use Rattle.block_layout.specs.Rule44.{has_wrong_number}
 use Rattle.block_layout.specs.Rule50.{has_too_much_local}
+use Rattle.block_layout.specs.Rule51.{is_too_long}
 use Rattle.block_layout.specs.Rule56.{broken_56}
 use Rattle.block_layout.specs.Types.{Types}
 use Rattle.stl_list.specs.CodeBlocks.{listed_block}
@@ -48,6 +49,17 @@ AreListedHeadsRight =
     (λ d. IsHeadRight y
     (listed_data (signatures_in (program_in symbols t)) line d.number d.bytes d.instance_of))
     (program_in symbols t).data_blocks
+
+-- the code blocks among them are no longer than 16,384 bytes, as instances
+abbrev pub AreListedInstancesShort : Type 0
+AreListedInstancesShort =
+    (source file : List ℕ) (symbols : List Symbol) (t : Tree)
+    → IsAccepted source file symbols t → AreBytes source → AreBytes file
+    → (y : Types) (blocks : List Block) (line : ℕ)
+    → AllByRecursion
+    (λ b. is_too_long y blocks
+    (listed_block (signatures_in (program_in symbols t)) line b) ≡ false)
+    (program_in symbols t).code_blocks
 
 -- those of the listed blocks of an accepted source, on whichever lines
 abbrev pub AreListedDeclarationsRight : Type 0

@@ -24,7 +24,7 @@ use Rattle.stl_symbols.specs.Symbol.{Symbol}
 use Rattle.block_layout.specs.Around.{Outside, of_sections, of_structure, returned_names, section_declarations}
 use Rattle.block_layout.specs.Cells.{cells_of, components_of, is_temp, returned_cells, section_cells, temps_of}
 use Rattle.block_layout.specs.Layouts.{block_layout, layouts_of}
-use Rattle.block_layout.specs.Lengths.{farthest, least_local, length_of, local_len}
+use Rattle.block_layout.specs.Lengths.{farthest, least_local, length_of, local_len, is_structured, shape_bits, shape_of}
 use Rattle.block_layout.specs.Measures.{types_of}
 use Rattle.block_layout.specs.Offsets.{width_of}
 use Rattle.block_layout.specs.Sizes.{structure_bits, up}
@@ -57,7 +57,7 @@ use Rattle.listing_laws.proofs.declared.Groups.{AreListed, AreOf, Ends, HasGroup
 use Rattle.listing_laws.proofs.declared.Kept.{IsInstance, IsPlain, instance_groups, instance_kept, local_kept, plain_params}
 use Rattle.listing_laws.proofs.declared.Right.{code_right, data_right}
 use Rattle.listing_laws.proofs.declared.Sections.{AreGrouped}
-use Rattle.listing_laws.specs.Rules.{AreDeclarationsRight, AreListedDeclarationsRight, AreListedHeadsRight, IsHeadRight}
+use Rattle.listing_laws.specs.Rules.{AreDeclarationsRight, AreListedDeclarationsRight, AreListedHeadsRight, AreListedInstancesShort, IsHeadRight}
 use Rattle.listing_laws.proofs.declared.Locals.{body_near}
 use Rattle.listing_laws.proofs.declared.Sources.{HasSections, has_sections, made, made_sections, sections_apart}
 
@@ -588,3 +588,38 @@ listed_heads source file symbols t accepted bytes file_bytes y line =
       heads_right (signatures_in p) y line p.code_blocks from (are_declared_again source file symbols t accepted bytes file_bytes),
       data_heads (signatures_in p) y line p.data_blocks (sound_data_blocks symbols t IsNumbered tree (data_numbered symbols t)),
     )
+
+not_long : (n : ℕ) → n ≤ 16384 → nat_lt 16384 n ≡ false
+not_long n h = grind (arith, nat_tests)
+
+unstructured : (k : BlockKind) → is_code k ≡ true → is_function_block k ≡ false → is_structured k ≡ false
+unstructured kinds.Ob e f = refl
+unstructured kinds.Fc e f = refl
+unstructured kinds.Fb e f = absurd cc
+unstructured kinds.Db e f = absurd cc
+unstructured kinds.Udt e f = absurd cc
+unstructured kinds.Sfc e f = absurd cc
+
+no_length : (y : Types) (blocks : List Block) (b : Block) → is_structured b.kind ≡ false → length_of y blocks b ≡ 0
+unfolding length_of
+no_length y blocks b e = ap (λ (t : Bool). if t then shape_bits y blocks b (shape_of y b) / 8 else 0) e
+
+short_code : (ss : List Signature) (y : Types) (blocks : List Block) (line : ℕ) (b : CodeBlock) → IsSourced b → IsDeclaredAgain ss b → nat_lt 16384 (length_of y blocks (listed_block ss line b)) ≡ false
+short_code ss y blocks line b s again = by s.shape
+  where
+    by : HasShape b → nat_lt 16384 (length_of y blocks (listed_block ss line b)) ≡ false
+    by (OfInstance fb i) = ap (nat_lt 16384) (again.instance_len y blocks line fb) ∙ not_long b.instance_len i.short
+    by (Ordinary fb o) = ap (nat_lt 16384) (no_length y blocks (listed_block ss line b) (unstructured b.id.kind s.code fb)) ∙ refl
+
+short_codes : (ss : List Signature) (y : Types) (blocks : List Block) (line : ℕ) (bs : List CodeBlock) → AllByRecursion IsSourced bs → AllByRecursion (IsDeclaredAgain ss) bs
+    → AllByRecursion (λ b. nat_lt 16384 (length_of y blocks (listed_block ss line b)) ≡ false) bs
+short_codes ss y blocks line [] h k = tt
+short_codes ss y blocks line (b ∷ bs) (one, more) (again, others) = (short_code ss y blocks line b one again, short_codes ss y blocks line bs more others)
+
+pub listed_short : AreListedInstancesShort
+listed_short source file symbols t accepted bytes file_bytes y others line =
+    let tree = right_tree source file symbols t accepted in
+    let p = program_in symbols t in
+    let blocks = code_blocks_of t symbols (layouts_of t symbols) in
+    let from = all_compiled IsSourced blocks (sound_code_blocks symbols t (λ x. IsSourced (compiled x)) tree (sourced symbols t)) in
+    short_codes (signatures_in p) y others line p.code_blocks from (are_declared_again source file symbols t accepted bytes file_bytes)
