@@ -15,3 +15,4 @@ mod SymbolFileLemmas
 mod SymbolLineLemmas
 mod SymbolOrderLemmas
 mod WordLemmas
+pub mod declared

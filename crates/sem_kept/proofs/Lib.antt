@@ -2,6 +2,6 @@ mod RunLemmas
 mod SourceLemmas
 mod StageLemmas
 mod Suspended
-mod accepted
+pub mod accepted
 mod compiled
 mod kept

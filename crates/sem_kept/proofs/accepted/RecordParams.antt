@@ -67,7 +67,7 @@ use Rattle.sem_kept.proofs.accepted.RecordNames.{width_good}
 
 -- ---- what holds of each declaration of a list, with those before it
 
-abbrev AllBefore : (List Declaration → Declaration → Type 0) → (before : List Declaration) → List Declaration → Type 0
+abbrev pub AllBefore : (List Declaration → Declaration → Type 0) → (before : List Declaration) → List Declaration → Type 0
 AllBefore P before [] = Unit {0}
 AllBefore P before (d ∷ ds) = P before d × AllBefore P (d ∷ before) ds
 
@@ -86,21 +86,21 @@ before_both : (P Q : List Declaration → Declaration → Type 0) (before ds : L
 before_both P Q before [] h k = tt
 before_both P Q before (d ∷ ds) h k = ((h.0, k.0), before_both P Q (d ∷ before) ds h.1 k.1)
 
-before_front : (P : List Declaration → Declaration → Type 0) (before ds es : List Declaration) → AllBefore P before (ds ++ es)
+pub before_front : (P : List Declaration → Declaration → Type 0) (before ds es : List Declaration) → AllBefore P before (ds ++ es)
     → AllBefore P before ds
 before_front P before [] es h = tt
 before_front P before (d ∷ ds) es h = (h.0, before_front P (d ∷ before) ds es h.1)
 
-before_rest : (P : List Declaration → Declaration → Type 0) (before ds es : List Declaration) → AllBefore P before (ds ++ es)
+pub before_rest : (P : List Declaration → Declaration → Type 0) (before ds es : List Declaration) → AllBefore P before (ds ++ es)
     → AllBefore P (onto before ds) es
 before_rest P before [] es h = h
 before_rest P before (d ∷ ds) es h = before_rest P (d ∷ before) ds es h.1
 
 -- its name is new, and its initial values fit
-abbrev IsNew : Outside → List Declaration → Declaration → Type 0
+abbrev pub IsNew : Outside → List Declaration → Declaration → Type 0
 IsNew o before d = (is_twice o before d ≡ false) × (not (init_fits d) ≡ false)
 
-declarations_new : (b : Block) → in_block broken_21 b ≡ [] → in_block broken_41 b ≡ []
+pub declarations_new : (b : Block) → in_block broken_21 b ≡ [] → in_block broken_41 b ≡ []
     → AllBefore (IsNew (of_sections b)) [] (section_declarations b)
 declarations_new b h k =
     let o : Outside = of_sections b in
@@ -112,7 +112,7 @@ declarations_new b h k =
 
 -- ---- names of cells
 
-abbrev NotIn : List ℕ → List (List ℕ) → Type 0
+abbrev pub NotIn : List ℕ → List (List ℕ) → Type 0
 NotIn n names = AllByRecursion (λ m. bytes_eq n m ≡ false) names
 
 not_in : (n : List ℕ) (names : List (List ℕ)) → is_some (place_of n names) ≡ false → NotIn n names
@@ -126,7 +126,7 @@ not_in n (m ∷ names) e = by (bytes_eq n m) (place_of n names) refl e (not_in n
     by false (Some k) is e more = absurd cc
 
 -- the names of the outermost cells so far
-abbrev seen_by : List (List ℕ) → Cell → List (List ℕ)
+abbrev pub seen_by : List (List ℕ) → Cell → List (List ℕ)
 seen_by seen c = if nat_eq c.level 0 then c.name ∷ seen else seen
 
 abbrev seen_after : List (List ℕ) → List Cell → List (List ℕ)
@@ -134,7 +134,7 @@ seen_after seen [] = seen
 seen_after seen (c ∷ cs) = seen_after (seen_by seen c) cs
 
 -- no outermost cell has the name of one before it
-abbrev AreOnce : List (List ℕ) → List Cell → Type 0
+abbrev pub AreOnce : List (List ℕ) → List Cell → Type 0
 AreOnce seen [] = Unit {0}
 AreOnce seen (c ∷ cs) = (nat_eq c.level 0 ≡ true → NotIn c.name seen) × AreOnce (seen_by seen c) cs
 
@@ -159,14 +159,14 @@ seen_opened seen (c ∷ cs) = by c.sound (seen_opened (seen_by seen c) cs)
     by true more = refl
     by false more = more
 
-never_less : (n : ℕ) → nat_lt n 0 ≡ false
+pub never_less : (n : ℕ) → nat_lt n 0 ≡ false
 never_less n = grind (arith, nat_tests)
 
 names_step : (outer : List (List ℕ)) (d : Declaration) (ds : List Declaration) → names_before outer 0 (d ∷ ds) ≡ names_before outer 0 ds ++ name_here 0 d
 names_step outer d ds = let never = never_less d.level in rw never refl
 
 -- the names before a declaration hold all that were seen
-abbrev Covers : List (List ℕ) → List Declaration → List (List ℕ) → Type 0
+abbrev pub Covers : List (List ℕ) → List Declaration → List (List ℕ) → Type 0
 Covers outer before seen = (n : List ℕ) → NotIn n (names_before outer 0 before) → NotIn n seen
 
 covers_more : (outer : List (List ℕ)) (before : List Declaration) (seen : List (List ℕ)) (d : Declaration) (c : Cell)
@@ -212,7 +212,7 @@ names_more outer before (d ∷ ds) n h =
     all_front (λ m. bytes_eq n m ≡ false) (names_before outer 0 before) (name_here 0 d)
     (subst (NotIn n) (names_step outer d before) (names_more outer (d ∷ before) ds n h))
 
-sections_once : (y : Types) (o : Outside) (wanted : PartKind → Bool) (before : List Declaration) (ps : List Part) (seen : List (List ℕ))
+pub sections_once : (y : Types) (o : Outside) (wanted : PartKind → Bool) (before : List Declaration) (ps : List Part) (seen : List (List ℕ))
     → Covers o.names before seen → AllBefore (IsNew o) before (flat_map (λ p. p.items) ps) → AreOnce seen (section_cells y o wanted before ps)
 sections_once y o wanted before [] seen covers h = tt
 sections_once y o wanted before (p ∷ ps) seen covers h =
@@ -239,20 +239,20 @@ sections_once y o wanted before (p ∷ ps) seen covers h =
 -- ---- cells of parameters
 
 -- a cell of a parameter stands outermost, is sound and no array
-abbrev IsParameter : Cell → Type 0
+abbrev pub IsParameter : Cell → Type 0
 IsParameter c = is_parameter c.section ≡ true → (c.level ≡ 0) × (c.sound ≡ true) × (c.bounds ≡ [])
 
-none_around : (before : List Declaration) → around 0 before ≡ []
+pub none_around : (before : List Declaration) → around 0 before ≡ []
 none_around [] = refl
 none_around (d ∷ ds) = let never = never_less d.level in rw never (none_around ds)
 
 -- an elementary declaration
-record IsElementary (d : Declaration) : Type 0 where
-  arrays : d.of.arrays ≡ []
-  kind : Simple
-  of : d.of.of ≡ type.Plain kind
+pub record IsElementary (d : Declaration) : Type 0 where
+  pub arrays : d.of.arrays ≡ []
+  pub kind : Simple
+  pub of : d.of.of ≡ type.Plain kind
 
-elementary : (d : Declaration) → is_elementary d ≡ true → IsElementary d
+pub elementary : (d : Declaration) → is_elementary d ≡ true → IsElementary d
 elementary d h = by d.of.arrays d.of.of refl refl h
   where
     by : (arrays : List Bounds) (of : ElementType) → d.of.arrays ≡ arrays → d.of.of ≡ of → is_plain arrays of ≡ true → IsElementary d
@@ -262,7 +262,7 @@ elementary d h = by d.of.arrays d.of.of refl refl h
     by [] (type.Udt name) e f h = absurd cc
     by (b ∷ bs) of e f h = absurd cc
 
-outer_levels : (k : BlockKind) (p : PartKind) (ds : List Declaration) → is_parameter p ≡ true → IsOutline 0 ds → AreDeclaredIn k p ds
+pub outer_levels : (k : BlockKind) (p : PartKind) (ds : List Declaration) → is_parameter p ≡ true → IsOutline 0 ds → AreDeclaredIn k p ds
     → AllByRecursion (λ d. (d.level ≡ 0) × IsElementary d) ds
 outer_levels k p [] h outline all = tt
 outer_levels k p (d ∷ ds) h outline all =
@@ -271,7 +271,7 @@ outer_levels k p (d ∷ ds) h outline all =
     let next : level_behind d.level d.of.of ≡ 0 = ap (level_behind d.level) e.of ∙ level in
     ((level, e), outer_levels k p ds h (subst (λ (n : ℕ). IsOutline n ds) next outline.1) all.1)
 
-parameter_sound : (y : Types) (o : Outside) (before : List Declaration) (d : Declaration) → o.depth ≡ 0 → d.level ≡ 0 → IsElementary d → IsNew o before d
+pub parameter_sound : (y : Types) (o : Outside) (before : List Declaration) (d : Declaration) → o.depth ≡ 0 → d.level ≡ 0 → IsElementary d → IsNew o before d
     → is_sound y o before d ≡ true
 parameter_sound y o before d shallow level e new =
     let arrays = e.arrays in
@@ -348,7 +348,7 @@ up_behind c at = by c.opens (nat_eq (length c.bounds) 0) (least c.of)
     by false true h = h
     by false false h = omega arith
 
-past_behind : (at : ℕ) (c : Cell) (bits : ℕ) → at ≤ largest → (at ≤ stepped 0 at c bits) × (stepped 0 at c bits ≤ largest)
+pub past_behind : (at : ℕ) (c : Cell) (bits : ℕ) → at ≤ largest → (at ≤ stepped 0 at c bits) × (stepped 0 at c bits ≤ largest)
 past_behind at c bits near = by (nat_eq c.level 0) c.sound
   where
     by : (outer sound : Bool) → (at ≤ (if outer then (if sound then capped (up at (alignment c) + bits) else at) else at))
@@ -357,11 +357,11 @@ past_behind at c bits near = by (nat_eq c.level 0) c.sound
     by true false = (omega arith, near)
     by false sound = (omega arith, near)
 
-end_step : (at : ℕ) (c : Cell) (cs : List Cell) → end_of 0 at (c ∷ cs) ≡ end_of 0 (stepped 0 at c (cell_bits c cs)) cs
+pub end_step : (at : ℕ) (c : Cell) (cs : List Cell) → end_of 0 at (c ∷ cs) ≡ end_of 0 (stepped 0 at c (cell_bits c cs)) cs
 unfolding end_of element_of
 end_step at c cs = let never = never_less c.level in rw never refl
 
-end_behind : (at : ℕ) (cs : List Cell) → at ≤ largest → at ≤ end_of 0 at cs
+pub end_behind : (at : ℕ) (cs : List Cell) → at ≤ largest → at ≤ end_of 0 at cs
 unfolding end_of
 end_behind at [] near = omega arith
 end_behind at (c ∷ cs) near =
@@ -400,21 +400,21 @@ IsPlacedIn look len c =
     is_parameter c.section ≡ true → (k : Simple) → c.of ≡ element.Plain k
     → offset_named (look c.name) / 8 + byte_count (width_of k) ≤ len
 
-same_bytes : (n : List ℕ) → bytes_eq n n ≡ true
+pub same_bytes : (n : List ℕ) → bytes_eq n n ≡ true
 same_bytes [] = refl
 same_bytes (x ∷ n) = and_from _ _ (eq-eqb x x refl) (same_bytes n)
 
-passed_by : (at place : ℕ) (n : List ℕ) (c : Cell) (cs : List Cell) → (nat_eq c.level 0 && bytes_eq n c.name) ≡ false
+pub passed_by : (at place : ℕ) (n : List ℕ) (c : Cell) (cs : List Cell) → (nat_eq c.level 0 && bytes_eq n c.name) ≡ false
     → component 0 at place n (c ∷ cs) ≡ component 0 (stepped 0 at c (cell_bits c cs)) (place + 1) n cs
 unfolding component
 passed_by at place n c cs other = let never = never_less c.level in rw never (rw other refl)
 
-found_here : (at place : ℕ) (c : Cell) (cs : List Cell) → c.level ≡ 0
+pub found_here : (at place : ℕ) (c : Cell) (cs : List Cell) → c.level ≡ 0
     → component 0 at place c.name (c ∷ cs) ≡ Some (record { place = place; offset = up at (alignment c) })
 unfolding component
 found_here at place c cs outer = rw outer (rw (same_bytes c.name) refl)
 
-not_both : (a b : Bool) → (a ≡ true → b ≡ false) → (a && b) ≡ false
+pub not_both : (a b : Bool) → (a ≡ true → b ≡ false) → (a && b) ≡ false
 not_both true b h = h refl
 not_both false b h = refl
 
@@ -727,7 +727,7 @@ pub record HasParams (kind instance : ℕ) (ps : List Param) : Type 0 where
   pub good : good_params kind instance ps ≡ true
   pub none : kind ≡ 1 → ps ≡ []
 
-structure_end : (cells : List Cell) → structure_bits cells / 8 ≤ 16384
+pub structure_end : (cells : List Cell) → structure_bits cells / 8 ≤ 16384
     → (end_of 0 0 cells < largest) × (end_of 0 0 cells ≤ 8 * (structure_bits cells / 8))
 unfolding structure_bits up
 structure_end cells short = (omega (arith, short), omega (arith, short))
@@ -761,7 +761,7 @@ no_sections y o before (p ∷ ps) h = by p.kind h.0.0 (no_sections y o (onto bef
     by part.Static is none = absurd cc
     by part.Temp is none = none
 
-bare_components : (y : Types) (b : Block) → b.result ≡ None → b.components ≡ []
+pub bare_components : (y : Types) (b : Block) → b.result ≡ None → b.components ≡ []
     → components_of y b ≡ section_cells y (of_sections b) (λ k. not (is_temp k)) [] b.parts
 bare_components y b result none =
     ap (λ (r : Option Simple). returned_cells r ++ sections ++ cells_of y of_structure part.Static [] b.components) result

@@ -1,0 +1,14 @@
+-- What the listed declarations of a code block come to.
+pub mod Apart
+pub mod Cells
+pub mod Sections
+pub mod Sources
+pub mod Groups
+pub mod Placed
+pub mod Kept
+pub mod Locals
+pub mod Blocks
+pub mod Chains
+pub mod Links
+pub mod Own
+pub mod Right

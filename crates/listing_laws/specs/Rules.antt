@@ -1,0 +1,76 @@
+-- The declarations and the heads of listed blocks break no rule.
+use Rattle.std.specs.Prelude.{◌≡◌, ℕ, false, List, []}
+use Rattle.std.specs.List.{AllByRecursion}
+use Rattle.stl_ast.specs.Literals.{AreBytes}
+use Rattle.stl_ast.specs.declared.blocks.Block.{Block}
+use Rattle.stl_ast.specs.declared.blocks.Tree.{Tree}
+use Rattle.stl_symbols.specs.Symbol.{Symbol}
+use Rattle.block_layout.specs.Around.{in_block}
+use Rattle.block_layout.specs.Rule21.{broken_21}
+use Rattle.block_layout.specs.Rule23.{broken_23}
+use Rattle.block_layout.specs.Rule41.{broken_41}
+use Rattle.block_layout.specs.Rule42.{broken_42}
+use Rattle.block_layout.specs.Rule43.{contains_itself}
+use Rattle.block_layout.specs.Rule44.{has_wrong_number}
+use Rattle.block_layout.specs.Rule50.{has_too_much_local}
+use Rattle.block_layout.specs.Rule51.{is_too_long}
+use Rattle.block_layout.specs.Rule56.{broken_56}
+use Rattle.block_layout.specs.Types.{Types}
+use Rattle.stl_list.specs.CodeBlocks.{listed_block}
+use Rattle.stl_list.specs.DataBlocks.{listed_data}
+use Rattle.sem_kept.specs.Accepted.{IsAccepted, program_in}
+use Rattle.listing_laws.specs.Declared.{signatures_in}
+
+-- the declarations of a block break none of the rules of declarations, whatever types stand beside it
+pub record AreDeclarationsRight (y : Types) (b : Block) : Type 0 where
+  pub by_21 : in_block broken_21 b ≡ []
+  pub by_23 : in_block (broken_23 y) b ≡ []
+  pub by_41 : in_block broken_41 b ≡ []
+  pub by_42 : in_block broken_42 b ≡ []
+  pub by_56 : in_block (broken_56 y) b ≡ []
+
+-- a block is no data type that contains itself, has a number that its kind may have, and no more than
+-- 1,024 bytes of local data, whatever blocks and symbols stand beside it
+pub record IsHeadRight (y : Types) (b : Block) : Type 0 where
+  pub by_43 : (blocks before : List Block) → contains_itself y blocks before b ≡ false
+  pub by_44 : (symbols : List Symbol) → has_wrong_number symbols b ≡ false
+  pub by_50 : has_too_much_local y b ≡ false
+
+-- so it is with the listed blocks of an accepted source, on whichever lines
+abbrev pub AreListedHeadsRight : Type 0
+AreListedHeadsRight =
+    (source file : List ℕ) (symbols : List Symbol) (t : Tree)
+    → IsAccepted source file symbols t → AreBytes source → AreBytes file
+    → (y : Types) (line : ℕ)
+    → AllByRecursion
+    (λ b. IsHeadRight y (listed_block (signatures_in (program_in symbols t)) line b))
+    (program_in symbols t).code_blocks
+    × AllByRecursion
+    (λ d. IsHeadRight y
+    (listed_data (signatures_in (program_in symbols t)) line d.number d.bytes d.instance_of))
+    (program_in symbols t).data_blocks
+
+-- the code blocks among them are no longer than 16,384 bytes, as instances
+abbrev pub AreListedInstancesShort : Type 0
+AreListedInstancesShort =
+    (source file : List ℕ) (symbols : List Symbol) (t : Tree)
+    → IsAccepted source file symbols t → AreBytes source → AreBytes file
+    → (y : Types) (blocks : List Block) (line : ℕ)
+    → AllByRecursion
+    (λ b. is_too_long y blocks
+    (listed_block (signatures_in (program_in symbols t)) line b) ≡ false)
+    (program_in symbols t).code_blocks
+
+-- those of the listed blocks of an accepted source, on whichever lines
+abbrev pub AreListedDeclarationsRight : Type 0
+AreListedDeclarationsRight =
+    (source file : List ℕ) (symbols : List Symbol) (t : Tree)
+    → IsAccepted source file symbols t → AreBytes source → AreBytes file
+    → (y : Types) (line : ℕ)
+    → AllByRecursion
+    (λ b. AreDeclarationsRight y (listed_block (signatures_in (program_in symbols t)) line b))
+    (program_in symbols t).code_blocks
+    × AllByRecursion
+    (λ d. AreDeclarationsRight y
+    (listed_data (signatures_in (program_in symbols t)) line d.number d.bytes d.instance_of))
+    (program_in symbols t).data_blocks
