@@ -1,14 +1,18 @@
 //! Laws of listings: the tree of a program's listing is printable.
 #![tactic(auto)]
 
+mod chains;
 mod labels;
 mod laws;
 mod lines;
 mod names;
+mod passings;
 mod statements;
 
+pub use chains::law_of_listed_chains;
 pub use labels::law_of_listed_labels;
 pub use laws::law_of_listed_trees;
 pub use lines::law_of_listed_lines;
 pub use names::law_of_listed_names;
+pub use passings::law_of_listed_passings;
 pub use statements::law_of_listed_statements;

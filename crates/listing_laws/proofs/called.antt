@@ -1,0 +1,3 @@
+-- Lemmas on the calls of a listing.
+pub mod Chains
+pub mod Passings
