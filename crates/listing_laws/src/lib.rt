@@ -2,6 +2,7 @@
 #![tactic(auto)]
 
 mod chains;
+mod handed_on;
 mod labels;
 mod laws;
 mod lines;
@@ -10,6 +11,7 @@ mod passings;
 mod statements;
 
 pub use chains::law_of_listed_chains;
+pub use handed_on::law_of_handed_types;
 pub use labels::law_of_listed_labels;
 pub use laws::law_of_listed_trees;
 pub use lines::law_of_listed_lines;

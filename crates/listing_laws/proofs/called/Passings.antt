@@ -289,14 +289,15 @@ stands_ordered (Some b) fs f h = by b.result fs h.0 h.1
 
 found_stands : (test : Formal → Bool) (fs : List Formal) (f : Formal) → find test fs ≡ Some f → (test f ≡ true) × Stands fs f
 found_stands test [] f e = absurd cc
-found_stands test (g ∷ gs) f e = by (test g) refl e
+found_stands test (g ∷ gs) f e = by (test g) refl (λ h. found_stands test gs f h) e
   where
     later : (test f ≡ true) × Stands gs f → (test f ≡ true) × Stands (g ∷ gs) f
     later h = (h.0, (suc h.1.0, h.1.1))
 
-    by : (t : Bool) → test g ≡ t → cond t (Some g) (find test gs) ≡ Some f → (test f ≡ true) × Stands (g ∷ gs) f
-    by true is h = let same : g ≡ f = same_Some g f h in (subst (λ (x : Formal). test x ≡ true) same is, (0, h))
-    by false is h = later (found_stands test gs f h)
+    by : (t : Bool) → test g ≡ t → (find test gs ≡ Some f → (test f ≡ true) × Stands gs f) → cond t (Some g) (find test gs) ≡ Some f
+        → (test f ≡ true) × Stands (g ∷ gs) f
+    by true is more h = let same : g ≡ f = same_Some g f h in (subst (λ (x : Formal). test x ≡ true) same is, (0, h))
+    by false is more h = later (more h)
 
 any_there : (test : Formal → Bool) (fs : List Formal) (i : ℕ) (f : Formal) → slice_get fs i ≡ Some f → test f ≡ true → list_any test fs ≡ true
 any_there test [] i f e h = absurd cc
@@ -337,7 +338,7 @@ all_actuals : (c : Context) (own called : List Formal) (line : ℕ) (P : Actual 
     → (ps : List Passing) → AllByRecursion (IsPassable c own called) ps → AllByRecursion P (listed line own called ps)
 all_actuals c own called line P each [] h = tt
 all_actuals c own called line P each (p ∷ ps) h =
-    subst (λ (as : List Actual). AllByRecursion P as) (sym (one_more line own called p ps h.0.formal h.0.there))
+    subst (λ (xs : List Actual). AllByRecursion P xs) (sym (one_more line own called p ps h.0.formal h.0.there))
     (each p h.0.formal h.0.there h.0.fits, all_actuals c own called line P each ps h.1)
 
 -- the one for the parameter of an index
@@ -349,7 +350,7 @@ module _ (c : Context) (own called : List Formal) (line : ℕ) (named : AreNamed
       → supplied (listed line own called ps) f ≡ option_map (λ (p : Passing). actual line own f p.actual) (passed_at i ps)
   supplied_is i f e [] h = refl
   supplied_is i f e (p ∷ ps) h =
-      ap (λ (as : List Actual). supplied as f) (one_more line own called p ps h.0.formal h.0.there)
+      ap (λ (xs : List Actual). supplied xs f) (one_more line own called p ps h.0.formal h.0.there)
       ∙ ap (λ (t : Bool). cond t (Some (actual line own h.0.formal p.actual)) (supplied (listed line own called ps) f)) (named p.index i h.0.formal f h.0.there e)
       ∙ by (p.index == i) refl (supplied_is i f e ps h.1)
     where
@@ -370,13 +371,14 @@ module _ (c : Context) (own called : List Formal) (line : ℕ) (named : AreNamed
   found_passing : (i : ℕ) (ps : List Passing) → AllByRecursion (IsPassable c own called) ps → (q : Passing) → passed_at i ps ≡ Some q
       → IsPassable c own called q × (q.index ≡ i)
   found_passing i [] h q e = absurd cc
-  found_passing i (p ∷ ps) h q e = by (p.index == i) refl e
+  found_passing i (p ∷ ps) h q e = by (p.index == i) refl (λ k. found_passing i ps h.1 q k) e
     where
-      by : (t : Bool) → (p.index == i) ≡ t → cond t (Some p) (passed_at i ps) ≡ Some q → IsPassable c own called q × (q.index ≡ i)
-      by true is e =
+      by : (t : Bool) → (p.index == i) ≡ t → (passed_at i ps ≡ Some q → IsPassable c own called q × (q.index ≡ i))
+          → cond t (Some p) (passed_at i ps) ≡ Some q → IsPassable c own called q × (q.index ≡ i)
+      by true is more e =
           let same : p ≡ q = same_Some p q e in
           subst (λ (z : Passing). IsPassable c own called z × (z.index ≡ i)) same (h.0, eqb-true p.index i is)
-      by false is e = found_passing i ps h.1 q e
+      by false is more e = more e
 
   one_passed : (i : ℕ) (f : Formal) → slice_get called i ≡ Some f → (ps : List Passing) → AllByRecursion (IsPassable c own called) ps
       → passed_actual c i (supplied (listed line own called ps) f) ≡ pick (passed_at i ps)
@@ -428,32 +430,34 @@ module _ (c : Context) (own called : List Formal) (line : ℕ) (named : AreNamed
   picked_all i [] [] rising few = refl
   picked_all i [] (p ∷ ps) rising few = let low = rising.0 in let high = few.0 in absurd (omega (arith, low, high))
   picked_all i (f ∷ fs) [] rising few = picked_all (suc i) fs [] tt tt
-  picked_all i (f ∷ fs) (p ∷ ps) rising few = by (p.index == i) refl
+  picked_all i (f ∷ fs) (p ∷ ps) rising few = by (p.index == i) refl (λ qs r k. picked_all (suc i) fs qs r k)
     where
       fewer : (qs : List Passing) → AllByRecursion (λ (p : Passing). p.index < i + length (f ∷ fs)) qs → AllByRecursion (λ (p : Passing). p.index < suc i + length fs) qs
       fewer [] h = tt
       fewer (q ∷ qs) h = ((let one = h.0 in omega (arith, one)), fewer qs h.1)
 
-      by : (t : Bool) → (p.index == i) ≡ t → pick (cond t (Some p) (passed_at i ps)) ++ picks (p ∷ ps) (suc i) fs ≡ p ∷ ps
-      by true is =
+      by : (t : Bool) → (p.index == i) ≡ t
+          → ((qs : List Passing) → AreRising (suc i) qs → AllByRecursion (λ (p : Passing). p.index < suc i + length fs) qs → picks qs (suc i) fs ≡ qs)
+          → pick (cond t (Some p) (passed_at i ps)) ++ picks (p ∷ ps) (suc i) fs ≡ p ∷ ps
+      by true is more =
           let same : p.index ≡ i = eqb-true p.index i is in
           ap (λ (ys : List Passing). p ∷ ys)
           (skipped p ps (suc i) fs (omega (arith, same))
-          ∙ picked_all (suc i) fs ps (subst (λ (k : ℕ). AreRising (suc k) ps) same rising.1) (fewer ps few.1))
-      by false is =
+          ∙ more ps (subst (λ (k : ℕ). AreRising (suc k) ps) same rising.1) (fewer ps few.1))
+      by false is more =
           let low = rising.0 in
           let above : suc i ≤ p.index = past low is in
           let rest : AreRising (suc i) (p ∷ ps) = (above, rising.1) in
           ap (λ (o : Option Passing). pick o ++ picks (p ∷ ps) (suc i) fs)
           (ap (λ (t : Bool). cond t (Some p) (passed_at i ps)) (sym is) ∙ none_passed i (p ∷ ps) rest)
-          ∙ picked_all (suc i) fs (p ∷ ps) rest (fewer (p ∷ ps) few)
+          ∙ more (p ∷ ps) rest (fewer (p ∷ ps) few)
         where
           past : i ≤ p.index → (p.index == i) ≡ false → suc i ≤ p.index
           past low e = grind (arith, nat_tests)
 
   few_passed : (ps : List Passing) → AllByRecursion (IsPassable c own called) ps → AllByRecursion (λ (p : Passing). p.index < 0 + length called) ps
   few_passed [] h = tt
-  few_passed (p ∷ ps) h = (slice_get_within called p.index h.0.formal h.0.there, few_passed ps h.1)
+  few_passed (p ∷ ps) h = ((let one = slice_get_within called p.index h.0.formal h.0.there in omega (arith, one)), few_passed ps h.1)
 
   all_passed : (ps : List Passing) → AllByRecursion (IsPassable c own called) ps → AreRising 0 ps → passings_from c (listed line own called ps) 0 called ≡ ps
   all_passed ps h rising = picked_from ps h [] 0 called refl refl ∙ picked_all 0 called ps rising (few_passed ps h)
@@ -530,7 +534,7 @@ module _ (c : Context) (own called : List Formal) (line : ℕ) (named : AreNamed
       → list_any (λ (p : Passing). p.index == i) ps ≡ true → is_some (place_of f.name (supplied_names (listed line own called ps))) ≡ true
   place_there i f e [] h passes = absurd cc
   place_there i f e (p ∷ ps) h passes =
-      ap (λ (as : List Actual). is_some (place_of f.name (supplied_names as))) (one_more line own called p ps h.0.formal h.0.there)
+      ap (λ (xs : List Actual). is_some (place_of f.name (supplied_names xs))) (one_more line own called p ps h.0.formal h.0.there)
       ∙ ap (λ (t : Bool). is_some (if t then Some 0 else option_map (λ k. suc k) (place_of f.name (supplied_names (listed line own called ps))))) test
       ∙ by (p.index == i) passes (place_there i f e ps h.1)
     where
@@ -568,19 +572,19 @@ module _ (c : Context) (own called : List Formal) (line : ℕ) (named : AreNamed
 
 pub passings_kept : ArePassingsKept
 passings_kept c own called callee ps s h =
-    ap₂ (λ (as : List Actual) (fs : List Formal). passings_from c as 0 fs) h.actuals h.order
+    ap₂ (λ (xs : List Actual) (fs : List Formal). passings_from c xs 0 fs) h.actuals h.order
     ∙ all_passed c own called s.line h.named ps h.passable h.rising
 
 pub actuals_right : AreActualsRight
 actuals_right c own called callee ps s h = record {
-  by_24 = subst (λ (as : List Actual). AllByRecursion (λ (a : Actual). sees_date (seen c a.value) ≡ false) as) (sym h.actuals)
+  by_24 = subst (λ (xs : List Actual). AllByRecursion (λ (a : Actual). sees_date (seen c a.value) ≡ false) xs) (sym h.actuals)
       (all_actuals c own called s.line (λ (a : Actual). sees_date (seen c a.value) ≡ false) (λ p f e k. undated c own f p.actual k) ps h.passable);
-  by_34 = subst (λ (as : List Actual). AllByRecursion (λ (a : Actual). names_none callee.formals a ≡ false) as) (sym h.actuals)
+  by_34 = subst (λ (xs : List Actual). AllByRecursion (λ (a : Actual). names_none callee.formals a ≡ false) xs) (sym h.actuals)
       (all_actuals c own called s.line (λ (a : Actual). names_none callee.formals a ≡ false)
       (λ p f e k. each_named c own called s.line h.named callee.formals (block_at c.blocks callee.place) h.order p f e) ps h.passable);
   by_35 = ap (supplied_twice callee.formals []) h.actuals
       ∙ once_from c own called s.line h.named callee.formals 0 [] ps h.passable h.rising (λ j g le there. refl);
-  by_37 = subst (λ (as : List Actual). AllByRecursion (λ (a : Actual). misfits c a (formal_named callee.formals a.name) ≡ false) as) (sym h.actuals)
+  by_37 = subst (λ (xs : List Actual). AllByRecursion (λ (a : Actual). misfits c a (formal_named callee.formals a.name) ≡ false) xs) (sym h.actuals)
       (all_actuals c own called s.line (λ (a : Actual). misfits c a (formal_named callee.formals a.name) ≡ false)
       (λ p f e k. each_fits c own called s.line h.named callee.formals (block_at c.blocks callee.place) h.order p f e k) ps h.passable);
 }
@@ -592,5 +596,5 @@ calls_complete c own called callee ps s h all = by (has_actuals s.code && not (i
         → (t && not (list_all (is_supplied (supplied_names s.actuals)) callee.formals)) ≡ false
     by false e = refl
     by true e =
-        ap (λ (as : List Actual). not (list_all (is_supplied (supplied_names as)) callee.formals)) h.actuals
+        ap (λ (xs : List Actual). not (list_all (is_supplied (supplied_names xs)) callee.formals)) h.actuals
         ∙ ap not (all_supplied c own called s.line h.named callee.formals (block_at c.blocks callee.place) h.order ps h.passable (all e))
