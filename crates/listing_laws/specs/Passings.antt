@@ -1,5 +1,5 @@
 -- What a listed CALL passes is what the ops before it pass, and it breaks no rule.
-use Rattle.std.specs.Prelude.{◌≡◌, ◌<◌, ◌≤◌, ◌^◌, ℕ, suc, ◌+◌, nat_eq, ◌==◌, Bool, true, false, ◌&&◌, not, List, [], ◌∷◌, length, Option, Some, None, slice_get}
+use Rattle.std.specs.Prelude.{◌≡◌, ◌<◌, ◌≤◌, ◌^◌, ℕ, suc, ◌+◌, nat_eq, ◌==◌, Bool, true, false, ◌&&◌, not, List, [], ◌∷◌, length, map, Option, Some, None, slice_get}
 use Rattle.std.specs.List.{AllByRecursion, list_any}
 use Rattle.std.specs.Str.{bytes_eq}
 use Rattle.plc_base.specs.Folding.{folded}
@@ -55,20 +55,24 @@ abbrev pub AreRising : (from : ℕ) → List Passing → Type 0
 AreRising from [] = Unit {0}
 AreRising from (p ∷ ps) = (from ≤ p.index) × AreRising (suc p.index) ps
 
--- parameters have names in upper case, each its own
+-- parameters have names of their own, also in upper case
 abbrev pub AreNamedApart : List Formal → Type 0
 AreNamedApart called =
     (i j : ℕ) (f g : Formal) → slice_get called i ≡ Some f → slice_get called j ≡ Some g
-    → bytes_eq (folded f.name) g.name ≡ (i == j)
+    → bytes_eq (folded f.name) (folded g.name) ≡ (i == j)
+
+-- a parameter as the rules know it: with its name in upper case
+abbrev pub upper : Formal → Formal
+upper f = record f { name = folded f.name }
 
 -- ---- what is passed
 
 -- a CALL as a listing has it: its actual parameters are made of the ops before it. `callee` is the
--- called block as the listed tree has it, `called` are its parameters by their index
+-- called block as the rules find it, `called` are its parameters in the listing, by their index
 pub record IsListedCall (c : Context) (own called : List Formal) (callee : Callee)
     (ps : List Passing) (s : Statement) : Type 0 where
   pub actuals : s.actuals ≡ actuals_before s.line own called (passing ps)
-  pub order : in_order (block_at c.blocks callee.place) callee.formals ≡ called
+  pub order : in_order (block_at c.blocks callee.place) callee.formals ≡ map upper called
   pub named : AreNamedApart called
   pub passable : AllByRecursion (IsPassable c own called) ps
   pub rising : AreRising 0 ps

@@ -6,7 +6,6 @@ use Rattle.std.specs.Int.{cast_signed, w16, w32}
 use Rattle.std.proofs.lemmas.Bool.{cases_lt}
 use Rattle.std.proofs.lemmas.Bool.Decides.{nat_tests}
 use Rattle.std.proofs.lemmas.Option.{same_Some, slice_get_within}
-use Rattle.std.proofs.lemmas.Slice.Eq.{bytes_eq-Decides}
 use Rattle.plc_base.specs.Folding.{folded}
 use Rattle.plc_base.specs.Kinds.{is_function_block}
 use Rattle.plc_base.specs.Widths.{width_number}
@@ -49,7 +48,7 @@ use Rattle.stl_list.specs.Actuals.{actual, actual_for, actuals_before, is_writte
 use Rattle.stl_list.specs.Constants.{typed_constant}
 use Rattle.stl_list.specs.Operands.{data_block_name, direct_operand, letters_of, own_parameter}
 use Rattle.listing_laws.specs.Chains.{is_listed}
-use Rattle.listing_laws.specs.Passings.{AreActualsRight, AreAllPassed, AreCallsComplete, AreNamedApart, ArePassingsKept, AreRising, BreaksNone, FitsListed, IsListedCall, IsPassable}
+use Rattle.listing_laws.specs.Passings.{AreActualsRight, AreAllPassed, AreCallsComplete, AreNamedApart, ArePassingsKept, AreRising, BreaksNone, FitsListed, IsListedCall, IsPassable, upper}
 
 -- ---- constants
 
@@ -201,13 +200,13 @@ unfolding fits_operand
 literal_fitted c f n section listed =
     both (is_input_section f.section) (fits (typed_constant f.kind n) f.kind) section (literal_kind f.kind n listed)
 
-fitted : (c : Context) (own : List Formal) (f : Formal) (p : Passed) → FitsListed c own f p → fits_operand c f (passed_operand own f p) ≡ true
-fitted c own f (passed.Literal value) h = literal_fitted c f value h.0 h.1
-fitted c own f (passed.Direct a w byte bit) h = direct_fits c f a w byte bit h
+fitted : (c : Context) (own : List Formal) (f : Formal) (p : Passed) → FitsListed c own f p → fits_operand c (upper f) (passed_operand own f p) ≡ true
+fitted c own f (passed.Literal value) h = literal_fitted c (upper f) value h.0 h.1
+fitted c own f (passed.Direct a w byte bit) h = direct_fits c (upper f) a w byte bit h
 fitted c own f (passed.InBlock number a w byte bit) h =
-    subst (λ (g : Area). fits_operand c f (direct_operand (Some number) (is_written f.section) g w byte bit) ≡ true)
-    (sym h.1) (in_block_fits c f number w byte bit h.0 h.3)
-fitted c own f (passed.Parameter index w) h = own_fits c own f h.0 index h.4 h.2 h.3
+    subst (λ (g : Area). fits_operand c (upper f) (direct_operand (Some number) (is_written f.section) g w byte bit) ≡ true)
+    (sym h.1) (in_block_fits c (upper f) number w byte bit h.0 h.3)
+fitted c own f (passed.Parameter index w) h = own_fits c own (upper f) h.0 index h.4 h.2 h.3
 
 -- no DATE_AND_TIME among them
 plain_dated : (c : Context) (k : Simple) (n : ℕ) → sees_date (seen c (operand.Constant (typed_constant k n))) ≡ false
@@ -318,11 +317,16 @@ all_there test (f ∷ fs) h = both (test f) (list_all test fs) (h 0 f refl) (all
 itself : (n : ℕ) → (n == n) ≡ true
 itself n = eq-eqb n n refl
 
-same_bytes : (xs ys : List ℕ) → bytes_eq xs ys ≡ true → xs ≡ ys
-same_bytes xs ys e = (bytes_eq-Decides xs ys).0 e
+-- parameters by their index, with names in upper case
+at_upper : (fs : List Formal) (i : ℕ) (f : Formal) → slice_get fs i ≡ Some f → slice_get (map upper fs) i ≡ Some (upper f)
+at_upper [] i f e = absurd cc
+at_upper (g ∷ fs) zero f e = ap (λ (z : Formal). Some (upper z)) (same_Some g f e)
+at_upper (g ∷ fs) (suc i) f e = at_upper fs i f e
 
-upper : (called : List Formal) → AreNamedApart called → (i : ℕ) (f : Formal) → slice_get called i ≡ Some f → folded f.name ≡ f.name
-upper called named i f e = same_bytes (folded f.name) f.name (named i i f f e e ∙ itself i)
+from_upper : (fs : List Formal) (i : ℕ) (g : Formal) → slice_get (map upper fs) i ≡ Some g → (f : Formal) × (slice_get fs i ≡ Some f) × (upper f ≡ g)
+from_upper [] i g e = absurd cc
+from_upper (f ∷ fs) zero g e = (f, refl, same_Some (upper f) g e)
+from_upper (f ∷ fs) (suc i) g e = from_upper fs i g e
 
 -- ---- the actual parameters of a call
 
@@ -347,16 +351,16 @@ passed_at i ps = find (λ (p : Passing). p.index == i) ps
 
 module _ (c : Context) (own called : List Formal) (line : ℕ) (named : AreNamedApart called) where
   supplied_is : (i : ℕ) (f : Formal) → slice_get called i ≡ Some f → (ps : List Passing) → AllByRecursion (IsPassable c own called) ps
-      → supplied (listed line own called ps) f ≡ option_map (λ (p : Passing). actual line own f p.actual) (passed_at i ps)
+      → supplied (listed line own called ps) (upper f) ≡ option_map (λ (p : Passing). actual line own f p.actual) (passed_at i ps)
   supplied_is i f e [] h = refl
   supplied_is i f e (p ∷ ps) h =
-      ap (λ (xs : List Actual). supplied xs f) (one_more line own called p ps h.0.formal h.0.there)
-      ∙ ap (λ (t : Bool). cond t (Some (actual line own h.0.formal p.actual)) (supplied (listed line own called ps) f)) (named p.index i h.0.formal f h.0.there e)
+      ap (λ (xs : List Actual). supplied xs (upper f)) (one_more line own called p ps h.0.formal h.0.there)
+      ∙ ap (λ (t : Bool). cond t (Some (actual line own h.0.formal p.actual)) (supplied (listed line own called ps) (upper f))) (named p.index i h.0.formal f h.0.there e)
       ∙ by (p.index == i) refl (supplied_is i f e ps h.1)
     where
       by : (t : Bool) → (p.index == i) ≡ t
-          → supplied (listed line own called ps) f ≡ option_map (λ (p : Passing). actual line own f p.actual) (passed_at i ps)
-          → cond t (Some (actual line own h.0.formal p.actual)) (supplied (listed line own called ps) f)
+          → supplied (listed line own called ps) (upper f) ≡ option_map (λ (p : Passing). actual line own f p.actual) (passed_at i ps)
+          → cond t (Some (actual line own h.0.formal p.actual)) (supplied (listed line own called ps) (upper f))
           ≡ option_map (λ (p : Passing). actual line own f p.actual) (cond t (Some p) (passed_at i ps))
       by true is more =
           let same : h.0.formal ≡ f = same_Some h.0.formal f (sym h.0.there ∙ ap (slice_get called) (eqb-true p.index i is) ∙ e) in
@@ -381,7 +385,7 @@ module _ (c : Context) (own called : List Formal) (line : ℕ) (named : AreNamed
       by false is more e = more e
 
   one_passed : (i : ℕ) (f : Formal) → slice_get called i ≡ Some f → (ps : List Passing) → AllByRecursion (IsPassable c own called) ps
-      → passed_actual c i (supplied (listed line own called ps) f) ≡ pick (passed_at i ps)
+      → passed_actual c i (supplied (listed line own called ps) (upper f)) ≡ pick (passed_at i ps)
   one_passed i f e ps h = ap (passed_actual c i) (supplied_is i f e ps h) ∙ by (passed_at i ps) refl
     where
       by : (o : Option Passing) → passed_at i ps ≡ o → passed_actual c i (option_map (λ (p : Passing). actual line own f p.actual) o) ≡ pick o
@@ -397,7 +401,7 @@ module _ (c : Context) (own called : List Formal) (line : ℕ) (named : AreNamed
   picks ps i (f ∷ fs) = pick (passed_at i ps) ++ picks ps (suc i) fs
 
   picked_from : (ps : List Passing) → AllByRecursion (IsPassable c own called) ps → (front : List Formal) (i : ℕ) (fs : List Formal)
-      → called ≡ front ++ fs → length front ≡ i → passings_from c (listed line own called ps) i fs ≡ picks ps i fs
+      → called ≡ front ++ fs → length front ≡ i → passings_from c (listed line own called ps) i (map upper fs) ≡ picks ps i fs
   picked_from ps h front i [] e n = refl
   picked_from ps h front i (f ∷ fs) e n =
       ap₂ (λ (xs ys : List Passing). xs ++ ys)
@@ -459,27 +463,29 @@ module _ (c : Context) (own called : List Formal) (line : ℕ) (named : AreNamed
   few_passed [] h = tt
   few_passed (p ∷ ps) h = ((let one = slice_get_within called p.index h.0.formal h.0.there in omega (arith, one)), few_passed ps h.1)
 
-  all_passed : (ps : List Passing) → AllByRecursion (IsPassable c own called) ps → AreRising 0 ps → passings_from c (listed line own called ps) 0 called ≡ ps
+  all_passed : (ps : List Passing) → AllByRecursion (IsPassable c own called) ps → AreRising 0 ps → passings_from c (listed line own called ps) 0 (map upper called) ≡ ps
   all_passed ps h rising = picked_from ps h [] 0 called refl refl ∙ picked_all 0 called ps rising (few_passed ps h)
 
   -- ---- rules
 
-  each_named : (fs : List Formal) (o : Option Block) → in_order o fs ≡ called → (p : Passing) (f : Formal) → slice_get called p.index ≡ Some f
+  each_named : (fs : List Formal) (o : Option Block) → in_order o fs ≡ map upper called → (p : Passing) (f : Formal) → slice_get called p.index ≡ Some f
       → names_none fs (actual line own f p.actual) ≡ false
   each_named fs o order p f e =
       ap not (sym (any_ordered (λ (g : Formal). bytes_eq (folded f.name) g.name) o fs)
       ∙ ap (list_any (λ (g : Formal). bytes_eq (folded f.name) g.name)) order
-      ∙ any_there (λ (g : Formal). bytes_eq (folded f.name) g.name) called p.index f e (named p.index p.index f f e e ∙ itself p.index))
+      ∙ any_there (λ (g : Formal). bytes_eq (folded f.name) g.name) (map upper called) p.index (upper f) (at_upper called p.index f e) (named p.index p.index f f e e ∙ itself p.index))
 
-  each_fits : (fs : List Formal) (o : Option Block) → in_order o fs ≡ called → (p : Passing) (f : Formal) → slice_get called p.index ≡ Some f
+  each_fits : (fs : List Formal) (o : Option Block) → in_order o fs ≡ map upper called → (p : Passing) (f : Formal) → slice_get called p.index ≡ Some f
       → FitsListed c own f p.actual → misfits c (actual line own f p.actual) (formal_named fs f.name) ≡ false
   each_fits fs o order p f e h = by (formal_named fs f.name) refl
     where
-      is_own : (g : Formal) → (bytes_eq (folded f.name) g.name ≡ true) × Stands fs g → f ≡ g
+      is_own : (g : Formal) → (bytes_eq (folded f.name) g.name ≡ true) × Stands fs g → upper f ≡ g
       is_own g found =
           let there = subst (λ (z : List Formal). Stands z g) order (stands_ordered o fs g found.1) in
-          let at : p.index ≡ there.0 = eqb-true p.index there.0 (sym (named p.index there.0 f g e there.1) ∙ found.0) in
-          same_Some f g (sym e ∙ ap (slice_get called) at ∙ there.1)
+          let raw = from_upper called there.0 g there.1 in
+          let test : bytes_eq (folded f.name) (folded raw.0.name) ≡ true = ap (λ (z : Formal). bytes_eq (folded f.name) z.name) raw.2 ∙ found.0 in
+          let at : p.index ≡ there.0 = eqb-true p.index there.0 (sym (named p.index there.0 f raw.0 e raw.1) ∙ test) in
+          ap upper (same_Some f raw.0 (sym e ∙ ap (slice_get called) at ∙ raw.1)) ∙ raw.2
 
       by : (x : Option Formal) → formal_named fs f.name ≡ x → misfits c (actual line own f p.actual) x ≡ false
       by None is = refl
@@ -509,8 +515,7 @@ module _ (c : Context) (own called : List Formal) (line : ℕ) (named : AreNamed
       → AreNew (suc p.index) (before ++ folded f.name ∷ [])
   new_more p f i before e low new j g le there =
       absent_both (folded g.name) before (folded f.name) (new j g (omega (arith, le, low)) there)
-      (ap (bytes_eq (folded g.name)) (upper called named p.index f e)
-      ∙ named j p.index g f there e ∙ ne_eqb j p.index (λ same. omega (arith, same, le)))
+      (named j p.index g f there e ∙ ne_eqb j p.index (λ same. omega (arith, same, le)))
 
   once_from : (fs : List Formal) (i : ℕ) (before : List (List ℕ)) (ps : List Passing) → AllByRecursion (IsPassable c own called) ps → AreRising i ps
       → AreNew i before → supplied_twice fs before (listed line own called ps) ≡ []
@@ -531,11 +536,11 @@ module _ (c : Context) (own called : List Formal) (line : ℕ) (named : AreNamed
 
   -- each parameter that is passed is supplied
   place_there : (i : ℕ) (f : Formal) → slice_get called i ≡ Some f → (ps : List Passing) → AllByRecursion (IsPassable c own called) ps
-      → list_any (λ (p : Passing). p.index == i) ps ≡ true → is_some (place_of f.name (supplied_names (listed line own called ps))) ≡ true
+      → list_any (λ (p : Passing). p.index == i) ps ≡ true → is_some (place_of (folded f.name) (supplied_names (listed line own called ps))) ≡ true
   place_there i f e [] h passes = absurd cc
   place_there i f e (p ∷ ps) h passes =
-      ap (λ (xs : List Actual). is_some (place_of f.name (supplied_names xs))) (one_more line own called p ps h.0.formal h.0.there)
-      ∙ ap (λ (t : Bool). is_some (if t then Some 0 else option_map (λ k. suc k) (place_of f.name (supplied_names (listed line own called ps))))) test
+      ap (λ (xs : List Actual). is_some (place_of (folded f.name) (supplied_names xs))) (one_more line own called p ps h.0.formal h.0.there)
+      ∙ ap (λ (t : Bool). is_some (if t then Some 0 else option_map (λ k. suc k) (place_of (folded f.name) (supplied_names (listed line own called ps))))) test
       ∙ by (p.index == i) passes (place_there i f e ps h.1)
     where
       turned : (a b : ℕ) → (a == b) ≡ (b == a)
@@ -545,28 +550,29 @@ module _ (c : Context) (own called : List Formal) (line : ℕ) (named : AreNamed
           by true h = sym (eq-eqb b a (sym (eqb-true a b h)))
           by false h = sym (ne_eqb b a (λ same. let yes = eq-eqb a b (sym same) in absurd cc))
 
-      test : bytes_eq f.name (folded h.0.formal.name) ≡ (p.index == i)
-      test =
-          ap₂ bytes_eq (sym (upper called named i f e)) (upper called named p.index h.0.formal h.0.there)
-          ∙ named i p.index f h.0.formal e h.0.there ∙ turned i p.index
+      test : bytes_eq (folded f.name) (folded h.0.formal.name) ≡ (p.index == i)
+      test = named i p.index f h.0.formal e h.0.there ∙ turned i p.index
 
       some_suc : (o : Option ℕ) → is_some o ≡ true → is_some (option_map (λ k. suc k) o) ≡ true
       some_suc None h = absurd cc
       some_suc (Some m) h = refl
 
       by : (t : Bool) → (t || list_any (λ (p : Passing). p.index == i) ps) ≡ true
-          → (list_any (λ (p : Passing). p.index == i) ps ≡ true → is_some (place_of f.name (supplied_names (listed line own called ps))) ≡ true)
-          → is_some (if t then Some 0 else option_map (λ k. suc k) (place_of f.name (supplied_names (listed line own called ps)))) ≡ true
+          → (list_any (λ (p : Passing). p.index == i) ps ≡ true → is_some (place_of (folded f.name) (supplied_names (listed line own called ps))) ≡ true)
+          → is_some (if t then Some 0 else option_map (λ k. suc k) (place_of (folded f.name) (supplied_names (listed line own called ps)))) ≡ true
       by true any more = refl
-      by false any more = some_suc (place_of f.name (supplied_names (listed line own called ps))) (more any)
+      by false any more = some_suc (place_of (folded f.name) (supplied_names (listed line own called ps))) (more any)
 
-  all_supplied : (fs : List Formal) (o : Option Block) → in_order o fs ≡ called → (ps : List Passing) → AllByRecursion (IsPassable c own called) ps
+  all_supplied : (fs : List Formal) (o : Option Block) → in_order o fs ≡ map upper called → (ps : List Passing) → AllByRecursion (IsPassable c own called) ps
       → AreAllPassed called ps → list_all (is_supplied (supplied_names (listed line own called ps))) fs ≡ true
   all_supplied fs o order ps h passes =
       sym (all_ordered (is_supplied (supplied_names (listed line own called ps))) o fs)
       ∙ ap (list_all (is_supplied (supplied_names (listed line own called ps)))) order
-      ∙ all_there (is_supplied (supplied_names (listed line own called ps))) called
-      (λ i f e. place_there i f e ps h (passes i (slice_get_within called i f e)))
+      ∙ all_there (is_supplied (supplied_names (listed line own called ps))) (map upper called)
+      (λ i g e.
+      let raw = from_upper called i g e in
+      ap (is_supplied (supplied_names (listed line own called ps))) (sym raw.2)
+      ∙ place_there i raw.0 raw.1 ps h (passes i (slice_get_within called i raw.0 raw.1)))
 
 -- ---- the laws
 
