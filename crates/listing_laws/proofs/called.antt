@@ -1,5 +1,8 @@
 -- Lemmas on the calls of a listing.
+pub mod Calls
 pub mod Chains
 pub mod HandedOn
+pub mod Names
+pub mod Owned
 pub mod Passed
 pub mod Passings

@@ -1,20 +1,26 @@
 //! Laws of listings: the tree of a program's listing is printable.
 #![tactic(auto)]
 
+mod called_names;
+mod calls;
 mod chains;
 mod handed_on;
 mod labels;
 mod laws;
 mod lines;
 mod names;
+mod owned;
 mod passings;
 mod statements;
 
+pub use called_names::law_of_called_names;
+pub use calls::law_of_listed_calls;
 pub use chains::law_of_listed_chains;
 pub use handed_on::law_of_handed_types;
 pub use labels::law_of_listed_labels;
 pub use laws::law_of_listed_trees;
 pub use lines::law_of_listed_lines;
 pub use names::law_of_listed_names;
+pub use owned::law_of_own_parameters;
 pub use passings::law_of_listed_passings;
 pub use statements::law_of_listed_statements;

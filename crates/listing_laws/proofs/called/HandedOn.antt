@@ -77,7 +77,7 @@ same_blocks a b e =
     (same_kinds a.kind b.kind (and_first (is_same_kind a.kind b.kind) (nat_eq a.number b.number) e))
     (eqb-true a.number b.number (and_second (is_same_kind a.kind b.kind) (nat_eq a.number b.number) e))
 
-called_is : (id : BlockId) → is_callable id.kind ≡ true → called_id (kind_number id.kind) id.number ≡ id
+pub called_is : (id : BlockId) → is_callable id.kind ≡ true → called_id (kind_number id.kind) id.number ≡ id
 called_is id e = by id.kind e
   where
     by : (k : BlockKind) → is_callable k ≡ true → called_id (kind_number k) id.number ≡ record { kind = k; number = id.number }
