@@ -1,5 +1,5 @@
 -- A listed CALL, UC or CC: its operand, its instruction, and the rules of what it calls.
-use Rattle.std.specs.Prelude.{◌≡◌, ℕ, Bool, true, false, List, length, Option, Some, None, slice_get}
+use Rattle.std.specs.Prelude.{◌≡◌, ℕ, true, false, List, length, Option, Some, None, slice_get}
 use Rattle.std.specs.Option.{option_map}
 use Rattle.plc_base.specs.Kinds.{is_callable}
 use Rattle.plc_base.specs.declared.blocks.BlockId.{BlockId}

@@ -1,11 +1,9 @@
 -- Listed calls: operands, instructions, and what they call.
-use Rattle.std.proofs.Common.{◌≡◌, ℕ, zero, suc, Bool, true, false, ◌&&◌, ◌||◌, not, nat_eq, List, [], ◌∷◌, length, Option, Some, None, option_map, slice_get, refl, sym, ap, ap₂, subst, ◌∙◌, arith, if◌then◌else◌, eq-eqb, ne_eqb}
-use Rattle.plc_base.specs.Kinds.{is_callable, is_function_block, kind_number}
+use Rattle.std.proofs.Common.{◌≡◌, ℕ, zero, suc, Bool, true, false, ◌&&◌, ◌||◌, not, List, [], ◌∷◌, length, Option, Some, None, option_map, refl, sym, ap, ap₂, ◌∙◌, arith, if◌then◌else◌, eq-eqb, ne_eqb}
+use Rattle.plc_base.specs.Kinds.{is_function_block}
 use Rattle.plc_base.specs.declared.blocks.BlockId.{BlockId}
 use Rattle.plc_base.specs.declared.blocks.BlockKind.{BlockKind}
-use Rattle.plc_base.specs.declared.blocks.BlockKind.TheVariants as kinds
-use Rattle.flat_code.specs.Instr.{Instr, Passing, Calls}
-use Rattle.flat_code.specs.declared.kinds.JumpOperation.{JumpOperation}
+use Rattle.flat_code.specs.Instr.{Calls}
 use Rattle.flat_code.specs.declared.operations.CallOperation.{CallOperation}
 use Rattle.stl_ast.specs.Statements.{has_actuals}
 use Rattle.stl_ast.specs.declared.mnemonics.Mnemonic.{Mnemonic}
@@ -13,21 +11,18 @@ use Rattle.stl_ast.specs.declared.mnemonics.Mnemonic.TheVariants as code
 use Rattle.stl_ast.specs.declared.names.BlockName.{BlockName}
 use Rattle.stl_ast.specs.declared.names.BlockName.TheVariants as block
 use Rattle.stl_ast.specs.declared.operands.Operand.TheVariants as operand
-use Rattle.stl_ast.specs.declared.statements.Statement.{Statement}
 use Rattle.block_layout.specs.declared.blocks.BlockLayout.{BlockLayout}
 use Rattle.block_layout.specs.declared.blocks.Shape.{Shape}
-use Rattle.stl_types.specs.Calls.{has_formals, has_no_instance, is_bare_call, is_instance, is_no_instance, is_of_block, is_unknown_function}
-use Rattle.stl_types.specs.Context.{Context, whole_data_place}
-use Rattle.stl_types.specs.Parameters.{Callee, callee_of}
+use Rattle.stl_types.specs.Calls.{has_formals, has_no_instance, is_instance, is_no_instance, is_of_block, is_unknown_function}
+use Rattle.stl_types.specs.Context.{whole_data_place}
+use Rattle.stl_types.specs.Parameters.{Callee}
 use Rattle.stl_types.specs.declared.parameters.Formal.{Formal}
-use Rattle.stl_types.specs.declared.views.ResolvedOperand.{ResolvedOperand}
 use Rattle.stl_types.specs.declared.views.ResolvedOperand.TheVariants as view
 use Rattle.stl_codegen.specs.Emitted.{instance_number}
 use Rattle.stl_codegen.specs.Instruction.{instr_by, instruction, passings_to, resolved_instr, view_instr}
 use Rattle.stl_codegen.specs.Operations.{call_of, jump_of}
-use Rattle.stl_list.specs.Joined.{called_id}
 use Rattle.stl_list.specs.Operands.{data_block_name, instance_name, operand_by, plain_operand}
-use Rattle.listing_laws.specs.Calls.{AreCallsKept, AreCallsListed, AreCallsWhole, AreFunctionsKnown, AreInstancesRight, IsInstanceAt, IsNumbered}
+use Rattle.listing_laws.specs.Calls.{AreCallsKept, AreCallsListed, AreCallsWhole, AreFunctionsKnown, AreInstancesRight, IsNumbered}
 use Rattle.listing_laws.proofs.called.HandedOn.{called_is}
 use Rattle.listing_laws.proofs.called.Passings.{passings_kept}
 

@@ -1,5 +1,5 @@
 -- Chains of passings: what is joined by labels, and which labels are marked.
-use Rattle.std.proofs.Common.{◌≡◌, ◌⊎◌, ◌↔◌, inl, inr, ⊎_elim, ℕ, zero, suc, ◌+◌, ◌<◌, ◌≤◌, Bool, true, false, eqb, List, [], ◌∷◌, ◌++◌, length, map, get_or, replicate, Option, Some, None, option_map, slice_get, slice_set, fold, refl, sym, ap, ap₂, subst, ◌∙◌, arith, if◌then◌else◌, eq-eqb, eqb-true}
+use Rattle.std.proofs.Common.{◌≡◌, ◌⊎◌, inl, inr, ⊎_elim, ℕ, zero, suc, ◌+◌, ◌<◌, Bool, true, false, List, [], ◌∷◌, length, map, get_or, replicate, Option, Some, None, option_map, slice_get, slice_set, fold, refl, sym, ap, ap₂, subst, ◌∙◌, arith, if◌then◌else◌, eq-eqb, eqb-true}
 use Rattle.std.specs.Prelude.{◌==◌, unwrap_or}
 use Rattle.std.specs.List.{AllByRecursion, range_with_len}
 use Rattle.std.proofs.lemmas.Option.{same_Some, slice_get-get_or, slice_get_within}
@@ -15,7 +15,7 @@ use Rattle.stl_list.specs.declared.links.Link.{Link}
 use Rattle.stl_list.specs.declared.links.Link.TheVariants.{Joins, Has}
 use Rattle.stl_list.specs.Joined.{chains_of, is_int, is_time, kind_at, kind_by, labels_of, links, mark_at, marked, marks_of, parameter_count, relabelled, relinked, replaced, set_label}
 use Rattle.stl_list.specs.Parameters.{plain_kind}
-use Rattle.listing_laws.specs.Chains.{AreChained, AreKept, AreLabelsJoined, AreMarksHanded, AreTypesKept, HasSeed, HasStep, HasTyped, IsBelow, IsChain, IsHanded, IsKeptBy, IsSeed, IsStep, IsTyped, is_listed}
+use Rattle.listing_laws.specs.Chains.{AreChained, AreLabelsJoined, AreMarksHanded, AreTypesKept, HasSeed, HasStep, HasTyped, IsBelow, IsChain, IsHanded, IsKeptBy, IsSeed, IsStep, is_listed}
 
 -- ---- chains
 

@@ -1,5 +1,5 @@
 -- The links of a program are of parameters of one type, where its calls hand types on.
-use Rattle.std.proofs.Common.{◌≡◌, ◌⊎◌, inl, inr, ℕ, zero, suc, ◌+◌, ◌<◌, Bool, true, false, ◌&&◌, ◌||◌, nat_eq, List, [], ◌∷◌, ◌++◌, length, map, append_assoc, Option, Some, None, option_map, slice_get, refl, sym, ap, ap₂, subst, ◌∙◌, arith, if◌then◌else◌, eqb-true}
+use Rattle.std.proofs.Common.{◌≡◌, ℕ, zero, suc, ◌+◌, ◌<◌, Bool, true, false, ◌||◌, nat_eq, List, [], ◌∷◌, ◌++◌, length, map, append_assoc, Option, Some, None, slice_get, refl, sym, ap, ap₂, subst, ◌∙◌, arith, if◌then◌else◌, eqb-true}
 use Rattle.std.specs.Prelude.{unwrap_or}
 use Rattle.std.specs.List.{AllByRecursion, flat_map, list_any}
 use Rattle.std.proofs.lemmas.List.{length-append}
@@ -11,7 +11,6 @@ use Rattle.plc_base.specs.declared.blocks.BlockId.{BlockId}
 use Rattle.plc_base.specs.declared.blocks.BlockKind.{BlockKind}
 use Rattle.plc_base.specs.declared.blocks.BlockKind.TheVariants as kinds
 use Rattle.flat_code.specs.Instr.{Instr, Passing, Does, Jumps, JumpsByList, Calls, Returns}
-use Rattle.flat_code.specs.Ops.{OpData}
 use Rattle.flat_code.specs.Programs.{CodeBlock}
 use Rattle.flat_code.specs.declared.operands.Operand.{Operand}
 use Rattle.flat_code.specs.declared.operands.Operand.TheVariants as flat
@@ -25,8 +24,8 @@ use Rattle.stl_codegen.specs.Emitted.{opening, passing}
 use Rattle.stl_list.specs.declared.links.Link.{Link}
 use Rattle.stl_list.specs.declared.links.Link.TheVariants.{Joins, Has}
 use Rattle.stl_list.specs.Joined.{block_links, call_links, called_id, first_of, joined_link, joined_links, links, links_from, links_of_runs, parameter_count, passed_own, run_links, system_link, system_links, system_parameters, typed_link}
-use Rattle.stl_list.specs.Runs.{Run, runs}
-use Rattle.listing_laws.specs.Chains.{AreKept, IsBelow, IsKeptBy}
+use Rattle.stl_list.specs.Runs.{Run}
+use Rattle.listing_laws.specs.Chains.{IsBelow, IsKeptBy}
 use Rattle.listing_laws.specs.HandedOn.{AreLinksHandedOn, AreTypesListed, HandOn, HandsOn, IsCallable, IsHandedOn, called_kinds, declared_in, kinds_in}
 use Rattle.listing_laws.specs.Statements.{offset_in, run_of}
 use Rattle.listing_laws.proofs.RunLemmas.{runs_found}

@@ -1,13 +1,11 @@
 -- The types of what a statement of a source passes.
 use Rattle.std.proofs.Common.{◌≡◌, ℕ, suc, Bool, true, false, not, List, [], ◌∷◌, ◌++◌, length, map, append_assoc, find, bytes_eq, Option, Some, None, slice_get, refl, sym, ap, subst, ◌∙◌, cond, eqb-true, if◌then◌else◌}
 use Rattle.std.specs.List.{AllByRecursion}
-use Rattle.std.proofs.lemmas.Bool.{not-false}
 use Rattle.std.proofs.lemmas.Option.{same_Some}
 use Rattle.plc_base.specs.Folding.{folded}
 use Rattle.plc_base.proofs.ListLemmas.{all_append}
 use Rattle.plc_base.proofs.TruthLemmas.{and_first}
 use Rattle.flat_code.specs.Instr.{Passing}
-use Rattle.flat_code.specs.declared.operands.Passed.{Passed}
 use Rattle.flat_code.specs.declared.operands.Passed.TheVariants as passed
 use Rattle.stl_ast.specs.declared.blocks.PartKind.{PartKind}
 use Rattle.stl_ast.specs.declared.literals.Literal.{Literal}
@@ -16,7 +14,6 @@ use Rattle.stl_ast.specs.declared.declarations.Simple.TheVariants as simple
 use Rattle.stl_ast.specs.declared.operands.Operand.{Operand}
 use Rattle.stl_ast.specs.declared.operands.Operand.TheVariants as operand
 use Rattle.stl_ast.specs.declared.statements.Actual.{Actual}
-use Rattle.block_layout.specs.Offsets.{width_of}
 use Rattle.stl_types.specs.Actuals.{fits_operand, fits_seen, fits_view, formal_named, is_same_type, takes_section, type_number}
 use Rattle.stl_types.specs.Calls.{misfits}
 use Rattle.stl_types.specs.Context.{Context}
@@ -27,7 +24,7 @@ use Rattle.stl_types.specs.declared.views.Resolution.TheVariants.{Resolved, Unkn
 use Rattle.stl_types.specs.declared.views.ResolvedOperand.{ResolvedOperand}
 use Rattle.stl_types.specs.declared.views.ResolvedOperand.TheVariants as view
 use Rattle.stl_codegen.specs.Operands.{is_in_named_block}
-use Rattle.stl_codegen.specs.Passed.{passed_actual, passed_place, passed_seen, passed_view, passings_from, supplied, with_index}
+use Rattle.stl_codegen.specs.Passed.{passed_actual, passed_seen, passed_view, passings_from, supplied, with_index}
 use Rattle.listing_laws.specs.HandedOn.{ArePassedOn, IsFoundAmong, IsHandedOn, SeesOwn, ordered}
 
 same_types : (a b : Simple) → is_same_type a b ≡ true → a ≡ b

@@ -1,8 +1,7 @@
 -- Listed calls: what they pass, and the rules of their actual parameters.
-use Rattle.std.proofs.Common.{◌≡◌, ◌⊎◌, inl, inr, ℕ, zero, suc, ◌+◌, ◌%◌, ◌<◌, ◌≤◌, Bool, true, false, cond, not, ◌&&◌, ◌||◌, nat_eq, nat_le, nat_lt, is_some, List, [], ◌∷◌, ◌++◌, length, map, append_assoc, find, bytes_eq, Option, Some, None, option_map, slice_get, refl, sym, ap, ap₂, subst, ◌∙◌, arith, if◌then◌else◌, eq-eqb, eqb-true, ne_eqb, leb-true, lt-ltb, le-ltb, le-leb}
+use Rattle.std.proofs.Common.{◌≡◌, inl, inr, ℕ, zero, suc, ◌+◌, ◌%◌, ◌<◌, ◌≤◌, Bool, true, false, cond, not, ◌&&◌, ◌||◌, nat_eq, nat_le, nat_lt, is_some, List, [], ◌∷◌, ◌++◌, length, map, append_assoc, find, bytes_eq, Option, Some, None, option_map, slice_get, refl, sym, ap, ap₂, subst, ◌∙◌, arith, if◌then◌else◌, eq-eqb, eqb-true, ne_eqb, leb-true, lt-ltb, le-ltb, le-leb}
 use Rattle.std.specs.Prelude.{◌==◌}
 use Rattle.std.specs.List.{AllByRecursion, list_all, list_any}
-use Rattle.std.specs.Int.{cast_signed, w16, w32}
 use Rattle.std.proofs.lemmas.Bool.{cases_lt}
 use Rattle.std.proofs.lemmas.Bool.Decides.{nat_tests}
 use Rattle.std.proofs.lemmas.Option.{same_Some, slice_get_within}
@@ -23,32 +22,28 @@ use Rattle.stl_ast.specs.declared.blocks.PartKind.TheVariants as part
 use Rattle.stl_ast.specs.declared.declarations.Simple.{Simple}
 use Rattle.stl_ast.specs.declared.declarations.Simple.TheVariants as simple
 use Rattle.stl_ast.specs.declared.operands.Letters.TheVariants as letters
-use Rattle.stl_ast.specs.declared.operands.Operand.{Operand}
 use Rattle.stl_ast.specs.declared.operands.Operand.TheVariants as operand
 use Rattle.stl_ast.specs.declared.statements.Actual.{Actual}
-use Rattle.stl_ast.specs.declared.statements.Statement.{Statement}
 use Rattle.stl_symbols.specs.Names.{place_of}
 use Rattle.block_layout.specs.Fits.{bits_of, fits}
 use Rattle.block_layout.specs.Offsets.{width_of}
 use Rattle.stl_types.specs.Actuals.{fits_operand, fits_seen, fits_view, formal_named, is_input_section, is_same_type, is_same_width, takes_section, takes_side, type_number}
-use Rattle.stl_types.specs.Addresses.{address, address_in, area_of, side_of}
-use Rattle.stl_types.specs.Calls.{is_supplied, is_supplied_twice, lacks_actual, misfits, names_none, sees_date, supplied as supplied_names, supplied_twice}
+use Rattle.stl_types.specs.Addresses.{address_in, side_of}
+use Rattle.stl_types.specs.Calls.{is_supplied, is_supplied_twice, misfits, names_none, sees_date, supplied as supplied_names, supplied_twice}
 use Rattle.stl_types.specs.Context.{Context, data_number}
-use Rattle.stl_types.specs.Parameters.{Callee}
 use Rattle.stl_types.specs.Resolution.{seen}
 use Rattle.stl_types.specs.declared.parameters.Formal.{Formal}
-use Rattle.stl_types.specs.declared.views.Resolution.{Resolution}
 use Rattle.stl_types.specs.declared.views.Resolution.TheVariants.{Resolved}
 use Rattle.stl_types.specs.declared.views.ResolvedOperand.TheVariants as view
 use Rattle.stl_types.specs.declared.views.Side.TheVariants as side
 use Rattle.stl_codegen.specs.Emitted.{passing}
-use Rattle.stl_codegen.specs.Instruction.{block_at, in_order, passings_to, return_last}
+use Rattle.stl_codegen.specs.Instruction.{block_at, in_order, return_last}
 use Rattle.stl_codegen.specs.Passed.{passed_actual, passed_seen, passings_from, supplied, with_index}
 use Rattle.stl_list.specs.Actuals.{actual, actual_for, actuals_before, is_written, passed_operand}
 use Rattle.stl_list.specs.Constants.{typed_constant}
 use Rattle.stl_list.specs.Operands.{data_block_name, direct_operand, letters_of, own_parameter}
 use Rattle.listing_laws.specs.Chains.{is_listed}
-use Rattle.listing_laws.specs.Passings.{AreActualsRight, AreAllPassed, AreCallsComplete, AreNamedApart, ArePassingsKept, AreRising, BreaksNone, FitsListed, IsListedCall, IsPassable, upper}
+use Rattle.listing_laws.specs.Passings.{AreActualsRight, AreAllPassed, AreCallsComplete, AreNamedApart, ArePassingsKept, AreRising, FitsListed, IsPassable, upper}
 
 -- ---- constants
 
