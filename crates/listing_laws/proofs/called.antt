@@ -1,6 +1,7 @@
 -- Lemmas on the calls of a listing.
 pub mod Calls
 pub mod Chains
+pub mod Fitting
 pub mod HandedOn
 pub mod Names
 pub mod Owned

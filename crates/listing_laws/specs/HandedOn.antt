@@ -1,5 +1,5 @@
 -- The types of the parameters of a source's blocks are handed on by its calls.
-use Rattle.std.specs.Prelude.{◌≡◌, ◌||◌, ℕ, true, false, find, List, [], ◌∷◌, ◌++◌, length, map, Some, slice_get, unwrap_or, if◌then◌else◌}
+use Rattle.std.specs.Prelude.{◌≡◌, ◌||◌, ℕ, true, false, find, List, [], ◌∷◌, ◌++◌, length, map, Option, Some, slice_get, unwrap_or, if◌then◌else◌}
 use Rattle.std.specs.List.{AllByRecursion, list_any}
 use Rattle.std.specs.Str.{bytes_eq}
 use Rattle.plc_base.specs.Kinds.{is_callable, is_same_block, is_system_function}
@@ -17,13 +17,14 @@ use Rattle.stl_ast.specs.declared.statements.Statement.{Statement}
 use Rattle.stl_types.specs.Actuals.{formal_named}
 use Rattle.stl_types.specs.Calls.{misfits}
 use Rattle.stl_types.specs.Context.{Context}
-use Rattle.stl_types.specs.Parameters.{Callee}
+use Rattle.stl_types.specs.Parameters.{Callee, callee_of}
 use Rattle.stl_types.specs.Resolution.{seen}
+use Rattle.stl_types.specs.Resolved.{resolved}
 use Rattle.stl_types.specs.declared.parameters.Formal.{Formal}
 use Rattle.stl_types.specs.declared.views.Resolution.TheVariants.{Resolved}
 use Rattle.stl_types.specs.declared.views.ResolvedOperand.TheVariants as view
 use Rattle.stl_codegen.specs.Compiled.{StatedBlock, compiled}
-use Rattle.stl_codegen.specs.Instruction.{block_at, in_order, passings_to}
+use Rattle.stl_codegen.specs.Instruction.{block_at, in_order, instruction, passings_to}
 use Rattle.stl_list.specs.Joined.{links, parameter_count, system_parameters}
 use Rattle.listing_laws.specs.Chains.{AreKept, IsBelow, IsKeptBy}
 
@@ -112,3 +113,23 @@ ArePassedOn =
     → AllByRecursion
     (λ (p : Passing). IsHandedOn own (map (λ f. f.kind) (ordered c callee)) p.index p.actual)
     (passings_to c s (Some callee))
+
+-- what a source owes for a statement that calls a block: the block is there, its parameters are found by
+-- their names and have these types, and what is passed for them fits
+abbrev pub OwesCall : (kinds : BlockId → List Simple) → List CodeBlock → Context → Statement → BlockId → Type 0
+OwesCall kinds blocks c s id =
+    IsCallable blocks id
+    × ((callee : Callee) → callee_of c s.operand ≡ Some callee
+    → AllByRecursion (IsFoundAmong callee.formals) (ordered c callee)
+    × AllByRecursion
+    (λ (a : Actual). misfits c a (formal_named callee.formals a.name) ≡ false) s.actuals
+    × (called_kinds kinds id ≡ map (λ f. f.kind) (ordered c callee)))
+
+-- then the instruction of the statement hands types on
+abbrev pub AreStatementsHandedOn : Type 0
+AreStatementsHandedOn =
+    (kinds : BlockId → List Simple) (blocks : List CodeBlock) (c : Context) (own : List Simple)
+    (body : List Statement) (n : ℕ) (s : Statement) → SeesOwn c own
+    → ((id : BlockId) (instance : Option ℕ) → resolved c s ≡ Some (view.Called id instance)
+    → OwesCall kinds blocks c s id)
+    → HandsOn kinds blocks own (instruction c body n s)

@@ -4,6 +4,7 @@
 mod called_names;
 mod calls;
 mod chains;
+mod fitting;
 mod handed_on;
 mod labels;
 mod laws;
@@ -16,6 +17,7 @@ mod statements;
 pub use called_names::law_of_called_names;
 pub use calls::law_of_listed_calls;
 pub use chains::law_of_listed_chains;
+pub use fitting::law_of_fitting_passings;
 pub use handed_on::law_of_handed_types;
 pub use labels::law_of_listed_labels;
 pub use laws::law_of_listed_trees;

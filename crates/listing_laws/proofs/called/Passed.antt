@@ -5,7 +5,13 @@ use Rattle.std.proofs.lemmas.Option.{same_Some}
 use Rattle.plc_base.specs.Folding.{folded}
 use Rattle.plc_base.proofs.ListLemmas.{all_append}
 use Rattle.plc_base.proofs.TruthLemmas.{and_first}
-use Rattle.flat_code.specs.Instr.{Passing}
+use Rattle.plc_base.specs.declared.blocks.BlockId.{BlockId}
+use Rattle.flat_code.specs.Instr.{Passing, Calls}
+use Rattle.flat_code.specs.Programs.{CodeBlock}
+use Rattle.flat_code.specs.declared.kinds.JumpOperation.{JumpOperation}
+use Rattle.flat_code.specs.declared.kinds.JumpOperation.TheVariants as jump
+use Rattle.flat_code.specs.declared.operations.CallOperation.{CallOperation}
+use Rattle.flat_code.specs.declared.operations.EndOperation.{EndOperation}
 use Rattle.flat_code.specs.declared.operands.Passed.TheVariants as passed
 use Rattle.stl_ast.specs.declared.blocks.PartKind.{PartKind}
 use Rattle.stl_ast.specs.declared.literals.Literal.{Literal}
@@ -14,10 +20,15 @@ use Rattle.stl_ast.specs.declared.declarations.Simple.TheVariants as simple
 use Rattle.stl_ast.specs.declared.operands.Operand.{Operand}
 use Rattle.stl_ast.specs.declared.operands.Operand.TheVariants as operand
 use Rattle.stl_ast.specs.declared.statements.Actual.{Actual}
+use Rattle.stl_ast.specs.declared.statements.Statement.{Statement}
 use Rattle.stl_types.specs.Actuals.{fits_operand, fits_seen, fits_view, formal_named, is_same_type, takes_section, type_number}
 use Rattle.stl_types.specs.Calls.{misfits}
 use Rattle.stl_types.specs.Context.{Context}
+use Rattle.stl_types.specs.Parameters.{Callee, callee_of}
 use Rattle.stl_types.specs.Resolution.{seen}
+use Rattle.stl_types.specs.Resolved.{resolved}
+use Rattle.stl_codegen.specs.Instruction.{end_instr, instr_by, instruction, jump_instr, passings_to, resolved_instr, target_of, view_instr}
+use Rattle.stl_codegen.specs.Operations.{call_of, end_of, jump_of}
 use Rattle.stl_types.specs.declared.parameters.Formal.{Formal}
 use Rattle.stl_types.specs.declared.views.Resolution.{Resolution}
 use Rattle.stl_types.specs.declared.views.Resolution.TheVariants.{Resolved, Unknown, Unjudged}
@@ -25,7 +36,7 @@ use Rattle.stl_types.specs.declared.views.ResolvedOperand.{ResolvedOperand}
 use Rattle.stl_types.specs.declared.views.ResolvedOperand.TheVariants as view
 use Rattle.stl_codegen.specs.Operands.{is_in_named_block}
 use Rattle.stl_codegen.specs.Passed.{passed_actual, passed_seen, passed_view, passings_from, supplied, with_index}
-use Rattle.listing_laws.specs.HandedOn.{ArePassedOn, IsFoundAmong, IsHandedOn, SeesOwn, ordered}
+use Rattle.listing_laws.specs.HandedOn.{ArePassedOn, AreStatementsHandedOn, HandsOn, OwesCall, called_kinds, IsFoundAmong, IsHandedOn, SeesOwn, ordered}
 
 same_types : (a b : Simple) → is_same_type a b ≡ true → a ≡ b
 same_types a b e = by a b (eqb-true (type_number a) (type_number b) e)
@@ -136,3 +147,49 @@ module _ (c : Context) (own : List Simple) (own_seen : SeesOwn c own) (all : Lis
 pub passed_on : ArePassedOn
 passed_on c own callee s own_seen found fits =
     handed_from c own own_seen (ordered c callee) callee.formals s.actuals fits [] 0 (ordered c callee) refl refl found
+
+-- ---- statements
+
+module _ (types : BlockId → List Simple) (blocks : List CodeBlock) (c : Context) (own : List Simple) (own_seen : SeesOwn c own) where
+  callee_handed : (s : Statement) (how : CallOperation) (id : BlockId) (instance : Option ℕ) → OwesCall types blocks c s id
+      → (o : Option Callee) → callee_of c s.operand ≡ o → HandsOn types blocks own (Calls how id instance (passings_to c s o))
+  callee_handed s how id instance owes None e = (owes.0, tt)
+  callee_handed s how id instance owes (Some callee) e =
+      let k = owes.1 callee e in
+      (
+        owes.0,
+        subst (λ (ks : List Simple). AllByRecursion (λ (p : Passing). IsHandedOn own ks p.index p.actual) (passings_to c s (Some callee))) (sym k.2)
+            (passed_on c own callee s own_seen k.0 k.1),
+      )
+
+  view_handed_on : (s : Statement) (v : ResolvedOperand) (how : Option CallOperation)
+      → ((id : BlockId) (instance : Option ℕ) → v ≡ view.Called id instance → OwesCall types blocks c s id)
+      → HandsOn types blocks own (view_instr c s v how)
+  view_handed_on s v None owes = ended (end_of s.code)
+    where
+      ended : (e : Option EndOperation) → HandsOn types blocks own (end_instr s v e)
+      ended None = tt
+      ended (Some how) = tt
+  view_handed_on s (view.Called id instance) (Some how) owes = callee_handed s how id instance (owes id instance refl) (callee_of c s.operand) refl
+  view_handed_on s _ (Some how) owes = tt
+
+  jump_handed : (how : JumpOperation) (n target : ℕ) → HandsOn types blocks own (jump_instr how n target)
+  jump_handed jump.Jl n target = tt
+  jump_handed _ n target = tt
+
+  statement_handed : (body : List Statement) (n : ℕ) (s : Statement)
+      → ((id : BlockId) (instance : Option ℕ) → resolved c s ≡ Some (view.Called id instance) → OwesCall types blocks c s id)
+      → HandsOn types blocks own (instruction c body n s)
+  unfolding instruction
+  statement_handed body n s owes = by (jump_of s.code)
+    where
+      at : (o : Option ResolvedOperand) → resolved c s ≡ o → HandsOn types blocks own (resolved_instr c s o)
+      at None e = tt
+      at (Some v) e = view_handed_on s v (call_of s.code) (λ id instance same. owes id instance (e ∙ ap Some same))
+
+      by : (o : Option JumpOperation) → HandsOn types blocks own (instr_by c body n s o)
+      by None = at (resolved c s) refl
+      by (Some how) = jump_handed how n (target_of body s.operand)
+
+pub statements_handed_on : AreStatementsHandedOn
+statements_handed_on types blocks c own body n s own_seen owes = statement_handed types blocks c own own_seen body n s owes
