@@ -7,3 +7,4 @@ pub mod Names
 pub mod Owned
 pub mod Passed
 pub mod Passings
+pub mod Sources

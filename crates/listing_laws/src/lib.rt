@@ -12,6 +12,7 @@ mod lines;
 mod names;
 mod owned;
 mod passings;
+mod source_types;
 mod statements;
 
 pub use called_names::law_of_called_names;
@@ -25,4 +26,5 @@ pub use lines::law_of_listed_lines;
 pub use names::law_of_listed_names;
 pub use owned::law_of_own_parameters;
 pub use passings::law_of_listed_passings;
+pub use source_types::law_of_source_types;
 pub use statements::law_of_listed_statements;
