@@ -1,5 +1,5 @@
 -- What fits a parameter in the code of a program fits the parameter in the listing.
-use Rattle.std.specs.Prelude.{◌≡◌, ℕ, nat_eq, true, false, List, Some}
+use Rattle.std.specs.Prelude.{◌≡◌, nat_eq, true, false, List, Some}
 use Rattle.plc_base.specs.Widths.{width_number}
 use Rattle.flat_code.specs.Blocks.{Around, is_bad_actual, misfits_parameter, own_parameter}
 use Rattle.flat_code.specs.Forms.{actual_fits}

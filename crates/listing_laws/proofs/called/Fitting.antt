@@ -1,5 +1,5 @@
 -- What fits in the code fits in the listing.
-use Rattle.std.proofs.Common.{◌≡◌, ℕ, ◌<◌, Bool, true, false, ◌&&◌, ◌||◌, not, nat_lt, List, Some, refl, sym, ap, subst, ◌∙◌, if◌then◌else◌, eqb-true, ltb-true}
+use Rattle.std.proofs.Common.{◌≡◌, ℕ, Bool, true, false, ◌&&◌, ◌||◌, not, refl, sym, ap, ◌∙◌, if◌then◌else◌, eqb-true, ltb-true}
 use Rattle.std.specs.Prelude.{◌==◌}
 use Rattle.std.proofs.lemmas.Bool.{or_parts}
 use Rattle.plc_base.specs.Widths.{width_number}
@@ -7,19 +7,15 @@ use Rattle.plc_base.specs.declared.places.Area.{Area}
 use Rattle.plc_base.specs.declared.places.Area.TheVariants as area
 use Rattle.plc_base.specs.declared.places.Width.{Width}
 use Rattle.plc_base.specs.declared.places.Width.TheVariants as width
-use Rattle.flat_code.specs.Blocks.{Around, is_bad_actual, is_input, lacks_own, literal_fits, misfits_parameter, own_parameter}
+use Rattle.flat_code.specs.Blocks.{Around, is_bad_actual, is_input, lacks_own, literal_fits, own_parameter}
 use Rattle.flat_code.specs.declared.image_fields.ParameterRecord.{ParameterRecord}
-use Rattle.flat_code.specs.declared.operands.Passed.{Passed}
 use Rattle.flat_code.specs.declared.operands.Passed.TheVariants as passed
-use Rattle.stl_ast.specs.declared.blocks.PartKind.{PartKind}
 use Rattle.stl_ast.specs.declared.blocks.PartKind.TheVariants as part
 use Rattle.block_layout.specs.Offsets.{width_of}
-use Rattle.stl_types.specs.Actuals.{is_input_section, takes_section}
-use Rattle.stl_types.specs.Context.{Context}
+use Rattle.stl_types.specs.Actuals.{is_input_section}
 use Rattle.stl_types.specs.declared.parameters.Formal.{Formal}
 use Rattle.stl_list.specs.Parameters.{section_of}
-use Rattle.listing_laws.specs.Fitting.{AreFittingListed, IsBacked, IsListedAs}
-use Rattle.listing_laws.specs.Passings.{FitsListed}
+use Rattle.listing_laws.specs.Fitting.{AreFittingListed, IsListedAs}
 
 not_not : (t : Bool) → not t ≡ false → t ≡ true
 not_not true e = refl

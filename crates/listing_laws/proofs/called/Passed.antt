@@ -36,7 +36,7 @@ use Rattle.stl_types.specs.declared.views.ResolvedOperand.{ResolvedOperand}
 use Rattle.stl_types.specs.declared.views.ResolvedOperand.TheVariants as view
 use Rattle.stl_codegen.specs.Operands.{is_in_named_block}
 use Rattle.stl_codegen.specs.Passed.{passed_actual, passed_seen, passed_view, passings_from, supplied, with_index}
-use Rattle.listing_laws.specs.HandedOn.{ArePassedOn, AreStatementsHandedOn, HandsOn, OwesCall, called_kinds, IsFoundAmong, IsHandedOn, SeesOwn, ordered}
+use Rattle.listing_laws.specs.HandedOn.{ArePassedOn, AreStatementsHandedOn, HandsOn, OwesCall, IsFoundAmong, IsHandedOn, SeesOwn, ordered}
 
 same_types : (a b : Simple) → is_same_type a b ≡ true → a ≡ b
 same_types a b e = by a b (eqb-true (type_number a) (type_number b) e)

@@ -1,5 +1,5 @@
 -- The calls of a source hand on the types of its parameters.
-use Rattle.std.proofs.Common.{◌≡◌, ℕ, suc, Bool, true, false, List, [], ◌∷◌, ◌++◌, length, map, Option, Some, None, refl, sym, ap, if◌then◌else◌}
+use Rattle.std.proofs.Common.{◌≡◌, ℕ, suc, Bool, true, false, List, [], ◌∷◌, length, map, Option, Some, None, refl, if◌then◌else◌}
 use Rattle.std.specs.List.{AllByRecursion}
 use Rattle.plc_base.proofs.ListLemmas.{all_append}
 use Rattle.plc_base.specs.Kinds.{is_code}
@@ -15,10 +15,10 @@ use Rattle.block_layout.specs.declared.blocks.BlockLayout.{BlockLayout}
 use Rattle.stl_types.specs.Bodies.{first_context}
 use Rattle.stl_types.specs.Context.{Context}
 use Rattle.stl_codegen.specs.Compiled.{Stated, StatedBlock, compiled}
-use Rattle.stl_codegen.specs.Generated.{code_block, code_block_of, code_blocks_of, each_block, params_of, statements_of, stated_from}
+use Rattle.stl_codegen.specs.Generated.{code_block, code_block_of, code_blocks_of, each_block, statements_of, stated_from}
 use Rattle.stl_codegen.specs.Instruction.{instruction}
 use Rattle.stl_codegen.specs.Order.{is_code_before}
-use Rattle.listing_laws.specs.HandedOn.{HandOn, HandsOn, SeesOwn}
+use Rattle.listing_laws.specs.HandedOn.{HandsOn, SeesOwn}
 use Rattle.listing_laws.specs.SourceTypes.{AreSourceTypesKept, AreSourcesHandedOn, OweBodies, OwesBody, OwesSource, OwesStatement}
 use Rattle.listing_laws.proofs.NameLemmas.{either_way}
 use Rattle.listing_laws.proofs.called.HandedOn.{types_listed}
