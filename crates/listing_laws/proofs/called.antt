@@ -3,6 +3,7 @@ pub mod Calls
 pub mod Chains
 pub mod Fitting
 pub mod HandedOn
+pub mod Listed
 pub mod Names
 pub mod Owned
 pub mod Passed
