@@ -9,3 +9,4 @@ pub mod Owned
 pub mod Passed
 pub mod Passings
 pub mod Sources
+pub mod Steps

@@ -15,6 +15,7 @@ mod owned;
 mod passings;
 mod source_types;
 mod statements;
+mod steps;
 
 pub use called_names::law_of_called_names;
 pub use calls::law_of_listed_calls;
@@ -30,3 +31,4 @@ pub use owned::law_of_own_types;
 pub use passings::law_of_listed_passings;
 pub use source_types::law_of_source_types;
 pub use statements::law_of_listed_statements;
+pub use steps::law_of_passing_steps;

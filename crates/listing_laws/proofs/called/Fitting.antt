@@ -63,8 +63,7 @@ in_block_is a number area.L w byte bit e = absurd cc
 
 pub fitting_listed : AreFittingListed
 fitting_listed a c own f r (passed.Literal value) h few right fits backed =
-    let parts = or_parts (not (r.section == 1)) (not (literal_fits r.width value)) fits in
-    (
+    let parts = or_parts (not (r.section == 1)) (not (literal_fits r.width value)) fits in (
       section_is f r h ∙ not_not (r.section == 1) parts.0,
       h.kind,
       ap (λ (n : ℕ). literal_fits n value) (sym h.width) ∙ not_not (literal_fits r.width value) parts.1,
@@ -74,8 +73,7 @@ fitting_listed a c own f r (passed.Direct g w byte bit) h few right fits backed 
 fitting_listed a c own f r (passed.InBlock number g w byte bit) h few right fits backed =
     (width_is f r w h fits, in_block_is a number g w byte bit right, backed.0, backed.1)
 fitting_listed a c own f r (passed.Parameter index w) h few right fits backed =
-    let parts = or_parts (not (r.width == width_number w)) (not (r.section == 1) && is_input (own_parameter a index)) fits in
-    (
+    let parts = or_parts (not (r.width == width_number w)) (not (r.section == 1) && is_input (own_parameter a index)) fits in (
       backed.0,
       width_is backed.0 backed.1 w backed.3 (ap (λ o. lacks_own o w) (sym backed.2) ∙ right),
       backed.4,

@@ -155,8 +155,7 @@ module _ (types : BlockId → List Simple) (blocks : List CodeBlock) (c : Contex
       → (o : Option Callee) → callee_of c s.operand ≡ o → HandsOn types blocks own (Calls how id instance (passings_to c s o))
   callee_handed s how id instance owes None e = (owes.0, tt)
   callee_handed s how id instance owes (Some callee) e =
-      let k = owes.1 callee e in
-      (
+      let k = owes.1 callee e in (
         owes.0,
         subst (λ (ks : List Simple). AllByRecursion (λ (p : Passing). IsHandedOn own ks p.index p.actual) (passings_to c s (Some callee))) (sym k.2)
             (passed_on c own callee s own_seen k.0 k.1),
