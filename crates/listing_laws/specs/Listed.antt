@@ -1,5 +1,5 @@
 -- The parameters of the blocks of a listing, by those of the program.
-use Rattle.std.specs.Prelude.{◌≡◌, ◌+◌, ◌<◌, ℕ, true, List, [], ◌∷◌, length, Some, slice_get, if◌then◌else◌}
+use Rattle.std.specs.Prelude.{◌≡◌, ◌+◌, ◌<◌, ℕ, List, [], ◌∷◌, Some, slice_get, if◌then◌else◌}
 use Rattle.plc_base.specs.Kinds.{is_same_block}
 use Rattle.plc_base.specs.declared.blocks.BlockId.{BlockId}
 use Rattle.flat_code.specs.Programs.{CodeBlock}
@@ -11,7 +11,7 @@ use Rattle.stl_types.specs.declared.parameters.Formal.{Formal}
 use Rattle.stl_list.specs.Joined.{Chains, chains_of, first_of, kind_at, links, parameter_count}
 use Rattle.stl_list.specs.Parameters.{section_of}
 use Rattle.stl_list.specs.Signatures.{formals_of, signatures}
-use Rattle.listing_laws.specs.Chains.{AreKept, HasStep, is_listed}
+use Rattle.listing_laws.specs.Chains.{AreKept, HasStep}
 use Rattle.listing_laws.specs.Fitting.{IsListedAs}
 
 -- the parameters of a block; none where there is no such block

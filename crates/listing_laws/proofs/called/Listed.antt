@@ -1,5 +1,5 @@
 -- Parameters in a listing.
-use Rattle.std.proofs.Common.{◌≡◌, ℕ, zero, suc, ◌+◌, ◌<◌, ◌≤◌, Bool, true, false, List, [], ◌∷◌, length, Some, None, slice_get, refl, sym, ap, subst, ◌∙◌, arith, if◌then◌else◌}
+use Rattle.std.proofs.Common.{◌≡◌, ℕ, zero, suc, ◌+◌, ◌<◌, Bool, true, false, List, [], ◌∷◌, length, Some, slice_get, refl, sym, ap, ◌∙◌, arith, if◌then◌else◌}
 use Rattle.std.proofs.lemmas.Option.{same_Some, slice_get_within}
 use Rattle.plc_base.specs.Kinds.{is_function, is_same_block}
 use Rattle.plc_base.specs.Widths.{width_number}
@@ -11,10 +11,10 @@ use Rattle.flat_code.specs.declared.programs.Param.{Param}
 use Rattle.block_layout.specs.Offsets.{width_of}
 use Rattle.stl_types.specs.declared.parameters.Formal.{Formal}
 use Rattle.stl_list.specs.Joined.{Chains, chains_of, first_of, kind_at, kind_by, mark_at, parameter_count}
-use Rattle.stl_list.specs.Parameters.{plain_kind, section_of}
+use Rattle.stl_list.specs.Parameters.{section_of}
 use Rattle.stl_list.specs.Signatures.{formals_from, formals_of, is_behind, signatures, signatures_from}
 use Rattle.listing_laws.specs.Chains.{is_listed}
-use Rattle.listing_laws.specs.Listed.{AreEndsAlike, AreListedAs, AreParametersListed, IsParameterOf, params_in}
+use Rattle.listing_laws.specs.Listed.{AreEndsAlike, AreListedAs, AreParametersListed, params_in}
 
 -- a parameter among those of a block, whose first has a number
 record IsAt (c : Chains) (first : ℕ) (ps : List Param) (i : ℕ) (f : Formal) : Type 0 where
