@@ -5,6 +5,7 @@ use Rattle.plc_base.specs.Kinds.{is_callable}
 use Rattle.plc_base.specs.declared.blocks.BlockId.{BlockId}
 use Rattle.flat_code.specs.Instr.{Passing, Calls}
 use Rattle.flat_code.specs.declared.operations.CallOperation.{CallOperation}
+use Rattle.stl_ast.specs.declared.mnemonics.Mnemonic.{Mnemonic}
 use Rattle.stl_ast.specs.declared.names.BlockName.{BlockName}
 use Rattle.stl_ast.specs.declared.names.BlockName.TheVariants as block
 use Rattle.stl_ast.specs.declared.operands.Operand.TheVariants as operand
@@ -20,6 +21,11 @@ use Rattle.stl_types.specs.declared.parameters.Formal.{Formal}
 use Rattle.stl_types.specs.declared.views.ResolvedOperand.TheVariants as view
 use Rattle.stl_codegen.specs.Instruction.{instruction}
 use Rattle.stl_codegen.specs.Operations.{call_of}
+use Rattle.stl_codegen.specs.Emitted.{passing}
+use Rattle.stl_list.specs.Actuals.{actuals_before}
+use Rattle.stl_list.specs.Lines.{line_at}
+use Rattle.stl_list.specs.Signatures.{called_formals}
+use Rattle.stl_list.specs.Statements.{Surroundings, statement}
 use Rattle.stl_list.specs.Operands.{data_block_name, operand_of}
 use Rattle.listing_laws.specs.Passings.{IsListedCall}
 use Rattle.listing_laws.specs.Statements.{run_of}
@@ -35,6 +41,15 @@ AreCallsListed =
     (instance : Option ℕ) (ps : List Passing) → is_callable id.kind ≡ true → IsNumbered instance
     → operand_of formals starts (run_of f (Calls how id instance ps))
     ≡ operand.Called (block.Number id) (option_map data_block_name instance)
+
+-- it has the word of the source's statement, and its actual parameters are made of the ops before it
+abbrev pub AreStatementsListed : Type 0
+AreStatementsListed =
+    (sur : Surroundings) (n : ℕ) (f : ℕ → ℕ) (m : Mnemonic) (how : CallOperation) (id : BlockId)
+    (instance : Option ℕ) (ps : List Passing) → is_callable id.kind ≡ true → call_of m ≡ Some how
+    → ((statement sur n (run_of f (Calls how id instance ps))).code ≡ m)
+    × ((statement sur n (run_of f (Calls how id instance ps))).actuals
+    ≡ actuals_before (line_at sur.lines n) sur.formals (called_formals sur.signatures id) (passing ps))
 
 -- where it calls the same block with the same instance, its instruction is the one that it was made of
 abbrev pub AreCallsKept : Type 0

@@ -22,7 +22,12 @@ use Rattle.stl_codegen.specs.Emitted.{instance_number}
 use Rattle.stl_codegen.specs.Instruction.{instr_by, instruction, passings_to, resolved_instr, view_instr}
 use Rattle.stl_codegen.specs.Operations.{call_of, jump_of}
 use Rattle.stl_list.specs.Operands.{data_block_name, instance_name, operand_by, plain_operand}
-use Rattle.listing_laws.specs.Calls.{AreCallsKept, AreCallsListed, AreCallsWhole, AreFunctionsKnown, AreInstancesRight, IsNumbered}
+use Rattle.listing_laws.specs.Calls.{AreCallsKept, AreCallsListed, AreCallsWhole, AreFunctionsKnown, AreInstancesRight, AreStatementsListed, IsNumbered}
+use Rattle.stl_codegen.specs.Emitted.{passing}
+use Rattle.stl_list.specs.Actuals.{actuals_before, actuals_by}
+use Rattle.stl_list.specs.Lines.{line_at}
+use Rattle.stl_list.specs.Signatures.{called_formals}
+use Rattle.listing_laws.proofs.WordLemmas.{call_words_found}
 use Rattle.listing_laws.proofs.called.HandedOn.{called_is}
 use Rattle.listing_laws.proofs.called.Passings.{passings_kept}
 
@@ -37,6 +42,15 @@ pub calls_listed : AreCallsListed
 unfolding operand_by plain_operand
 calls_listed formals starts f how id instance ps callable numbered =
     ap₂ (λ (i : BlockId) (x : Option BlockName). operand.Called (block.Number i) x) (called_is id callable) (instance_is instance numbered)
+
+-- ---- statements
+
+pub statements_listed : AreStatementsListed
+unfolding actuals_by
+statements_listed sur n f m how id instance ps callable call = (
+  call_words_found m how call,
+  ap (λ (i : BlockId). actuals_before (line_at sur.lines n) sur.formals (called_formals sur.signatures i) (passing ps)) (called_is id callable),
+)
 
 -- ---- instructions
 
