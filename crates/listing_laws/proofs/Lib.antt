@@ -15,4 +15,5 @@ mod SymbolFileLemmas
 mod SymbolLineLemmas
 mod SymbolOrderLemmas
 mod WordLemmas
+mod called
 pub mod declared

@@ -1,0 +1,340 @@
+-- What a body sees as its own parameters.
+use Rattle.std.proofs.Common.{◌≡◌, ℕ, zero, suc, ◌+◌, ◌-◌, ◌/◌, Bool, true, false, not, nat_eq, is_some, List, [], ◌∷◌, ◌++◌, length, map, Option, Some, None, slice_get, refl, sym, ap, subst, ◌∙◌, arith, if◌then◌else◌, leb, ne_eqb}
+use Rattle.std.specs.List.{AllByRecursion}
+use Rattle.std.proofs.lemmas.Option.{same_Some}
+use Rattle.plc_base.specs.Folding.{folded}
+use Rattle.plc_base.specs.declared.blocks.BlockId.{BlockId}
+use Rattle.plc_base.specs.declared.places.Area.{Area}
+use Rattle.plc_base.specs.declared.places.Area.TheVariants as area
+use Rattle.plc_base.specs.declared.places.Width.{Width}
+use Rattle.stl_ast.specs.declared.blocks.Block.{Block}
+use Rattle.stl_ast.specs.declared.blocks.PathStep.{PathStep}
+use Rattle.stl_ast.specs.declared.blocks.PathStep.TheVariants as step
+use Rattle.stl_ast.specs.declared.declarations.Bounds.{Bounds}
+use Rattle.stl_ast.specs.declared.declarations.Simple.{Simple}
+use Rattle.stl_ast.specs.declared.names.BlockName.{BlockName}
+use Rattle.stl_ast.specs.declared.operands.Letters.{Letters}
+use Rattle.stl_ast.specs.declared.operands.Operand.{Operand}
+use Rattle.stl_ast.specs.declared.operands.Operand.TheVariants as operand
+use Rattle.stl_ast.specs.declared.operands.PathHead.{PathHead}
+use Rattle.stl_ast.specs.declared.operands.PathHead.TheVariants as head
+use Rattle.stl_symbols.specs.Symbol.{Symbol, symbol_named}
+use Rattle.stl_symbols.specs.declared.targets.Target.{Target}
+use Rattle.stl_symbols.specs.declared.targets.Target.TheVariants as target
+use Rattle.block_layout.specs.Blocks.{named_block}
+use Rattle.block_layout.specs.Members.{component}
+use Rattle.block_layout.specs.Offsets.{place_at, placed, width_of}
+use Rattle.block_layout.specs.Paths.{cells_at, elementary_at, entered, folded_path, found_at, goes_on, in_sections, indexed, indexed_behind, is_beyond, kind_of, named, named_behind, named_in, outermost, plain_kind, step_of, walked, walked_data, walked_local, whole_at, within}
+use Rattle.block_layout.specs.declared.cells.Cell.{Cell}
+use Rattle.block_layout.specs.declared.cells.Element.{Element}
+use Rattle.block_layout.specs.declared.cells.Element.TheVariants as element
+use Rattle.block_layout.specs.declared.members.Member.{Member}
+use Rattle.block_layout.specs.declared.walks.ComponentAt.{ComponentAt}
+use Rattle.block_layout.specs.declared.walks.PathEnd.{PathEnd}
+use Rattle.block_layout.specs.declared.walks.PathEnd.TheVariants as walk
+use Rattle.stl_types.specs.Addresses.{address_in}
+use Rattle.stl_types.specs.Context.{Context, data_number, data_place, in_function}
+use Rattle.stl_types.specs.Parameters.{formal, formal_here, formal_of, formals_of}
+use Rattle.stl_types.specs.Resolution.{called_seen, direct_seen, instance_number, opened_seen, path_seen, seen, symbol_seen, target_view, whole_block}
+use Rattle.stl_types.specs.Variables.{behind_others, composite, data_at, data_path, data_variable, data_walked, date_or_composite, in_area, own_at, own_variable, own_walked, parameter, parameter_at, parameter_index}
+use Rattle.stl_types.specs.declared.parameters.Formal.{Formal}
+use Rattle.stl_types.specs.declared.views.Resolution.{Resolution}
+use Rattle.stl_types.specs.declared.views.Resolution.TheVariants.{Resolved}
+use Rattle.stl_types.specs.declared.views.ResolvedOperand.{ResolvedOperand}
+use Rattle.stl_types.specs.declared.views.ResolvedOperand.TheVariants as view
+use Rattle.stl_codegen.specs.Instruction.{in_order, return_last}
+use Rattle.listing_laws.specs.Owned.{AreOwnSeen, IsParameterCell, own_kinds}
+use Rattle.listing_laws.proofs.NameLemmas.{either_way}
+
+-- ---- the parameter at a place
+
+cell_formal : (cells : List Cell) → AllByRecursion IsParameterCell cells → (k : ℕ) (cell : Cell) → slice_get cells k ≡ Some cell
+    → (f : Formal) × (slice_get (formals_of cells) k ≡ Some f) × (plain_kind cell.of ≡ Some f.kind)
+cell_formal [] h k cell e = absurd cc
+cell_formal (x ∷ cells) h k cell e =
+    subst (λ (fs : List Formal). (f : Formal) × (slice_get (fs ++ formals_of cells) k ≡ Some f) × (plain_kind cell.of ≡ Some f.kind))
+    (sym here) (by k e (λ j e. cell_formal cells h.1 j cell e))
+  where
+    one : Formal
+    one = formal x.name x.section h.0.0
+
+    here : formal_here x ≡ formal x.name x.section h.0.0 ∷ []
+    here =
+        ap (λ (t : Bool). if t then formal_of x x.of else []) h.0.1
+        ∙ ap (formal_of x) h.0.2
+
+    by : (k : ℕ) → slice_get (x ∷ cells) k ≡ Some cell
+        → ((j : ℕ) → slice_get cells j ≡ Some cell → (f : Formal) × (slice_get (formals_of cells) j ≡ Some f) × (plain_kind cell.of ≡ Some f.kind))
+        → (f : Formal) × (slice_get (formal x.name x.section h.0.0 ∷ formals_of cells) k ≡ Some f) × (plain_kind cell.of ≡ Some f.kind)
+    by zero e more = (formal x.name x.section h.0.0, refl, ap (λ (z : Cell). plain_kind z.of) (sym (same_Some x cell e)) ∙ ap plain_kind h.0.2)
+    by (suc j) e more = more j e
+
+formals_long : (cells : List Cell) → AllByRecursion IsParameterCell cells → length (formals_of cells) ≡ length cells
+formals_long [] h = refl
+formals_long (x ∷ cells) h =
+    ap (λ (fs : List Formal). length (fs ++ formals_of cells))
+    (ap (λ (t : Bool). if t then formal_of x x.of else []) h.0.1 ∙ ap (formal_of x) h.0.2)
+    ∙ ap suc (formals_long cells h.1)
+
+got_front : (xs ys : List Formal) (i : ℕ) (x : Formal) → slice_get xs i ≡ Some x → slice_get (xs ++ ys) i ≡ Some x
+got_front [] ys i x e = absurd cc
+got_front (z ∷ xs) ys zero x e = e
+got_front (z ∷ xs) ys (suc i) x e = got_front xs ys i x e
+
+at_seam : (front : List Formal) (x : Formal) → slice_get (front ++ x ∷ []) (length front) ≡ Some x
+at_seam [] x = refl
+at_seam (y ∷ front) x = at_seam front x
+
+in_order_at : (o : Option Block) (fs : List Formal) (count k : ℕ) (f : Formal) → length fs ≡ count → slice_get fs k ≡ Some f
+    → slice_get (in_order o fs) (parameter_index count k o) ≡ Some f
+in_order_at None fs count k f n e = e
+in_order_at (Some b) fs count k f n e = by b.result fs k n e
+  where
+    by : (r : Option Simple) (fs : List Formal) (k : ℕ) → length fs ≡ count → slice_get fs k ≡ Some f
+        → slice_get (return_last r fs) (behind_others count k r) ≡ Some f
+    by None fs k n e = e
+    by (Some r) [] k n e = absurd cc
+    by (Some r) (g ∷ gs) zero n e =
+        let last : count - 1 ≡ length gs = omega (arith, n) in
+        ap (slice_get (gs ++ g ∷ [])) last ∙ at_seam gs g ∙ e
+    by (Some r) (g ∷ gs) (suc k) n e = ap (slice_get (gs ++ g ∷ [])) (less k) ∙ got_front gs (g ∷ []) k f e
+      where
+        less : (k : ℕ) → (if nat_eq (suc k) 0 then count - 1 else suc k - 1) ≡ k
+        less k = ap (λ (t : Bool). if t then count - 1 else suc k - 1) (ne_eqb (suc k) 0 (λ e. absurd (omega (arith, e)))) ∙ omega arith
+
+kind_at : (fs : List Formal) (i : ℕ) (f : Formal) → slice_get fs i ≡ Some f → slice_get (map (λ (f : Formal). f.kind) fs) i ≡ Some f.kind
+kind_at [] i f e = absurd cc
+kind_at (g ∷ fs) zero f e = ap (λ (z : Formal). Some z.kind) (same_Some g f e)
+kind_at (g ∷ fs) (suc i) f e = kind_at fs i f e
+
+module _ (c : Context) (own : in_function c ≡ true → AllByRecursion IsParameterCell (cells_at c.layouts c.block false)) where
+  abbrev IsOwn : ResolvedOperand → Type 0
+  IsOwn (view.Parameter index section kind) = slice_get (own_kinds c) index ≡ Some kind
+  IsOwn _ = Unit {0}
+
+  abbrev SeenOwn : Resolution → Type 0
+  SeenOwn (Resolved v) = IsOwn v
+  SeenOwn _ = Unit {0}
+
+  in_area_own : (kind : Simple) (a : Area) (n bits : ℕ) → SeenOwn (in_area kind (placed a n bits (Some kind)))
+  in_area_own kind a n bits = by (leb (bits / 8) 65535)
+    where
+      by : (b : Bool) → SeenOwn (in_area kind (if b then Some (place_at a n bits, width_of kind) else None))
+      by true = tt
+      by false = tt
+
+  composite_own : (found : Option Cell) → IsOwn (composite found)
+  composite_own None = tt
+  composite_own (Some cell) = of_ cell.of
+    where
+      of_ : (e : Element) → IsOwn (date_or_composite e)
+      of_ element.DateAndTime = tt
+      of_ _ = tt
+
+  -- ---- walks stay in the parameters
+
+  abbrev IsHere : PathEnd → Type 0
+  IsHere (walk.Reaches spot) = (spot.block ≡ c.block) × (spot.temporary ≡ false)
+  IsHere _ = Unit {0}
+
+  outermost_here : (name : List ℕ) → IsHere (outermost c.layouts c.block false 0 name)
+  unfolding outermost
+  outermost_here name = by (component 0 0 0 name (cells_at c.layouts c.block false))
+    where
+      at : (place offset : ℕ) (o : Option Cell) → IsHere (entered c.block false place offset o)
+      at place offset None = tt
+      at place offset (Some cell) = either_way IsHere cell.sound _ walk.Rests (refl, refl) tt
+
+      by : (o : Option Member) → IsHere (found_at (cells_at c.layouts c.block false) c.block false 0 0 o)
+      by None = tt
+      by (Some m) = at _ _ (slice_get (cells_at c.layouts c.block false) (0 + m.place))
+
+  module _ (is : in_function c ≡ true) where
+    cell_at : (spot : ComponentAt) → (spot.block ≡ c.block) × (spot.temporary ≡ false) → (cell : Cell)
+        → slice_get (cells_at c.layouts spot.block spot.temporary) spot.place ≡ Some cell → slice_get (cells_at c.layouts c.block false) spot.place ≡ Some cell
+    cell_at spot h cell e =
+        ap (λ (b : ℕ). slice_get (cells_at c.layouts b false) spot.place) (sym h.0)
+        ∙ ap (λ (t : Bool). slice_get (cells_at c.layouts spot.block t) spot.place) (sym h.1) ∙ e
+
+    plain_at : (spot : ComponentAt) → (spot.block ≡ c.block) × (spot.temporary ≡ false) → (cell : Cell)
+        → slice_get (cells_at c.layouts spot.block spot.temporary) spot.place ≡ Some cell → (kind : Simple) × (cell.of ≡ element.Plain kind)
+    plain_at spot h cell e = all_at (cells_at c.layouts c.block false) (own is) spot.place (cell_at spot h cell e)
+      where
+        all_at : (cells : List Cell) → AllByRecursion IsParameterCell cells → (k : ℕ) → slice_get cells k ≡ Some cell → (kind : Simple) × (cell.of ≡ element.Plain kind)
+        all_at [] h k e = absurd cc
+        all_at (x ∷ cells) h zero e = (h.0.0, ap (λ (z : Cell). z.of) (sym (same_Some x cell e)) ∙ h.0.2)
+        all_at (x ∷ cells) h (suc k) e = all_at cells h.1 k e
+
+    step_here : (spot : ComponentAt) (s : PathStep) → (spot.block ≡ c.block) × (spot.temporary ≡ false) → IsHere (step_of c.layouts spot s)
+    unfolding step_of named indexed
+    step_here spot (step.Named name) h = by (slice_get (cells_at c.layouts spot.block spot.temporary) spot.place) refl
+      where
+        by : (o : Option Cell) → slice_get (cells_at c.layouts spot.block spot.temporary) spot.place ≡ o → IsHere (named_behind c.layouts spot name o)
+        by None e = tt
+        by (Some cell) e =
+            let plain = plain_at spot h cell e in
+            subst (λ (x : Element). IsHere (if nat_eq spot.depth (length cell.bounds) then named_in c.layouts spot name cell x else walk.Unknown)) (sym plain.1)
+            (either_way IsHere (nat_eq spot.depth (length cell.bounds)) walk.Unknown walk.Unknown tt tt)
+    step_here spot (step.Index i) h = by (slice_get (cells_at c.layouts spot.block spot.temporary) spot.place)
+      where
+        at : (cell : Cell) (behind : List Cell) (o : Option Bounds) → IsHere (within spot cell behind i o)
+        at cell behind None = tt
+        at cell behind (Some b) = either_way IsHere (is_beyond b i) _ _ h h
+
+        by : (o : Option Cell) → IsHere (indexed_behind spot (cells_at c.layouts spot.block spot.temporary) i o)
+        by None = tt
+        by (Some cell) = at cell _ (slice_get cell.bounds spot.depth)
+
+    walked_here : (spot : ComponentAt) (steps : List PathStep) → (spot.block ≡ c.block) × (spot.temporary ≡ false) → IsHere (walked c.layouts spot steps)
+    walked_here spot [] h = h
+    walked_here spot (s ∷ ss) h = by (step_of c.layouts spot s) (step_here spot s h) (λ next k. walked_here next ss k)
+      where
+        by : (w : PathEnd) → IsHere w → ((next : ComponentAt) → (next.block ≡ c.block) × (next.temporary ≡ false) → IsHere (walked c.layouts next ss))
+            → IsHere (goes_on w (λ next. walked c.layouts next ss))
+        by (walk.Reaches next) h more = more next h
+        by walk.Unknown h more = tt
+        by walk.Rests h more = tt
+
+    local_here : (name : List ℕ) (steps : List PathStep) → is_some (component 0 0 0 name (cells_at c.layouts c.block false)) ≡ true
+        → IsHere (walked_local c.layouts c.block name steps)
+    unfolding walked_local
+    local_here name steps found =
+        either_way IsHere (is_some (whole_at c.layouts c.block)) (goes_on (in_sections c.layouts c.block name) (λ spot. walked c.layouts spot steps)) walk.Rests
+        (subst (λ (t : Bool). IsHere (goes_on (if t then outermost c.layouts c.block false 0 name else outermost c.layouts c.block true 0 name) (λ spot. walked c.layouts spot steps)))
+        (sym found) (by (outermost c.layouts c.block false 0 name) (outermost_here name))) tt
+      where
+        by : (w : PathEnd) → IsHere w → IsHere (goes_on w (λ spot. walked c.layouts spot steps))
+        by (walk.Reaches spot) h = walked_here spot steps h
+        by walk.Unknown h = tt
+        by walk.Rests h = tt
+
+    parameter_own : (spot : ComponentAt) (kind : Simple) → (spot.block ≡ c.block) × (spot.temporary ≡ false) → elementary_at c.layouts spot ≡ Some kind
+        → SeenOwn (parameter_at c spot kind)
+    parameter_own spot kind h e = by (slice_get (cells_at c.layouts c.block false) spot.place) refl
+      where
+        same : elementary_at c.layouts spot ≡ kind_of spot (slice_get (cells_at c.layouts c.block false) spot.place)
+        same =
+            ap (λ (b : ℕ). kind_of spot (slice_get (cells_at c.layouts b spot.temporary) spot.place)) h.0
+            ∙ ap (λ (t : Bool). kind_of spot (slice_get (cells_at c.layouts c.block t) spot.place)) h.1
+
+        of_cell : (cell : Cell) → kind_of spot (Some cell) ≡ Some kind → plain_kind cell.of ≡ Some kind
+        of_cell cell e = one (nat_eq spot.depth (length cell.bounds)) e
+          where
+            one : (t : Bool) → (if t then plain_kind cell.of else None) ≡ Some kind → plain_kind cell.of ≡ Some kind
+            one true e = e
+            one false e = absurd cc
+
+        by : (o : Option Cell) → slice_get (cells_at c.layouts c.block false) spot.place ≡ o
+            → SeenOwn (parameter (parameter_index (length (cells_at c.layouts c.block false)) spot.place (slice_get c.blocks c.block)) kind o)
+        by None there = tt
+        by (Some cell) there =
+            let f = cell_formal (cells_at c.layouts c.block false) (own is) spot.place cell there in
+            let is_kind : f.0.kind ≡ kind = same_Some f.0.kind kind (sym f.2 ∙ of_cell cell (sym (ap (kind_of spot) there) ∙ sym same ∙ e)) in
+            kind_at (in_order (slice_get c.blocks c.block) (formals_of (cells_at c.layouts c.block false)))
+            (parameter_index (length (cells_at c.layouts c.block false)) spot.place (slice_get c.blocks c.block)) f.0
+            (in_order_at (slice_get c.blocks c.block) (formals_of (cells_at c.layouts c.block false)) (length (cells_at c.layouts c.block false)) spot.place f.0
+            (formals_long (cells_at c.layouts c.block false) (own is)) f.1)
+            ∙ ap Some is_kind
+
+    function_own : (w : PathEnd) → IsHere w → SeenOwn (own_walked c false w)
+    function_own walk.Unknown h = tt
+    function_own walk.Rests h = tt
+    function_own (walk.Reaches spot) h = by (elementary_at c.layouts spot) refl
+      where
+        by : (o : Option Simple) → elementary_at c.layouts spot ≡ o → SeenOwn (own_at c false spot o)
+        by None e = composite_own (slice_get (cells_at c.layouts spot.block spot.temporary) spot.place)
+        by (Some kind) e =
+            either_way SeenOwn (in_function c) (parameter_at c spot kind) (in_area kind (placed area.Di 0 spot.offset (Some kind)))
+            (parameter_own spot kind h e) (in_area_own kind area.Di 0 spot.offset)
+
+  -- ---- what is seen
+
+  elsewhere_own : (w : PathEnd) → SeenOwn (own_walked c true w)
+  elsewhere_own walk.Unknown = tt
+  elsewhere_own walk.Rests = tt
+  elsewhere_own (walk.Reaches spot) = by (elementary_at c.layouts spot)
+    where
+      by : (o : Option Simple) → SeenOwn (own_at c true spot o)
+      by None = composite_own (slice_get (cells_at c.layouts spot.block spot.temporary) spot.place)
+      by (Some kind) = in_area_own kind area.L 0 spot.offset
+
+  instance_own : in_function c ≡ false → (w : PathEnd) → SeenOwn (own_walked c false w)
+  instance_own other walk.Unknown = tt
+  instance_own other walk.Rests = tt
+  instance_own other (walk.Reaches spot) = by (elementary_at c.layouts spot)
+    where
+      by : (o : Option Simple) → SeenOwn (own_at c false spot o)
+      by None = composite_own (slice_get (cells_at c.layouts spot.block spot.temporary) spot.place)
+      by (Some kind) =
+          subst (λ (t : Bool). SeenOwn (if t then parameter_at c spot kind else in_area kind (placed area.Di 0 spot.offset (Some kind)))) (sym other)
+          (in_area_own kind area.Di 0 spot.offset)
+
+  variable_own : (name : List ℕ) (steps : List PathStep) → SeenOwn (own_variable c name steps)
+  variable_own name steps = by (is_some (component 0 0 0 name (cells_at c.layouts c.block false))) refl (in_function c) refl
+    where
+      by : (t : Bool) → is_some (component 0 0 0 name (cells_at c.layouts c.block false)) ≡ t → (function : Bool) → in_function c ≡ function
+          → SeenOwn (own_walked c (not t) (walked_local c.layouts c.block name steps))
+      by false found function is = elsewhere_own (walked_local c.layouts c.block name steps)
+      by true found true is = function_own is (walked_local c.layouts c.block name steps) (local_here is name steps found)
+      by true found false is = instance_own is (walked_local c.layouts c.block name steps)
+
+  data_walk_own : (n : ℕ) (w : PathEnd) → SeenOwn (data_walked c n w)
+  data_walk_own n walk.Unknown = tt
+  data_walk_own n walk.Rests = tt
+  data_walk_own n (walk.Reaches spot) = at (elementary_at c.layouts spot)
+    where
+      at : (kind : Option Simple) → SeenOwn (data_at c n spot kind)
+      at None = composite_own (slice_get (cells_at c.layouts spot.block spot.temporary) spot.place)
+      at (Some kind) = in_area_own kind area.Db n spot.offset
+
+  data_own : (name : BlockName) (steps : List PathStep) → SeenOwn (data_variable c name steps)
+  data_own name steps = by (data_number c name) (data_place c name)
+    where
+      by : (n place : Option ℕ) → SeenOwn (data_path c steps n place)
+      by None place = tt
+      by (Some n) None = tt
+      by (Some n) (Some block) = data_walk_own n (walked_data c.layouts block steps)
+
+  target_own : (t : Target) → IsOwn (target_view t)
+  target_own (target.Variable place w) = tt
+  target_own (target.Timer n) = tt
+  target_own (target.Counter n) = tt
+  target_own (target.Block id) = tt
+
+  path_own : (p : PathHead) (steps : List PathStep) → SeenOwn (path_seen c p steps)
+  path_own (head.Local name) steps = variable_own (folded name) (folded_path steps)
+  path_own (head.InBlock name) steps = data_own name (folded_path steps)
+  path_own (head.Symbol name) steps = by (symbol_named name c.symbols)
+    where
+      by : (found : Option Symbol) → SeenOwn (symbol_seen found)
+      by None = tt
+      by (Some s) = target_own s.target
+
+  direct_own : (name : Option BlockName) (a : Letters) (w : Width) (byte bit : ℕ) → SeenOwn (direct_seen c name a w byte bit)
+  direct_own None a w byte bit = tt
+  direct_own (Some name) a w byte bit = by (data_number c name)
+    where
+      by : (n : Option ℕ) → SeenOwn (address_in n a w byte bit)
+      by None = tt
+      by (Some n) = tt
+
+  opened_own : (di : Bool) (n : Option ℕ) → SeenOwn (opened_seen di n)
+  opened_own di None = tt
+  opened_own di (Some n) = tt
+
+  called_own : (id : Option BlockId) (name : Option BlockName) (instance : Option ℕ) → SeenOwn (called_seen id name instance)
+  called_own None name instance = tt
+  called_own (Some id) None instance = tt
+  called_own (Some id) (Some name) None = tt
+  called_own (Some id) (Some name) (Some n) = tt
+
+  operand_own : (o : Operand) → SeenOwn (seen c o)
+  unfolding seen
+  operand_own (operand.Direct name a w byte bit) = direct_own name a w byte bit
+  operand_own (operand.Named path steps) = path_own path steps
+  operand_own (operand.OpenBlock di name) = opened_own di (data_number c name)
+  operand_own (operand.Called name instance) = called_own (whole_block c (named_block c.symbols name)) instance (instance_number c instance)
+  operand_own _ = tt
+
+pub own_seen : AreOwnSeen
+own_seen c own o index section kind e = subst (SeenOwn c own) e (operand_own c own o)

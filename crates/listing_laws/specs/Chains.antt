@@ -1,0 +1,116 @@
+-- The types of the parameters in a listing: those that a chain of passings joins have one.
+use Rattle.std.specs.Prelude.{◌≡◌, ◌⊎◌, ◌↔◌, ◌<◌, ℕ, Bool, true, false, List, [], ◌∷◌, slice_get}
+use Rattle.std.specs.List.{AllByRecursion}
+use Rattle.plc_base.specs.declared.places.Width.{Width}
+use Rattle.flat_code.specs.Programs.{CodeBlock}
+use Rattle.stl_ast.specs.declared.declarations.Simple.{Simple}
+use Rattle.stl_ast.specs.declared.declarations.Simple.TheVariants as simple
+use Rattle.block_layout.specs.Offsets.{width_of}
+use Rattle.stl_list.specs.declared.links.Link.{Link}
+use Rattle.stl_list.specs.declared.links.Link.TheVariants.{Joins, Has}
+use Rattle.stl_list.specs.Joined.{chains_of, is_int, is_time, kind_at, labels_of, links, mark_at, marks_of, parameter_count}
+
+-- ---- chains
+
+-- a link is a passing of one of two parameters for the other
+abbrev pub IsStep : Link → (m n : ℕ) → Type 0
+IsStep (Joins own other) m n = ((own ≡ m) × (other ≡ n)) ⊎ ((own ≡ n) × (other ≡ m))
+IsStep (Has own kind) m n = ⊥
+
+-- one of these links is
+abbrev pub HasStep : List Link → (m n : ℕ) → Type 0
+HasStep [] m n = ⊥
+HasStep (l ∷ ls) m n = IsStep l m n ⊎ HasStep ls m n
+
+-- a chain of passings leads from a parameter, over the others of a list, to one
+abbrev pub IsChain : List Link → (m : ℕ) → (over : List ℕ) → (n : ℕ) → Type 0
+IsChain ls m [] n = m ≡ n
+IsChain ls m (k ∷ over) n = HasStep ls m k × IsChain ls k over n
+
+-- there is a chain from a parameter to another
+abbrev pub AreChained : List Link → (m n : ℕ) → Type 0
+AreChained ls m n = (over : List ℕ) × IsChain ls m over n
+
+-- a link says that a parameter has a type that is meant
+abbrev pub IsSeed : (Simple → Bool) → Link → (n : ℕ) → Type 0
+IsSeed is_meant (Has own kind) n = (own ≡ n) × (is_meant kind ≡ true)
+IsSeed is_meant (Joins own other) n = ⊥
+
+-- one of these links does
+abbrev pub HasSeed : (Simple → Bool) → List Link → (n : ℕ) → Type 0
+HasSeed is_meant [] n = ⊥
+HasSeed is_meant (l ∷ ls) n = IsSeed is_meant l n ⊎ HasSeed is_meant ls n
+
+-- a chain joins a parameter to one of a type that is meant
+abbrev pub IsHanded : (Simple → Bool) → List Link → (n : ℕ) → Type 0
+IsHanded is_meant ls n = (own : ℕ) × HasSeed is_meant ls own × AreChained ls own n
+
+-- a link is of parameters below a number
+abbrev pub IsBelow : (count : ℕ) → Link → Type 0
+IsBelow count (Joins own other) = (own < count) × (other < count)
+IsBelow count (Has own kind) = own < count
+
+-- ---- labels
+
+-- parameters have the same label exactly where a chain joins them
+abbrev pub AreLabelsJoined : Type 0
+AreLabelsJoined =
+    (count : ℕ) (ls : List Link) → AllByRecursion (IsBelow count) ls
+    → (m n : ℕ) → m < count → n < count
+    → (slice_get (labels_of count ls) m ≡ slice_get (labels_of count ls) n) ↔ AreChained ls m n
+
+-- and their label is marked exactly where a chain joins them to a type that is meant
+abbrev pub AreMarksHanded : Type 0
+AreMarksHanded =
+    (is_meant : Simple → Bool) (count : ℕ) (ls : List Link) → AllByRecursion (IsBelow count) ls
+    → (n : ℕ) → n < count
+    → (mark_at (marks_of is_meant (labels_of count ls) ls) (slice_get (labels_of count ls) n) ≡ true)
+    ↔ IsHanded is_meant ls n
+
+-- ---- types
+
+-- the types of parameters are handed on by a link
+abbrev pub IsKeptBy : (declared : ℕ → Simple) → Link → Type 0
+IsKeptBy declared (Joins own other) = declared own ≡ declared other
+IsKeptBy declared (Has own kind) = declared own ≡ kind
+
+-- a link says that a parameter has this type
+abbrev pub IsTyped : Link → (n : ℕ) → Simple → Type 0
+IsTyped (Has own kind) n type = (own ≡ n) × (kind ≡ type)
+IsTyped (Joins own other) n type = ⊥
+
+-- one of these links does
+abbrev pub HasTyped : List Link → (n : ℕ) → Simple → Type 0
+HasTyped [] n type = ⊥
+HasTyped (l ∷ ls) n type = IsTyped l n type ⊎ HasTyped ls n type
+
+-- a type that a listing gives to a parameter
+abbrev pub is_listed : Simple → Bool
+is_listed simple.Char = false
+is_listed simple.S5time = false
+is_listed simple.Dint = false
+is_listed _ = true
+
+-- what a listing says of the types of parameters, beside what a source declared
+pub record AreKept (blocks : List CodeBlock) (declared : ℕ → Simple) : Type 0 where
+  -- what is INT in the listing was INT, and so with TIME
+  pub ints : (n : ℕ) → n < parameter_count blocks → (w : Width)
+      → is_int (kind_at (chains_of blocks) n w) ≡ true → declared n ≡ simple.Int
+  pub times : (n : ℕ) → n < parameter_count blocks → (w : Width)
+      → is_time (kind_at (chains_of blocks) n w) ≡ true → declared n ≡ simple.Time
+  -- widths stay
+  pub widths : (n : ℕ) → n < parameter_count blocks
+      → width_of (kind_at (chains_of blocks) n (width_of (declared n))) ≡ width_of (declared n)
+  -- both ends of a passing have one type
+  pub ends : (m n : ℕ) → HasStep (links blocks) m n → (w : Width)
+      → kind_at (chains_of blocks) m w ≡ kind_at (chains_of blocks) n w
+  -- what is passed to a system function has the type that it asks for
+  pub seeds : (n : ℕ) (type : Simple) → HasTyped (links blocks) n type → is_listed type ≡ true
+      → kind_at (chains_of blocks) n (width_of type) ≡ type
+
+-- where the types that were declared are handed on by all passings
+abbrev pub AreTypesKept : Type 0
+AreTypesKept =
+    (blocks : List CodeBlock) (declared : ℕ → Simple)
+    → AllByRecursion (IsBelow (parameter_count blocks)) (links blocks)
+    → AllByRecursion (IsKeptBy declared) (links blocks) → AreKept blocks declared

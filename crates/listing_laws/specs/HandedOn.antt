@@ -1,0 +1,135 @@
+-- The types of the parameters of a source's blocks are handed on by its calls.
+use Rattle.std.specs.Prelude.{◌≡◌, ◌||◌, ℕ, true, false, find, List, [], ◌∷◌, ◌++◌, length, map, Option, Some, slice_get, unwrap_or, if◌then◌else◌}
+use Rattle.std.specs.List.{AllByRecursion, list_any}
+use Rattle.std.specs.Str.{bytes_eq}
+use Rattle.plc_base.specs.Kinds.{is_callable, is_same_block, is_system_function}
+use Rattle.plc_base.specs.declared.blocks.BlockId.{BlockId}
+use Rattle.flat_code.specs.Instr.{Instr, Passing, Calls}
+use Rattle.flat_code.specs.Programs.{CodeBlock}
+use Rattle.flat_code.specs.declared.operands.Passed.{Passed}
+use Rattle.flat_code.specs.declared.operands.Passed.TheVariants as passed
+use Rattle.stl_ast.specs.declared.blocks.PartKind.{PartKind}
+use Rattle.stl_ast.specs.declared.declarations.Simple.{Simple}
+use Rattle.stl_ast.specs.declared.declarations.Simple.TheVariants as simple
+use Rattle.stl_ast.specs.declared.operands.Operand.{Operand}
+use Rattle.stl_ast.specs.declared.statements.Actual.{Actual}
+use Rattle.stl_ast.specs.declared.statements.Statement.{Statement}
+use Rattle.stl_types.specs.Actuals.{formal_named}
+use Rattle.stl_types.specs.Calls.{misfits}
+use Rattle.stl_types.specs.Context.{Context}
+use Rattle.stl_types.specs.Parameters.{Callee, callee_of}
+use Rattle.stl_types.specs.Resolution.{seen}
+use Rattle.stl_types.specs.Resolved.{resolved}
+use Rattle.stl_types.specs.declared.parameters.Formal.{Formal}
+use Rattle.stl_types.specs.declared.views.Resolution.TheVariants.{Resolved}
+use Rattle.stl_types.specs.declared.views.ResolvedOperand.TheVariants as view
+use Rattle.stl_codegen.specs.Compiled.{StatedBlock, compiled}
+use Rattle.stl_codegen.specs.Instruction.{block_at, in_order, instruction, passings_to}
+use Rattle.stl_list.specs.Joined.{links, parameter_count, system_parameters}
+use Rattle.listing_laws.specs.Chains.{AreKept, IsBelow, IsKeptBy}
+
+-- ---- types
+
+-- the types of the parameters of blocks, one block behind the other
+abbrev pub kinds_in : (kinds : BlockId → List Simple) → List CodeBlock → List Simple
+kinds_in kinds [] = []
+kinds_in kinds (b ∷ bs) = kinds b.id ++ kinds_in kinds bs
+
+-- the type of the parameter of a number
+abbrev pub declared_in : (kinds : BlockId → List Simple) → List CodeBlock → ℕ → Simple
+declared_in kinds blocks n = unwrap_or (slice_get (kinds_in kinds blocks) n) simple.Bool
+
+-- the types of the parameters of a block that is called
+abbrev pub called_kinds : (kinds : BlockId → List Simple) → BlockId → List Simple
+called_kinds kinds id =
+    if is_system_function id.kind then map (λ f. f.kind) (system_parameters id.number) else kinds id
+
+-- a parameter is passed for one of the same type; what else is passed hands on no type
+abbrev pub IsHandedOn : (own called : List Simple) → (index : ℕ) → Passed → Type 0
+IsHandedOn own called index (passed.Parameter number width) =
+    (kind : Simple) × (slice_get own number ≡ Some kind) × (slice_get called index ≡ Some kind)
+IsHandedOn own called index _ = Unit {0}
+
+-- a block that is called is one of these, or a system function
+abbrev pub IsCallable : List CodeBlock → BlockId → Type 0
+IsCallable blocks id =
+    (is_callable id.kind ≡ true)
+    × ((is_system_function id.kind || list_any (λ (b : CodeBlock). is_same_block b.id id) blocks) ≡ true)
+
+-- an instruction hands on the types of the parameters of its block
+abbrev pub HandsOn : (kinds : BlockId → List Simple) → List CodeBlock → (own : List Simple) → Instr → Type 0
+HandsOn kinds blocks own (Calls how id instance ps) =
+    IsCallable blocks id
+    × AllByRecursion (λ p. IsHandedOn own (called_kinds kinds id) p.index p.actual) ps
+HandsOn kinds blocks own _ = Unit {0}
+
+-- blocks with these types, all of whose instructions hand them on
+pub record HandOn (kinds : BlockId → List Simple) (blocks : List StatedBlock) : Type 0 where
+  pub lengths : AllByRecursion (λ (b : StatedBlock). length (kinds b.id) ≡ length b.params) blocks
+  pub calls : AllByRecursion
+      (λ (b : StatedBlock). AllByRecursion (λ s. HandsOn kinds (map compiled blocks) (kinds b.id) s.instr) b.statements)
+      blocks
+
+-- ---- links
+
+-- then each link is of parameters that are there, and of one type
+abbrev pub AreLinksHandedOn : Type 0
+AreLinksHandedOn =
+    (kinds : BlockId → List Simple) (blocks : List StatedBlock) → HandOn kinds blocks
+    → AllByRecursion (IsBelow (parameter_count (map compiled blocks))) (links (map compiled blocks))
+    × AllByRecursion (IsKeptBy (declared_in kinds (map compiled blocks))) (links (map compiled blocks))
+
+-- so a listing says of their types what the source said
+abbrev pub AreTypesListed : Type 0
+AreTypesListed =
+    (kinds : BlockId → List Simple) (blocks : List StatedBlock) → HandOn kinds blocks
+    → AreKept (map compiled blocks) (declared_in kinds (map compiled blocks))
+
+-- ---- calls of a source
+
+-- what is seen as a parameter of the block itself has the type of that parameter
+abbrev pub SeesOwn : Context → (own : List Simple) → Type 0
+SeesOwn c own =
+    (o : Operand) (index : ℕ) (section : PartKind) (kind : Simple)
+    → seen c o ≡ Resolved (view.Parameter index section kind) → slice_get own index ≡ Some kind
+
+-- a parameter is found by its name
+abbrev pub IsFoundAmong : List Formal → Formal → Type 0
+IsFoundAmong formals f =
+    (name : List ℕ) → bytes_eq name f.name ≡ true
+    → find (λ (g : Formal). bytes_eq name g.name) formals ≡ Some f
+
+-- the parameters of a called block by their index
+abbrev pub ordered : Context → Callee → List Formal
+ordered c callee = in_order (block_at c.blocks callee.place) callee.formals
+
+-- where each actual parameter fits, by rule 37, a statement hands on the types of what it passes
+abbrev pub ArePassedOn : Type 0
+ArePassedOn =
+    (c : Context) (own : List Simple) (callee : Callee) (s : Statement) → SeesOwn c own
+    → AllByRecursion (IsFoundAmong callee.formals) (ordered c callee)
+    → AllByRecursion
+    (λ (a : Actual). misfits c a (formal_named callee.formals a.name) ≡ false) s.actuals
+    → AllByRecursion
+    (λ (p : Passing). IsHandedOn own (map (λ f. f.kind) (ordered c callee)) p.index p.actual)
+    (passings_to c s (Some callee))
+
+-- what a source owes for a statement that calls a block: the block is there, its parameters are found by
+-- their names and have these types, and what is passed for them fits
+abbrev pub OwesCall : (kinds : BlockId → List Simple) → List CodeBlock → Context → Statement → BlockId → Type 0
+OwesCall kinds blocks c s id =
+    IsCallable blocks id
+    × ((callee : Callee) → callee_of c s.operand ≡ Some callee
+    → AllByRecursion (IsFoundAmong callee.formals) (ordered c callee)
+    × AllByRecursion
+    (λ (a : Actual). misfits c a (formal_named callee.formals a.name) ≡ false) s.actuals
+    × (called_kinds kinds id ≡ map (λ f. f.kind) (ordered c callee)))
+
+-- then the instruction of the statement hands types on
+abbrev pub AreStatementsHandedOn : Type 0
+AreStatementsHandedOn =
+    (kinds : BlockId → List Simple) (blocks : List CodeBlock) (c : Context) (own : List Simple)
+    (body : List Statement) (n : ℕ) (s : Statement) → SeesOwn c own
+    → ((id : BlockId) (instance : Option ℕ) → resolved c s ≡ Some (view.Called id instance)
+    → OwesCall kinds blocks c s id)
+    → HandsOn kinds blocks own (instruction c body n s)

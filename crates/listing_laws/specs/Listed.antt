@@ -1,0 +1,55 @@
+-- The parameters of the blocks of a listing, by those of the program.
+use Rattle.std.specs.Prelude.{◌≡◌, ◌+◌, ◌<◌, ℕ, List, [], ◌∷◌, Some, slice_get, if◌then◌else◌}
+use Rattle.plc_base.specs.Kinds.{is_same_block}
+use Rattle.plc_base.specs.declared.blocks.BlockId.{BlockId}
+use Rattle.flat_code.specs.Programs.{CodeBlock}
+use Rattle.flat_code.specs.Image.{record_of_param}
+use Rattle.flat_code.specs.declared.programs.Param.{Param}
+use Rattle.stl_ast.specs.declared.declarations.Simple.{Simple}
+use Rattle.block_layout.specs.Offsets.{width_of}
+use Rattle.stl_types.specs.declared.parameters.Formal.{Formal}
+use Rattle.stl_list.specs.Joined.{Chains, chains_of, first_of, kind_at, links, parameter_count}
+use Rattle.stl_list.specs.Parameters.{section_of}
+use Rattle.stl_list.specs.Signatures.{formals_of, signatures}
+use Rattle.listing_laws.specs.Chains.{AreKept, HasStep}
+use Rattle.listing_laws.specs.Fitting.{IsListedAs}
+
+-- the parameters of a block; none where there is no such block
+abbrev pub params_in : List CodeBlock → BlockId → List Param
+params_in [] id = []
+params_in (b ∷ bs) id = if is_same_block b.id id then b.params else params_in bs id
+
+-- a parameter of a block as a listing has it: the one of its index, of the type that chains give to it
+pub record IsParameterOf (c : Chains) (blocks : List CodeBlock) (id : BlockId) (index : ℕ) (f : Formal) : Type 0 where
+  pub param : Param
+  pub there : slice_get (params_in blocks id) index ≡ Some param
+  pub section : f.section ≡ section_of param.section
+  pub kind : f.kind ≡ kind_at c (first_of blocks id + index) param.width
+  pub few : first_of blocks id + index < parameter_count blocks
+
+-- each parameter in a listing is one
+abbrev pub AreParametersListed : Type 0
+AreParametersListed =
+    (c : Chains) (blocks : List CodeBlock) (id : BlockId) (index : ℕ) (f : Formal)
+    → slice_get (formals_of (signatures c blocks) id) index ≡ Some f
+    → IsParameterOf c blocks id index f
+
+-- it is the parameter that the code has, where the source declared one of its width
+abbrev pub AreListedAs : Type 0
+AreListedAs =
+    (blocks : List CodeBlock) (declared : ℕ → Simple) (id : BlockId) (index : ℕ) (f : Formal)
+    → AreKept blocks declared
+    → (h : IsParameterOf (chains_of blocks) blocks id index f)
+    → h.param.width ≡ width_of (declared (first_of blocks id + index))
+    → IsListedAs f (record_of_param h.param)
+
+-- both ends of a passing have one type in the listing, where they have one width
+abbrev pub AreEndsAlike : Type 0
+AreEndsAlike =
+    (blocks : List CodeBlock) (declared : ℕ → Simple) (id other : BlockId) (index place : ℕ) (f g : Formal)
+    → AreKept blocks declared
+    → (h : IsParameterOf (chains_of blocks) blocks id index f)
+    → (k : IsParameterOf (chains_of blocks) blocks other place g)
+    → h.param.width ≡ k.param.width
+    → HasStep (links blocks) (first_of blocks id + index) (first_of blocks other + place)
+    → f.kind ≡ g.kind

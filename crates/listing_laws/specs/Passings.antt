@@ -1,0 +1,112 @@
+-- What a listed CALL passes is what the ops before it pass, and it breaks no rule.
+use Rattle.std.specs.Prelude.{◌≡◌, ◌<◌, ◌≤◌, ◌^◌, ℕ, suc, nat_eq, ◌==◌, true, false, ◌&&◌, not, List, [], ◌∷◌, length, map, Some, slice_get}
+use Rattle.std.specs.List.{AllByRecursion, list_any}
+use Rattle.std.specs.Str.{bytes_eq}
+use Rattle.plc_base.specs.Folding.{folded}
+use Rattle.plc_base.specs.Kinds.{is_function_block}
+use Rattle.plc_base.specs.Widths.{width_number}
+use Rattle.plc_base.specs.declared.places.Area.TheVariants as area
+use Rattle.flat_code.specs.Blocks.{literal_fits}
+use Rattle.flat_code.specs.Instr.{Passing}
+use Rattle.flat_code.specs.declared.operands.Passed.{Passed}
+use Rattle.flat_code.specs.declared.operands.Passed.TheVariants as passed
+use Rattle.stl_ast.specs.Statements.{has_actuals}
+use Rattle.stl_ast.specs.declared.statements.Actual.{Actual}
+use Rattle.stl_ast.specs.declared.statements.Statement.{Statement}
+use Rattle.block_layout.specs.Offsets.{width_of}
+use Rattle.stl_types.specs.Actuals.{formal_named, is_input_section, takes_section}
+use Rattle.stl_types.specs.Calls.{lacks_actual, misfits, names_none, sees_date, supplied_twice}
+use Rattle.stl_types.specs.Context.{Context, data_number}
+use Rattle.stl_types.specs.Parameters.{Callee}
+use Rattle.stl_types.specs.Resolution.{seen}
+use Rattle.stl_types.specs.declared.parameters.Formal.{Formal}
+use Rattle.stl_types.specs.declared.views.Resolution.TheVariants.{Resolved}
+use Rattle.stl_types.specs.declared.views.ResolvedOperand.TheVariants as view
+use Rattle.stl_codegen.specs.Emitted.{passing}
+use Rattle.stl_codegen.specs.Instruction.{block_at, in_order, passings_to}
+use Rattle.stl_list.specs.Actuals.{actuals_before}
+use Rattle.stl_list.specs.Operands.{data_block_name, own_parameter}
+use Rattle.listing_laws.specs.Chains.{is_listed}
+
+-- ---- what fits
+
+-- what is passed for a listed parameter, in a body with parameters of its own
+abbrev pub FitsListed : Context → (own : List Formal) → Formal → Passed → Type 0
+FitsListed c own f (passed.Literal value) =
+    (is_input_section f.section ≡ true) × (is_listed f.kind ≡ true)
+    × (literal_fits (width_number (width_of f.kind)) value ≡ true) × (value < 2 ^ 32)
+FitsListed c own f (passed.Direct a width byte bit) = width ≡ width_of f.kind
+FitsListed c own f (passed.InBlock number a width byte bit) =
+    (width ≡ width_of f.kind) × (a ≡ area.Db) × (nat_eq number 0 ≡ false)
+    × (data_number c (data_block_name number) ≡ Some number)
+FitsListed c own f (passed.Parameter index width) =
+    (g : Formal) × (width ≡ width_of g.kind) × (g.kind ≡ f.kind)
+    × (takes_section f.section g.section ≡ true)
+    × (seen c (own_parameter own index) ≡ Resolved (view.Parameter index g.section g.kind))
+
+-- what is passed for a parameter that the called block has
+pub record IsPassable (c : Context) (own called : List Formal) (p : Passing) : Type 0 where
+  pub formal : Formal
+  pub there : slice_get called p.index ≡ Some formal
+  pub fits : FitsListed c own formal p.actual
+
+-- by rising indices from one on
+abbrev pub AreRising : (from : ℕ) → List Passing → Type 0
+AreRising from [] = Unit {0}
+AreRising from (p ∷ ps) = (from ≤ p.index) × AreRising (suc p.index) ps
+
+-- parameters have names of their own, also in upper case
+abbrev pub AreNamedApart : List Formal → Type 0
+AreNamedApart called =
+    (i j : ℕ) (f g : Formal) → slice_get called i ≡ Some f → slice_get called j ≡ Some g
+    → bytes_eq (folded f.name) (folded g.name) ≡ (i == j)
+
+-- a parameter as the rules know it: with its name in upper case
+abbrev pub upper : Formal → Formal
+upper f = record f { name = folded f.name }
+
+-- ---- what is passed
+
+-- a CALL as a listing has it: its actual parameters are made of the ops before it. `callee` is the
+-- called block as the rules find it, `called` are its parameters in the listing, by their index
+pub record IsListedCall (c : Context) (own called : List Formal) (callee : Callee)
+    (ps : List Passing) (s : Statement) : Type 0 where
+  pub actuals : s.actuals ≡ actuals_before s.line own called (passing ps)
+  pub order : in_order (block_at c.blocks callee.place) callee.formals ≡ map upper called
+  pub named : AreNamedApart called
+  pub passable : AllByRecursion (IsPassable c own called) ps
+  pub rising : AreRising 0 ps
+
+-- it passes what the ops pass
+abbrev pub ArePassingsKept : Type 0
+ArePassingsKept =
+    (c : Context) (own called : List Formal) (callee : Callee) (ps : List Passing) (s : Statement)
+    → IsListedCall c own called callee ps s → passings_to c s (Some callee) ≡ ps
+
+-- ---- rules
+
+-- each parameter is passed
+abbrev pub AreAllPassed : List Formal → List Passing → Type 0
+AreAllPassed called ps =
+    (i : ℕ) → i < length called → list_any (λ (p : Passing). p.index == i) ps ≡ true
+
+-- of the rules of its actual parameters it breaks none: 24, 34, 35, 37, and 36 where all are passed that
+-- have to be
+pub record BreaksNone (c : Context) (callee : Callee) (s : Statement) : Type 0 where
+  pub by_24 : AllByRecursion (λ (a : Actual). sees_date (seen c a.value) ≡ false) s.actuals
+  pub by_34 : AllByRecursion (λ (a : Actual). names_none callee.formals a ≡ false) s.actuals
+  pub by_35 : supplied_twice callee.formals [] s.actuals ≡ []
+  pub by_37 : AllByRecursion
+      (λ (a : Actual). misfits c a (formal_named callee.formals a.name) ≡ false) s.actuals
+
+abbrev pub AreActualsRight : Type 0
+AreActualsRight =
+    (c : Context) (own called : List Formal) (callee : Callee) (ps : List Passing) (s : Statement)
+    → IsListedCall c own called callee ps s → BreaksNone c callee s
+
+abbrev pub AreCallsComplete : Type 0
+AreCallsComplete =
+    (c : Context) (own called : List Formal) (callee : Callee) (ps : List Passing) (s : Statement)
+    → IsListedCall c own called callee ps s
+    → ((has_actuals s.code && not (is_function_block callee.id.kind)) ≡ true → AreAllPassed called ps)
+    → lacks_actual callee s ≡ false

@@ -1,0 +1,63 @@
+-- The types of a source's parameters, in the listing of its program.
+use Rattle.std.specs.Prelude.{◌≡◌, ℕ, suc, true, List, [], ◌∷◌, length, map, Option, Some}
+use Rattle.std.specs.List.{AllByRecursion}
+use Rattle.plc_base.specs.Kinds.{is_code}
+use Rattle.plc_base.specs.declared.blocks.BlockId.{BlockId}
+use Rattle.flat_code.specs.Programs.{CodeBlock}
+use Rattle.stl_ast.specs.declared.blocks.Block.{Block}
+use Rattle.stl_ast.specs.declared.blocks.Tree.{Tree}
+use Rattle.stl_ast.specs.declared.declarations.Simple.{Simple}
+use Rattle.stl_ast.specs.declared.statements.Statement.{Statement}
+use Rattle.stl_symbols.specs.Symbol.{Symbol}
+use Rattle.block_layout.specs.declared.blocks.BlockLayout.{BlockLayout}
+use Rattle.stl_types.specs.Bodies.{first_context}
+use Rattle.stl_types.specs.Context.{Context}
+use Rattle.stl_types.specs.Resolved.{resolved}
+use Rattle.stl_types.specs.declared.views.ResolvedOperand.TheVariants as view
+use Rattle.stl_codegen.specs.Compiled.{compiled}
+use Rattle.stl_codegen.specs.Generated.{code_blocks_of, params_of, program_of}
+use Rattle.listing_laws.specs.Chains.{AreKept}
+use Rattle.listing_laws.specs.HandedOn.{HandOn, OwesCall, SeesOwn, declared_in}
+
+-- a statement of a source owes what it calls
+abbrev pub OwesStatement : (kinds : BlockId → List Simple) → List CodeBlock → Context → Statement → Type 0
+OwesStatement kinds all c s =
+    (id : BlockId) (instance : Option ℕ) → resolved c s ≡ Some (view.Called id instance)
+    → OwesCall kinds all c s id
+
+-- a code block of a source: the types are those of its parameters, which its body sees so, and each
+-- statement owes what it calls
+pub record OwesBody (kinds : BlockId → List Simple) (all : List CodeBlock) (c : Context) (b : Block) (l : BlockLayout) (id : BlockId)
+    : Type 0 where
+  pub size : length (kinds id) ≡ length (params_of b l)
+  pub sees : SeesOwn c (kinds id)
+  pub statements : AllByRecursion (OwesStatement kinds all c) b.body
+
+-- the same of blocks with their layouts, of which the first has its place in the context
+abbrev pub OweBodies : (kinds : BlockId → List Simple) → List CodeBlock → Context → List Block → List BlockLayout → Type 0
+OweBodies kinds all c [] ls = Unit {0}
+OweBodies kinds all c (b ∷ bs) [] = Unit {0}
+OweBodies kinds all c (b ∷ bs) (l ∷ ls) =
+    ((id : BlockId) → l.id ≡ Some id → is_code id.kind ≡ true → OwesBody kinds all c b l id)
+    × OweBodies kinds all (record c { block = suc c.block }) bs ls
+
+-- and of a source
+abbrev pub OwesSource : (kinds : BlockId → List Simple) → Tree → List Symbol → List BlockLayout → Type 0
+OwesSource kinds t symbols layouts =
+    OweBodies kinds (map compiled (code_blocks_of t symbols layouts))
+    (first_context symbols layouts t.blocks) t.blocks layouts
+
+-- then the calls of its program hand types on
+abbrev pub AreSourcesHandedOn : Type 0
+AreSourcesHandedOn =
+    (kinds : BlockId → List Simple) (t : Tree) (symbols : List Symbol) (layouts : List BlockLayout)
+    → OwesSource kinds t symbols layouts → HandOn kinds (code_blocks_of t symbols layouts)
+
+-- so what the listing of its program says is INT or TIME was so in the source, widths stay, and both ends
+-- of a passing have one type
+abbrev pub AreSourceTypesKept : Type 0
+AreSourceTypesKept =
+    (kinds : BlockId → List Simple) (t : Tree) (symbols : List Symbol) (layouts : List BlockLayout)
+    → OwesSource kinds t symbols layouts
+    → AreKept (program_of t symbols layouts).code_blocks
+    (declared_in kinds (program_of t symbols layouts).code_blocks)

@@ -1,0 +1,58 @@
+-- Each parameter that a program passes on is a link of its listing.
+use Rattle.std.specs.Prelude.{◌≡◌, ◌+◌, ℕ, true, false, List, ◌∷◌, ◌++◌, map, Option, Some, slice_get}
+use Rattle.std.specs.List.{AllByRecursion}
+use Rattle.plc_base.specs.Kinds.{is_callable, is_same_block, is_system_function}
+use Rattle.plc_base.specs.declared.blocks.BlockId.{BlockId}
+use Rattle.plc_base.specs.declared.places.Width.{Width}
+use Rattle.flat_code.specs.Instr.{Passing, Calls}
+use Rattle.flat_code.specs.declared.operands.Passed.TheVariants as passed
+use Rattle.flat_code.specs.declared.operations.CallOperation.{CallOperation}
+use Rattle.stl_types.specs.declared.parameters.Formal.{Formal}
+use Rattle.stl_codegen.specs.Compiled.{Stated, StatedBlock, compiled}
+use Rattle.stl_list.specs.Joined.{first_of, links, parameter_count, system_parameters}
+use Rattle.listing_laws.specs.Chains.{HasStep, HasTyped}
+
+-- a statement of a block passes a parameter of the block to a block, for its parameter of an index
+pub record PassesOn (b : StatedBlock) (id : BlockId) (index own : ℕ) : Type 0 where
+  pub how : CallOperation
+  pub instance : Option ℕ
+  pub line : ℕ
+  pub width : Width
+  pub before : List Stated
+  pub after : List Stated
+  pub lower : List Passing
+  pub higher : List Passing
+  pub callable : is_callable id.kind ≡ true
+  pub statements : b.statements
+      ≡ before
+      ++ record {
+        instr = Calls how id instance
+            (lower ++ record { index = index; actual = passed.Parameter own width } ∷ higher);
+        line = line;
+      }
+      ∷ after
+
+-- for one of a block of the program, that is a step of a chain
+abbrev pub AreStepsFound : Type 0
+AreStepsFound =
+    (front back : List StatedBlock) (b : StatedBlock) (id : BlockId) (index own : ℕ)
+    → PassesOn b id index own → is_system_function id.kind ≡ false
+    → HasStep (links (map compiled (front ++ b ∷ back)))
+    (parameter_count (map compiled front) + own)
+    (first_of (map compiled (front ++ b ∷ back)) id + index)
+
+-- for one of a system function, the parameter has the type that this asks for
+abbrev pub AreSeedsFound : Type 0
+AreSeedsFound =
+    (front back : List StatedBlock) (b : StatedBlock) (id : BlockId) (index own : ℕ) (f : Formal)
+    → PassesOn b id index own → is_system_function id.kind ≡ true
+    → slice_get (system_parameters id.number) index ≡ Some f
+    → HasTyped (links (map compiled (front ++ b ∷ back)))
+    (parameter_count (map compiled front) + own) f.kind
+
+-- the parameters of a block begin behind those of the blocks in front of it
+abbrev pub AreFirstFound : Type 0
+AreFirstFound =
+    (front back : List StatedBlock) (b : StatedBlock)
+    → AllByRecursion (λ (a : StatedBlock). is_same_block a.id b.id ≡ false) front
+    → first_of (map compiled (front ++ b ∷ back)) b.id ≡ parameter_count (map compiled front)
