@@ -1,6 +1,14 @@
 mod BlockLemmas
 mod CompiledLemmas
+mod LabelLemmas
+mod LineLemmas
 mod NameLemmas
 mod OperandLemmas
+mod OrderLemmas
 mod RangeLemmas
+mod RunLemmas
 mod StatementLemmas
+mod SymbolFileLemmas
+mod SymbolLineLemmas
+mod SymbolOrderLemmas
+mod WordLemmas
