@@ -12,3 +12,4 @@ mod SymbolFileLemmas
 mod SymbolLineLemmas
 mod SymbolOrderLemmas
 mod WordLemmas
+mod ruled

@@ -1,14 +1,20 @@
 //! Laws of listings: the tree of a program's listing is printable.
 #![tactic(auto)]
 
+mod instructions;
 mod labels;
 mod laws;
 mod lines;
 mod names;
+mod nesting;
+mod operands;
 mod statements;
 
+pub use instructions::law_of_listed_instructions;
 pub use labels::law_of_listed_labels;
 pub use laws::law_of_listed_trees;
 pub use lines::law_of_listed_lines;
 pub use names::law_of_listed_names;
+pub use nesting::law_of_nestings;
+pub use operands::law_of_listed_operands;
 pub use statements::law_of_listed_statements;

@@ -1,0 +1,5 @@
+use Rattle.listing_laws.proofs.nesting.law_of_nestings.Goals as goal
+use Rattle.listing_laws.proofs.ruled.Nesting.{nestings_kept}
+
+pub returns : goal.returns
+returns c = record { kept = nestings_kept }

@@ -1,0 +1,7 @@
+-- The statements of a listing break no rule, and do what those of the source do.
+pub mod Constants
+pub mod Instructions
+pub mod Nesting
+pub mod Operands
+pub mod Rules
+pub mod Views
