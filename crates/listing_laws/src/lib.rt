@@ -1,6 +1,7 @@
 //! Laws of listings: the tree of a program's listing is printable.
 #![tactic(auto)]
 
+mod calling;
 mod instructions;
 mod labels;
 mod laws;
@@ -10,6 +11,7 @@ mod nesting;
 mod operands;
 mod statements;
 
+pub use calling::law_of_listed_bare_calls;
 pub use instructions::law_of_listed_instructions;
 pub use labels::law_of_listed_labels;
 pub use laws::law_of_listed_trees;

@@ -63,15 +63,15 @@ view_seen None Unknown v e = absurd cc
 view_seen None Unjudged v e = absurd cc
 view_seen (Some n) r v e = absurd cc
 
-rule_broken : (c : Context) (s : Statement) (v : ResolvedOperand) → resolved c s ≡ Some v → statement_rule c s ≡ None
+pub rule_broken : (c : Context) (s : Statement) (v : ResolvedOperand) → resolved c s ≡ Some v → statement_rule c s ≡ None
 unfolding resolved
 rule_broken c s v e = no_rule (statement_rule c s) (seen c s.operand) v e
 
-what_seen : (c : Context) (s : Statement) (v : ResolvedOperand) → resolved c s ≡ Some v → seen c s.operand ≡ Resolved v
+pub what_seen : (c : Context) (s : Statement) (v : ResolvedOperand) → resolved c s ≡ Some v → seen c s.operand ≡ Resolved v
 unfolding resolved
 what_seen c s v e = view_seen (statement_rule c s) (seen c s.operand) v e
 
-resolves : (c : Context) (s : Statement) (v : ResolvedOperand) → statement_rule c s ≡ None → seen c s.operand ≡ Resolved v → resolved c s ≡ Some v
+pub resolves : (c : Context) (s : Statement) (v : ResolvedOperand) → statement_rule c s ≡ None → seen c s.operand ≡ Resolved v → resolved c s ≡ Some v
 unfolding resolved
 resolves c s v h e = ap (λ (rule : Option ℕ). view_if rule (seen c s.operand)) h ∙ ap seen_view e
 
