@@ -58,7 +58,7 @@ none_passed c s (Some callee) h =
     let fs : List Formal = in_order (block_at c.blocks callee.place) callee.formals in
     ap (λ (actuals : List Actual). passings_from c actuals 0 fs) h ∙ none_from c 0 fs
 
-no_jump : (m : Mnemonic) (how : CallOperation) → call_of m ≡ Some how → jump_of m ≡ None
+pub no_jump : (m : Mnemonic) (how : CallOperation) → call_of m ≡ Some how → jump_of m ≡ None
 no_jump code.Call how h = refl
 no_jump code.Uc how h = refl
 no_jump code.Cc how h = refl
@@ -73,7 +73,7 @@ calls_to c body n s how id instance h none e =
 
 -- ---- the block that is called
 
-same_kind : (m : Mnemonic) (how : CallOperation) (v : ResolvedOperand) → call_of m ≡ Some how → takes (form_of m) v ≡ true → is_called_view v ≡ true
+pub same_kind : (m : Mnemonic) (how : CallOperation) (v : ResolvedOperand) → call_of m ≡ Some how → takes (form_of m) v ≡ true → is_called_view v ≡ true
 unfolding takes form_of
 same_kind code.Call how v h e = e
 same_kind code.Uc how v h e = e
@@ -159,7 +159,7 @@ unfolding seen
 sees_called c listed formals (operand.Called name instance) v has called is e = found_called c listed formals (named_block c.symbols name) instance v has called e
 sees_called c listed formals _ v has called is e = absurd cc
 
-rule_called : (c : Context) (f : OperandRule) (o : Operand) (v : ResolvedOperand) → is_called o ≡ true → operand_rule c f o ≡ None → seen c o ≡ Resolved v → rule_of f v ≡ None
+pub rule_called : (c : Context) (f : OperandRule) (o : Operand) (v : ResolvedOperand) → is_called o ≡ true → operand_rule c f o ≡ None → seen c o ≡ Resolved v → rule_of f v ≡ None
 rule_called c f (operand.Called name instance) v is h e = sym (ap (rule_seen f) e) ∙ h
 rule_called c f _ v is h e = absurd cc
 

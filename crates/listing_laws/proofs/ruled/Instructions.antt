@@ -76,7 +76,7 @@ unfolding resolved
 resolves c s v h e = ap (λ (rule : Option ℕ). view_if rule (seen c s.operand)) h ∙ ap seen_view e
 
 -- the instruction of a statement that calls nothing and doesn't jump
-comes_to : (c : Context) (body : List Statement) (n : ℕ) (s : Statement) (v : ResolvedOperand) (ending : Option EndOperation) → jump_of s.code ≡ None → call_of s.code ≡ None → end_of s.code ≡ ending
+pub comes_to : (c : Context) (body : List Statement) (n : ℕ) (s : Statement) (v : ResolvedOperand) (ending : Option EndOperation) → jump_of s.code ≡ None → call_of s.code ≡ None → end_of s.code ≡ ending
     → resolved c s ≡ Some v → instruction c body n s ≡ end_instr s v ending
 unfolding instruction
 comes_to c body n s v ending jumps calls ends e =
@@ -84,7 +84,7 @@ comes_to c body n s v ending jumps calls ends e =
 
 -- ---- words
 
-acting_word : (f : ℕ → ℕ) (m : Mnemonic) (o : Operand) (v : ResolvedOperand) → is_empty m ≡ false → jump_of m ≡ None → call_of m ≡ None → end_of m ≡ None
+pub acting_word : (f : ℕ → ℕ) (m : Mnemonic) (o : Operand) (v : ResolvedOperand) → is_empty m ≡ false → jump_of m ≡ None → call_of m ≡ None → end_of m ≡ None
     → mnemonic_of (run_of f (acting m o v)).op ≡ m
 acting_word f m o v some jumps calls ends =
     same_word f (acting m o v)
@@ -194,10 +194,10 @@ jump_taken listed code.Loop how name h = refl
 jump_taken listed _ how name h = absurd cc
 
 -- a jump with its target among the ops
-abbrev leap : JumpOperation → (n target : ℕ) → Instr
+abbrev pub leap : JumpOperation → (n target : ℕ) → Instr
 leap how n target = jump_instr how n target
 
-leap_word : (f : ℕ → ℕ) (m : Mnemonic) (how : JumpOperation) (n target : ℕ) → jump_of m ≡ Some how → mnemonic_of (run_of f (leap how n target)).op ≡ m
+pub leap_word : (f : ℕ → ℕ) (m : Mnemonic) (how : JumpOperation) (n target : ℕ) → jump_of m ≡ Some how → mnemonic_of (run_of f (leap how n target)).op ≡ m
 leap_word f m jump.Jl n target h = jump_words_found m jump.Jl h
 leap_word f m jump.Ju n target h = jump_words_found m jump.Ju h
 leap_word f m jump.Jc n target h = jump_words_found m jump.Jc h
@@ -222,7 +222,7 @@ unfolding operand_by
 leap_operand sur k f jump.Jl n target = refl
 leap_operand sur k f _ n target = refl
 
-jumped : (c : Context) (body : List Statement) (n : ℕ) (s : Statement) (how : JumpOperation) → jump_of s.code ≡ Some how → instruction c body n s ≡ jump_instr how n (target_of body s.operand)
+pub jumped : (c : Context) (body : List Statement) (n : ℕ) (s : Statement) (how : JumpOperation) → jump_of s.code ≡ Some how → instruction c body n s ≡ jump_instr how n (target_of body s.operand)
 unfolding instruction
 jumped c body n s how h = ap (instr_by c body n s) h
 
