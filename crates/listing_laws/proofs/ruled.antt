@@ -5,5 +5,6 @@ pub mod Instructions
 pub mod Marks
 pub mod Nesting
 pub mod Operands
+pub mod Parameters
 pub mod Rules
 pub mod Views

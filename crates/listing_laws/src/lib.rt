@@ -9,6 +9,7 @@ mod lines;
 mod names;
 mod nesting;
 mod operands;
+mod own_parameters;
 mod statements;
 
 pub use calling::law_of_listed_bare_calls;
@@ -19,4 +20,5 @@ pub use lines::law_of_listed_lines;
 pub use names::law_of_listed_names;
 pub use nesting::law_of_nestings;
 pub use operands::law_of_listed_operands;
+pub use own_parameters::law_of_own_parameters;
 pub use statements::law_of_listed_statements;
