@@ -2,6 +2,7 @@
 pub mod Calling
 pub mod Constants
 pub mod Instructions
+pub mod Labels
 pub mod Marks
 pub mod Nesting
 pub mod Operands

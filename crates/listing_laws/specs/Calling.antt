@@ -1,5 +1,5 @@
 -- The calls of a listing that pass nothing.
-use Rattle.std.specs.Prelude.{◌≡◌, ℕ, true, List, [], Option, Some, None}
+use Rattle.std.specs.Prelude.{◌≡◌, ℕ, true, List, [], Some}
 use Rattle.plc_base.specs.declared.blocks.BlockId.{BlockId}
 use Rattle.flat_code.specs.declared.operations.CallOperation.{CallOperation}
 use Rattle.stl_ast.specs.Statements.{is_called}

@@ -1,5 +1,5 @@
 -- The statements of a listing come to the instructions of the source.
-use Rattle.std.specs.Prelude.{◌≡◌, ℕ, false, List, Option, Some, None}
+use Rattle.std.specs.Prelude.{◌≡◌, ℕ, false, List, Some, None}
 use Rattle.plc_base.specs.declared.places.Area.TheVariants as area
 use Rattle.flat_code.specs.Instr.{Instr}
 use Rattle.stl_ast.specs.Operands.{IsOperand}

@@ -1,7 +1,6 @@
 -- The operand of a listed statement: what it names, and that its instruction takes it.
-use Rattle.std.specs.Prelude.{◌≡◌, ◌⊎◌, ℕ, ◌≤◌, Bool, true, List, [], Option, Some, None}
+use Rattle.std.specs.Prelude.{◌≡◌, ℕ, ◌≤◌, true, List, [], Option, Some, None}
 use Rattle.plc_base.specs.Folding.{folded}
-use Rattle.plc_base.specs.declared.blocks.BlockId.{BlockId}
 use Rattle.plc_base.specs.declared.places.Area.{Area}
 use Rattle.plc_base.specs.declared.places.Area.TheVariants as area
 use Rattle.flat_code.specs.Instr.{Instr, Does}
@@ -27,7 +26,6 @@ use Rattle.stl_types.specs.declared.views.ResolvedOperand.TheVariants as view
 use Rattle.stl_codegen.specs.Operands.{opened_by, opened_by_place, operand_of}
 use Rattle.stl_codegen.specs.Operations.{operation_for}
 use Rattle.stl_list.specs.Operands.{data_block_name, name_at, operand_of as listed_operand}
-use Rattle.stl_list.specs.Runs.{Run}
 use Rattle.listing_laws.specs.Labels.{GoesOn}
 use Rattle.listing_laws.specs.Statements.{run_of}
 

@@ -1,12 +1,11 @@
 -- The calls of a listing that pass nothing.
-use Rattle.std.proofs.Common.{◌≡◌, ℕ, zero, suc, Bool, true, false, List, [], ◌∷◌, ◌++◌, Option, Some, None, if◌then◌else◌, refl, sym, ap, subst, ◌∙◌, arith}
-use Rattle.std.specs.Prelude.{◌==◌, ◌||◌}
+use Rattle.std.proofs.Common.{◌≡◌, ℕ, zero, suc, Bool, true, false, List, [], ◌∷◌, Option, Some, None, if◌then◌else◌, refl, sym, ap, ◌∙◌, arith}
 use Rattle.std.proofs.lemmas.Bool.{ne_eqb}
 use Rattle.plc_base.specs.Kinds.{is_callable, is_function_block, is_system_function, kind_number}
 use Rattle.plc_base.specs.declared.blocks.BlockId.{BlockId}
 use Rattle.plc_base.specs.declared.blocks.BlockKind.{BlockKind}
 use Rattle.plc_base.specs.declared.blocks.BlockKind.TheVariants as kinds
-use Rattle.flat_code.specs.Instr.{Calls, Instr, Passing}
+use Rattle.flat_code.specs.Instr.{Calls, Passing}
 use Rattle.flat_code.specs.declared.operations.CallOperation.{CallOperation}
 use Rattle.stl_ast.specs.Statements.{is_called}
 use Rattle.stl_ast.specs.declared.mnemonics.Mnemonic.{Mnemonic}
@@ -27,12 +26,11 @@ use Rattle.stl_types.specs.Resolution.{called_seen, id_at, instance_number, seen
 use Rattle.stl_types.specs.Resolved.{resolved}
 use Rattle.stl_types.specs.declared.forms.OperandRule.{OperandRule}
 use Rattle.stl_types.specs.declared.parameters.Formal.{Formal}
-use Rattle.stl_types.specs.declared.views.Resolution.{Resolution}
 use Rattle.stl_types.specs.declared.views.Resolution.TheVariants.{Resolved}
 use Rattle.stl_types.specs.declared.views.ResolvedOperand.{ResolvedOperand}
 use Rattle.stl_types.specs.declared.views.ResolvedOperand.TheVariants as view
 use Rattle.stl_codegen.specs.Emitted.{instance_number as instance_of}
-use Rattle.stl_codegen.specs.Instruction.{block_at, call_instr, in_order, instr_by, instruction, passings_to, resolved_instr, view_instr}
+use Rattle.stl_codegen.specs.Instruction.{block_at, in_order, instr_by, instruction, passings_to, resolved_instr, view_instr}
 use Rattle.stl_codegen.specs.Operations.{call_of, jump_of}
 use Rattle.stl_codegen.specs.Passed.{passings_from}
 use Rattle.stl_list.specs.Actuals.{actuals_by}

@@ -1,14 +1,12 @@
 -- The statements of a listing come to the instructions of the source.
-use Rattle.std.proofs.Common.{◌≡◌, ℕ, Bool, true, false, List, [], ◌∷◌, Option, Some, None, if◌then◌else◌, refl, sym, ap, ◌∙◌}
+use Rattle.std.proofs.Common.{◌≡◌, ℕ, false, List, Option, Some, None, if◌then◌else◌, refl, ap, ◌∙◌}
 use Rattle.std.specs.Option.{is_none}
 use Rattle.flat_code.proofs.CodeLemmas.{operation_again}
-use Rattle.flat_code.specs.Instr.{Calls, Does, Instr, Jumps, JumpsByList, Returns}
-use Rattle.flat_code.specs.Kinds.{kind_of}
+use Rattle.flat_code.specs.Instr.{Does, Instr, Returns}
 use Rattle.flat_code.specs.OpCodes.{code_of}
 use Rattle.flat_code.specs.declared.kinds.JumpOperation.{JumpOperation}
 use Rattle.flat_code.specs.declared.kinds.JumpOperation.TheVariants as jump
 use Rattle.flat_code.specs.declared.operands.Operand.{Operand as FlatOperand}
-use Rattle.flat_code.specs.declared.operations.CallOperation.{CallOperation}
 use Rattle.flat_code.specs.declared.operations.EndOperation.{EndOperation}
 use Rattle.flat_code.specs.declared.operations.Operation.{Operation}
 use Rattle.flat_code.specs.declared.operations.Operation.TheVariants as operation
@@ -20,19 +18,18 @@ use Rattle.stl_ast.specs.declared.operands.Operand.TheVariants as operand
 use Rattle.stl_ast.specs.declared.statements.Statement.{Statement}
 use Rattle.stl_types.specs.Context.{Context}
 use Rattle.stl_types.specs.Forms.{form_of}
-use Rattle.stl_types.specs.Operands.{operand_rule, rule_of, rule_seen, statement_rule, takes, takes_width}
+use Rattle.stl_types.specs.Operands.{operand_rule, rule_of, statement_rule, takes, takes_width}
 use Rattle.stl_types.specs.Resolution.{seen}
 use Rattle.stl_types.specs.Resolved.{resolved, seen_view}
 use Rattle.stl_types.specs.declared.views.Resolution.{Resolution}
 use Rattle.stl_types.specs.declared.views.Resolution.TheVariants.{Resolved, Unjudged, Unknown}
 use Rattle.stl_types.specs.declared.views.ResolvedOperand.{ResolvedOperand}
 use Rattle.stl_types.specs.declared.views.ResolvedOperand.TheVariants as view
-use Rattle.stl_codegen.specs.Compiled.{aimed}
 use Rattle.stl_codegen.specs.Instruction.{end_instr, instr_by, instruction, jump_instr, resolved_instr, target_in, target_of, view_instr}
 use Rattle.stl_codegen.specs.Operands.{opened_by, operand_of}
 use Rattle.stl_codegen.specs.Operations.{call_of, end_of, jump_of, operation_for}
 use Rattle.stl_list.specs.Labels.{label_of}
-use Rattle.stl_list.specs.Mnemonics.{mnemonic_of, word_by, word_of}
+use Rattle.stl_list.specs.Mnemonics.{mnemonic_of, word_by}
 use Rattle.stl_list.specs.Operands.{implied_operand, operand_by}
 use Rattle.stl_list.specs.Runs.{number_at}
 use Rattle.stl_list.specs.Statements.{Surroundings, statement}
@@ -114,15 +111,15 @@ does_again c listed sur f again n k s v has right some jumps calls ends e =
     by acted =
         let rule : statement_rule listed listing ≡ None = ap (λ (m : Mnemonic). operand_rule listed (form_of m) listing.operand) word ∙ acted.right in
         record {
-      word = word;
-      right = rule;
-      instr =
-          comes_to listed again n listing acted.found None (ap jump_of word ∙ jumps) (ap call_of word ∙ calls) (ap end_of word ∙ ends) (resolves listed listing acted.found rule acted.sees)
-          ∙ ap (λ (m : Mnemonic). acting m listing.operand acted.found) word
-          ∙ ap (λ (x : Option ℕ). Does x (operation_for s.code listing.operand acted.found) (operand_of listing.operand acted.found)) acted.opened
-          ∙ ap (λ (w : Operation). Does (opened_by v) w (operand_of listing.operand acted.found)) acted.operation
-          ∙ ap (λ (o : FlatOperand). Does (opened_by v) (operation_for s.code s.operand v) o) acted.operand;
-    }
+          word = word;
+          right = rule;
+          instr =
+              comes_to listed again n listing acted.found None (ap jump_of word ∙ jumps) (ap call_of word ∙ calls) (ap end_of word ∙ ends) (resolves listed listing acted.found rule acted.sees)
+              ∙ ap (λ (m : Mnemonic). acting m listing.operand acted.found) word
+              ∙ ap (λ (x : Option ℕ). Does x (operation_for s.code listing.operand acted.found) (operand_of listing.operand acted.found)) acted.opened
+              ∙ ap (λ (w : Operation). Does (opened_by v) w (operand_of listing.operand acted.found)) acted.operation
+              ∙ ap (λ (o : FlatOperand). Does (opened_by v) (operation_for s.code s.operand v) o) acted.operand;
+        }
 
 -- ---- the end of a block
 

@@ -1,17 +1,14 @@
 -- The listed body of a block has the words of the block's own body, on its lines.
-use Rattle.std.proofs.Common.{◌≡◌, ℕ, zero, suc, ◌+◌, ◌<◌, Bool, true, false, List, [], ◌∷◌, ◌++◌, append-nil, length, length-append, map, Option, Some, None, slice_get, if◌then◌else◌, refl, sym, ap, ◌∙◌, arith}
-use Rattle.std.specs.Prelude.{◌==◌}
+use Rattle.std.proofs.Common.{◌≡◌, ℕ, suc, ◌+◌, ◌<◌, Bool, true, false, List, [], ◌∷◌, ◌++◌, append-nil, length, length-append, map, Option, Some, None, if◌then◌else◌, refl, sym, ap, ◌∙◌, arith}
 use Rattle.std.specs.List.{AllByRecursion}
 use Rattle.std.proofs.lemmas.Bool.{eq-eqb, ne_eqb}
-use Rattle.flat_code.specs.Instr.{Calls, Instr, Returns}
+use Rattle.flat_code.specs.Instr.{Instr}
 use Rattle.flat_code.specs.declared.kinds.JumpOperation.{JumpOperation}
 use Rattle.flat_code.specs.declared.operations.CallOperation.{CallOperation}
 use Rattle.flat_code.specs.declared.operations.EndOperation.{EndOperation}
-use Rattle.stl_ast.specs.Statements.{IsStatement, is_call, is_called, is_empty}
-use Rattle.stl_ast.specs.declared.blocks.Block.{Block}
+use Rattle.stl_ast.specs.Statements.{IsStatement, is_call, is_empty}
 use Rattle.stl_ast.specs.declared.mnemonics.Mnemonic.{Mnemonic}
 use Rattle.stl_ast.specs.declared.mnemonics.Mnemonic.TheVariants as code
-use Rattle.stl_ast.specs.declared.operands.Operand.{Operand}
 use Rattle.stl_ast.specs.declared.operands.Operand.TheVariants as operand
 use Rattle.stl_ast.specs.declared.statements.Statement.{Statement}
 use Rattle.stl_types.specs.Context.{Context}
@@ -22,15 +19,14 @@ use Rattle.stl_types.specs.declared.views.ResolvedOperand.{ResolvedOperand}
 use Rattle.stl_types.specs.declared.views.ResolvedOperand.TheVariants as view
 use Rattle.stl_codegen.specs.Compiled.{Stated, StatedBlock, compiled, lines_in}
 use Rattle.stl_codegen.specs.Generated.{returning, stated_from, statements_of}
-use Rattle.stl_codegen.specs.Instruction.{call_instr, end_instr, instr_by, instruction, resolved_instr, target_of, view_instr}
+use Rattle.stl_codegen.specs.Instruction.{call_instr, instr_by, instruction, resolved_instr, target_of, view_instr}
 use Rattle.stl_codegen.specs.Operations.{call_of, end_of, jump_of}
 use Rattle.stl_list.specs.Lines.{line_at}
 use Rattle.stl_list.specs.Mnemonics.{mnemonic_of}
 use Rattle.stl_list.specs.Runs.{Run}
 use Rattle.stl_list.specs.Signatures.{Signature}
-use Rattle.stl_list.specs.Statements.{Surroundings, body_of, label_alone, label_at, label_of_end, statement, statement_at, statements_from, surroundings}
+use Rattle.stl_list.specs.Statements.{Surroundings, body_of, label_at, label_of_end, statement, statement_at, statements_from, surroundings}
 use Rattle.listing_laws.specs.Nesting.{AreListedNestingsKept, AreMarksKept, IsReadable, Mark, mark_of, marks}
-use Rattle.listing_laws.specs.Operands.{acting}
 use Rattle.listing_laws.specs.Statements.{offset_in, run_of}
 use Rattle.listing_laws.proofs.RunLemmas.{runs_found}
 use Rattle.listing_laws.proofs.WordLemmas.{call_words_found, end_words_found}

@@ -13,7 +13,7 @@ use Rattle.stl_ast.specs.declared.statements.Statement.{Statement}
 use Rattle.stl_types.specs.Brackets.{behind, behind_all, closed, closes, closes_none, is_eighth, left_open, opened, opening, with_brackets}
 use Rattle.stl_types.specs.Zones.{ends_none, ends_zone, is_ninth, opens_zone, with_zones, zones_behind, zones_behind_all, zones_ended, zones_left_open}
 use Rattle.stl_types.specs.declared.brackets.Bracket.{Bracket}
-use Rattle.listing_laws.specs.Nesting.{AreNestedAlike, AreNestingsKept, Mark, mark_of, marks}
+use Rattle.listing_laws.specs.Nesting.{AreNestingsKept, Mark, marks}
 
 -- the plainest statement with a word on a line
 abbrev stub : Mark → Statement

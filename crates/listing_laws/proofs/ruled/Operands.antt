@@ -1,5 +1,5 @@
 -- The operand of a listed statement acts as that of the source.
-use Rattle.std.proofs.Common.{◌≡◌, ℕ, zero, suc, Bool, true, false, List, [], ◌∷◌, Option, Some, None, if◌then◌else◌, refl, sym, ap, ◌∙◌}
+use Rattle.std.proofs.Common.{◌≡◌, ℕ, Bool, true, false, List, Option, Some, None, if◌then◌else◌, refl, sym, ap, ◌∙◌}
 use Rattle.std.specs.Prelude.{codes, nat_eq, not, option_map, ◌&&◌}
 use Rattle.plc_base.specs.declared.blocks.BlockId.{BlockId}
 use Rattle.plc_base.specs.declared.flags.Flag.{Flag}
@@ -11,16 +11,13 @@ use Rattle.flat_code.proofs.CodeLemmas.{flag_again, operation_again}
 use Rattle.flat_code.specs.Kinds.{condition_of, flag_of}
 use Rattle.flat_code.specs.Operations.{operation_of}
 use Rattle.flat_code.specs.OpCodes.{code_of}
-use Rattle.flat_code.specs.declared.operands.Operand.{Operand as FlatOperand}
 use Rattle.flat_code.specs.declared.operands.Operand.TheVariants as flat
 use Rattle.flat_code.specs.declared.operations.Operation.{Operation}
 use Rattle.stl_ast.specs.declared.blocks.PartKind.{PartKind}
 use Rattle.stl_ast.specs.declared.declarations.Simple.{Simple}
 use Rattle.stl_ast.specs.declared.literals.Literal.{Literal}
-use Rattle.stl_ast.specs.declared.literals.Literal.TheVariants as literal
 use Rattle.stl_ast.specs.declared.mnemonics.Mnemonic.{Mnemonic}
 use Rattle.stl_ast.specs.declared.mnemonics.Mnemonic.TheVariants as code
-use Rattle.stl_ast.specs.declared.operands.Letters.{Letters}
 use Rattle.stl_ast.specs.declared.operands.Numbered.{Numbered}
 use Rattle.stl_ast.specs.declared.operands.Numbered.TheVariants as numbered
 use Rattle.stl_ast.specs.declared.operands.Operand.{Operand}
@@ -28,17 +25,15 @@ use Rattle.stl_ast.specs.declared.operands.Operand.TheVariants as operand
 use Rattle.block_layout.specs.Offsets.{width_of}
 use Rattle.stl_types.specs.Addresses.{address_in, area_left, area_of, side_of}
 use Rattle.stl_types.specs.Constants.{takes_constant}
-use Rattle.stl_types.specs.Context.{Context, data_number}
+use Rattle.stl_types.specs.Context.{Context}
 use Rattle.stl_types.specs.Forms.{form_of}
-use Rattle.stl_types.specs.Kinds.{is_composite}
-use Rattle.stl_types.specs.Operands.{has_width, is_input, is_on_wrong_side, operand_rule, rule_of, rule_seen, takes, writes as form_writes}
+use Rattle.stl_types.specs.Operands.{has_width, is_on_wrong_side, operand_rule, rule_of, rule_seen, takes, writes as form_writes}
 use Rattle.stl_types.specs.Resolution.{opened_seen, register_of as register_named, seen}
 use Rattle.stl_types.specs.declared.forms.OperandRule.{OperandRule}
 use Rattle.stl_types.specs.declared.forms.OperandRule.TheVariants as form
 use Rattle.stl_types.specs.declared.parameters.Formal.{Formal}
 use Rattle.stl_types.specs.declared.views.Register.{Register}
 use Rattle.stl_types.specs.declared.views.Register.TheVariants as register
-use Rattle.stl_types.specs.declared.views.Resolution.{Resolution}
 use Rattle.stl_types.specs.declared.views.Resolution.TheVariants.{Resolved}
 use Rattle.stl_types.specs.declared.views.ResolvedOperand.{ResolvedOperand}
 use Rattle.stl_types.specs.declared.views.ResolvedOperand.TheVariants as view
@@ -48,9 +43,8 @@ use Rattle.stl_codegen.specs.Emitted.{opening}
 use Rattle.stl_codegen.specs.Operands.{is_db, numbered_operand, opened_by, opened_by_place, operand_of, register_operand}
 use Rattle.stl_codegen.specs.Operations.{call_of, jump_of, operation_for}
 use Rattle.stl_list.specs.Constants.{instruction_constant}
-use Rattle.stl_list.specs.Operands.{data_block_name, direct_operand, implied_operand, letters_of, name_at, opened_by as opened_first, operand_by, own_parameter, plain_operand, read_letters, writes}
-use Rattle.listing_laws.specs.Labels.{GoesOn}
-use Rattle.listing_laws.specs.Operands.{AreOperandsKept, IsActedAgain, IsCoded, IsConstantSeen, IsOpenedAgain, IsParameterAgain, StandsAgain, acting}
+use Rattle.stl_list.specs.Operands.{data_block_name, direct_operand, implied_operand, letters_of, opened_by as opened_first, operand_by, own_parameter, plain_operand, read_letters, writes}
+use Rattle.listing_laws.specs.Operands.{AreOperandsKept, IsActedAgain, IsCoded, IsConstantSeen, IsOpenedAgain, IsParameterAgain, StandsAgain}
 use Rattle.listing_laws.proofs.ruled.Constants.{constant_again, pointer_acts}
 use Rattle.listing_laws.proofs.ruled.Rules.{IsOther, is_taken, no_adding, none_broken, taken_view, unchanged}
 
@@ -154,13 +148,13 @@ place_again c m o place width side declared h k w e = by (opened_by_place place)
         let sees : seen c (direct_operand (Some n) w place.area width place.byte place.bit) ≡ Resolved (view.Direct (at (area_of (letters_of w place.area)) n place) width (side_of (letters_of w place.area)) None) =
         ap (λ (x : Option ℕ). address_in x (letters_of w place.area) width place.byte place.bit) k in
         record {
-      found = view.Direct (at (area_of (letters_of w place.area)) n place) width (side_of (letters_of w place.area)) None;
-      sees = sees;
-      right = ap (rule_seen (form_of m)) sees ∙ place_right (form_of m) place (at (area_of (letters_of w place.area)) n place) place.area w width side declared h e;
-      opened = ap (λ (a : Area). opened_by_place (at a n place)) (area_again w place.area) ∙ is_named (is_db place.area) place.number n g ∙ sym g;
-      operation = place_operation m o _ place (at (area_of (letters_of w place.area)) n place) width side (side_of (letters_of w place.area)) declared None h;
-      operand = place_operand o _ place n w width side (side_of (letters_of w place.area)) declared None;
-    }
+          found = view.Direct (at (area_of (letters_of w place.area)) n place) width (side_of (letters_of w place.area)) None;
+          sees = sees;
+          right = ap (rule_seen (form_of m)) sees ∙ place_right (form_of m) place (at (area_of (letters_of w place.area)) n place) place.area w width side declared h e;
+          opened = ap (λ (a : Area). opened_by_place (at a n place)) (area_again w place.area) ∙ is_named (is_db place.area) place.number n g ∙ sym g;
+          operation = place_operation m o _ place (at (area_of (letters_of w place.area)) n place) width side (side_of (letters_of w place.area)) declared None h;
+          operand = place_operand o _ place n w width side (side_of (letters_of w place.area)) declared None;
+        }
 
 -- ---- a parameter
 

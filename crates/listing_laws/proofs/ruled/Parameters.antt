@@ -1,5 +1,5 @@
 -- The parameters of a listed function, by their names.
-use Rattle.std.proofs.Common.{◌≡◌, ℕ, zero, suc, ◌+◌, Bool, true, false, List, [], ◌∷◌, length, take, Option, Some, None, slice_get, if◌then◌else◌, refl, sym, ap, ◌∙◌, arith}
+use Rattle.std.proofs.Common.{◌≡◌, ℕ, zero, suc, ◌+◌, Bool, true, false, List, [], ◌∷◌, length, take, Option, Some, None, slice_get, if◌then◌else◌, refl, ap, ◌∙◌, arith}
 use Rattle.std.specs.Prelude.{bytes_eq, is_some, nat_eq, nat_lt, not, ◌&&◌}
 use Rattle.std.specs.List.{AllByRecursion}
 use Rattle.std.proofs.lemmas.Bool.Decides.{nat_tests}
@@ -13,18 +13,16 @@ use Rattle.block_layout.specs.Paths.{cells_at, cells_in, elementary_at, entered,
 use Rattle.block_layout.specs.Sizes.{alignment, capped, cell_bits, stepped, up}
 use Rattle.block_layout.specs.declared.blocks.BlockLayout.{BlockLayout}
 use Rattle.block_layout.specs.declared.cells.Cell.{Cell}
-use Rattle.block_layout.specs.declared.cells.Element.{Element}
 use Rattle.block_layout.specs.declared.cells.Element.TheVariants as element
 use Rattle.block_layout.specs.declared.members.Member.{Member}
 use Rattle.block_layout.specs.declared.walks.ComponentAt.{ComponentAt}
 use Rattle.block_layout.specs.declared.walks.PathEnd.{PathEnd}
 use Rattle.block_layout.specs.declared.walks.PathEnd.TheVariants as walk
 use Rattle.stl_types.specs.Context.{Context, in_function, is_of_function}
-use Rattle.stl_types.specs.Variables.{behind_others, in_area, is_temporary, own_at, own_variable, own_walked, parameter, parameter_at, parameter_index}
-use Rattle.stl_types.specs.declared.views.Resolution.{Resolution}
+use Rattle.stl_types.specs.Variables.{behind_others, in_area, own_at, own_variable, own_walked, parameter, parameter_at, parameter_index}
 use Rattle.stl_types.specs.declared.views.Resolution.TheVariants.{Resolved}
 use Rattle.stl_types.specs.declared.views.ResolvedOperand.TheVariants as view
-use Rattle.listing_laws.specs.OwnParameters.{AreOwnParametersFound, IsFunctionAt, IsOwn}
+use Rattle.listing_laws.specs.OwnParameters.{AreOwnParametersFound}
 
 -- ---- the component of a name
 
