@@ -7,5 +7,6 @@ pub mod Marks
 pub mod Nesting
 pub mod Operands
 pub mod Parameters
+pub mod Reached
 pub mod Rules
 pub mod Views

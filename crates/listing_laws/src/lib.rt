@@ -15,7 +15,7 @@ mod statements;
 
 pub use calling::law_of_listed_bare_calls;
 pub use instructions::law_of_listed_instructions;
-pub use label_rules::law_of_single_labels;
+pub use label_rules::law_of_label_rules;
 pub use labels::law_of_listed_labels;
 pub use laws::law_of_listed_trees;
 pub use lines::law_of_listed_lines;

@@ -6,17 +6,15 @@ use Rattle.std.specs.Option.{unwrap_or}
 use Rattle.std.proofs.lemmas.Bool.{false_from_ne_true}
 use Rattle.std.proofs.lemmas.Slice.Eq.{bytes_eq-Decides}
 use Rattle.plc_base.proofs.ListLemmas.{all_append}
-use Rattle.plc_base.specs.Gathered.{gathered}
 use Rattle.plc_base.specs.Least.{broken_if}
 use Rattle.plc_base.specs.declared.refusals.Refusal.{Refusal}
 use Rattle.stl_ast.specs.declared.statements.Statement.{Statement}
 use Rattle.stl_symbols.specs.Names.{place_of}
 use Rattle.stl_types.specs.Labels.{is_twice, label_of as label_list, labels_twice}
-use Rattle.stl_codegen.specs.Compiled.{StatedBlock, compiled}
+use Rattle.stl_codegen.specs.Compiled.{compiled}
 use Rattle.stl_list.specs.Labels.{label_of}
 use Rattle.stl_list.specs.Lines.{line_at}
 use Rattle.stl_list.specs.Runs.{Run}
-use Rattle.stl_list.specs.Signatures.{Signature}
 use Rattle.stl_list.specs.Statements.{Surroundings, body_of, label_alone, label_at, label_of_end, statement, statement_at, statements_from, surroundings}
 use Rattle.listing_laws.specs.LabelRules.{AreLabelsOnce}
 use Rattle.listing_laws.specs.Statements.{offset_in, run_of}
