@@ -1,4 +1,5 @@
 -- The statements of a listing break no rule, and do what those of the source do.
+pub mod Bodies
 pub mod Calling
 pub mod Constants
 pub mod Instructions

@@ -1,6 +1,7 @@
 //! Laws of listings: the tree of a program's listing is printable.
 #![tactic(auto)]
 
+mod bodies;
 mod calling;
 mod instructions;
 mod label_rules;
@@ -13,6 +14,7 @@ mod operands;
 mod own_parameters;
 mod statements;
 
+pub use bodies::law_of_listed_bodies;
 pub use calling::law_of_listed_bare_calls;
 pub use instructions::law_of_listed_instructions;
 pub use label_rules::law_of_label_rules;

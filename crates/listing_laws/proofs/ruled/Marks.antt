@@ -108,7 +108,7 @@ source_marks c body n f (s ∷ ss) h = by (is_empty s.code) refl (source_marks c
 -- ---- the listed statements
 
 -- the lines from a number on
-abbrev AreLinesAt : List ℕ → (k : ℕ) → List Stated → Type 0
+abbrev pub AreLinesAt : List ℕ → (k : ℕ) → List Stated → Type 0
 AreLinesAt lines k ss = (j : ℕ) → line_at lines (k + j) ≡ line_at (lines_in ss) j
 
 last_marks : (line : ℕ) (label : Option (List ℕ)) → marks (label_of_end line label) ≡ []
@@ -128,7 +128,7 @@ unfolding statement_at
 next_statement sur k r rest more =
     ap (λ (b : Bool). marks ((if b then label_of_end (line_at sur.lines k) (label_at sur.targets k) else statement sur k r ∷ []) ++ rest)) (ne_eqb (suc k) (length sur.lines) (λ e. omega (arith, e, more)))
 
-abbrev run_all : (ℕ → ℕ) → List Stated → List Run
+abbrev pub run_all : (ℕ → ℕ) → List Stated → List Run
 run_all f ss = map (λ s. run_of f s.instr) ss
 
 listed_marks : (sur : Surroundings) (f : ℕ → ℕ) (k : ℕ) (ss : List Stated) (last : Stated) → length sur.lines ≡ k + length ss + 1 → AreLinesAt sur.lines k (ss ++ last ∷ [])
@@ -145,14 +145,14 @@ listed_marks sur f k (s ∷ ss) last size lines =
     one_more : (k j : ℕ) → suc k + j ≡ k + suc j
     one_more k j = omega arith
 
-lines_length : (ss : List Stated) → length (lines_in ss) ≡ length ss
+pub lines_length : (ss : List Stated) → length (lines_in ss) ≡ length ss
 lines_length [] = refl
 lines_length (s ∷ ss) = ap suc (lines_length ss)
 
-from_start : (k : ℕ) → 0 + k ≡ k
+pub from_start : (k : ℕ) → 0 + k ≡ k
 from_start k = omega arith
 
-behind_start : (n : ℕ) → n + 1 ≡ 0 + n + 1
+pub behind_start : (n : ℕ) → n + 1 ≡ 0 + n + 1
 behind_start n = omega arith
 
 body_marks : (signatures : List Signature) (b : StatedBlock) (ss : List Stated) (last : Stated) → b.statements ≡ ss ++ last ∷ []
