@@ -11,3 +11,4 @@ pub mod Parameters
 pub mod Reached
 pub mod Rules
 pub mod Views
+pub mod Within

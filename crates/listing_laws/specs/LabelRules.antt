@@ -2,8 +2,11 @@
 use Rattle.std.specs.Prelude.{◌≡◌, ℕ, ◌<◌, ◌≤◌, true, List, [], length}
 use Rattle.std.specs.List.{AllByRecursion}
 use Rattle.flat_code.specs.Instr.{Instr}
+use Rattle.stl_ast.specs.declared.blocks.Block.{Block}
+use Rattle.stl_types.specs.Context.{Context}
 use Rattle.stl_types.specs.Labels.{labels_of, labels_twice, unknown_labels}
 use Rattle.stl_codegen.specs.Compiled.{StatedBlock, compiled}
+use Rattle.stl_codegen.specs.Generated.{statements_of}
 use Rattle.stl_list.specs.Signatures.{Signature}
 use Rattle.stl_list.specs.Statements.{body_of}
 use Rattle.listing_laws.specs.Statements.{jumps_to}
@@ -26,3 +29,9 @@ AreLabelsKnown =
     → AllByRecursion (λ s. LeadsWithin (length b.statements) s.instr) b.statements
     → unknown_labels (labels_of (body_of signatures lines (compiled b)))
     (body_of signatures lines (compiled b)) ≡ []
+
+-- the jumps of a block of a source lead to its statements, whatever it breaks
+abbrev pub AreJumpsWithin : Type 0
+AreJumpsWithin =
+    (c : Context) (b : Block)
+    → AllByRecursion (λ s. LeadsWithin (length (statements_of c b)) s.instr) (statements_of c b)

@@ -1,17 +1,15 @@
 -- The statements of a listed body are those of the block.
-use Rattle.std.proofs.Common.{◌≡◌, ℕ, zero, suc, ◌+◌, ◌<◌, Bool, true, false, List, [], ◌∷◌, ◌++◌, append-nil, length, length-append, map, Option, Some, None, if◌then◌else◌, refl, sym, ap, ◌∙◌, arith}
-use Rattle.std.specs.Prelude.{◌==◌}
+use Rattle.std.proofs.Common.{◌≡◌, ℕ, suc, ◌+◌, ◌<◌, Bool, false, List, [], ◌∷◌, ◌++◌, append-nil, length, length-append, Option, Some, None, if◌then◌else◌, refl, sym, ap, ◌∙◌, arith}
 use Rattle.std.proofs.lemmas.Bool.{eq-eqb, ne_eqb}
 use Rattle.flat_code.specs.Instr.{Instr}
 use Rattle.stl_ast.specs.Statements.{is_empty}
 use Rattle.stl_ast.specs.declared.statements.Statement.{Statement}
 use Rattle.stl_types.specs.Context.{Context}
-use Rattle.stl_codegen.specs.Compiled.{Stated, StatedBlock, compiled, lines_in}
+use Rattle.stl_codegen.specs.Compiled.{Stated, compiled, lines_in}
 use Rattle.stl_codegen.specs.Generated.{stated_from}
 use Rattle.stl_codegen.specs.Instruction.{instruction}
 use Rattle.stl_list.specs.Lines.{line_at}
 use Rattle.stl_list.specs.Runs.{Run}
-use Rattle.stl_list.specs.Signatures.{Signature}
 use Rattle.stl_list.specs.Statements.{Surroundings, body_of, label_at, label_of_end, statement, statement_at, statements_from, surroundings}
 use Rattle.listing_laws.specs.ListedBodies.{AreBodiesKept, AreKeptFrom}
 use Rattle.listing_laws.specs.Statements.{offset_in, run_of}
@@ -42,7 +40,7 @@ all_stated c body sur f k [] last size lines kept = last_stated c body sur k k (
 all_stated c body sur f k (s ∷ ss) last size lines (some, is, kept) =
     next_stated c body sur k (run_of f s.instr) (statements_from sur (suc k) (run_all f (ss ++ last ∷ []))) (omega (arith, size)) some
     ∙ ap (λ (xs : List Stated). record { instr = instruction c body k (statement sur k (run_of f s.instr)); line = line_at sur.lines k } ∷ xs)
-        (all_stated c body sur f (suc k) ss last (omega (arith, size)) (λ j. ap (line_at sur.lines) (one_more k j) ∙ lines (suc j)) kept)
+    (all_stated c body sur f (suc k) ss last (omega (arith, size)) (λ j. ap (line_at sur.lines) (one_more k j) ∙ lines (suc j)) kept)
     ∙ ap (λ (i : Instr). stated i (line_at sur.lines k) ∷ ss) is
     ∙ ap (λ (line : ℕ). stated s.instr line ∷ ss) (ap (line_at sur.lines) (none_more k) ∙ lines 0)
   where
