@@ -145,7 +145,7 @@ operand_words : (f : ℕ → ℕ) (op_code : ℕ) (o : Operand) → word_by op_c
 operand_words f op_code (operand.Jump kind target) = refl
 operand_words f op_code _ = refl
 
-same_word : (f : ℕ → ℕ) (i : Instr) → mnemonic_of (run_of f i).op ≡ mnemonic_of (run_of (λ n. n) i).op
+pub same_word : (f : ℕ → ℕ) (i : Instr) → mnemonic_of (run_of f i).op ≡ mnemonic_of (run_of (λ n. n) i).op
 same_word f (Does use_db w o) = operand_words f (code_of w) o
 same_word f (Jumps how target) = refl
 same_word f (JumpsByList targets otherwise) = refl

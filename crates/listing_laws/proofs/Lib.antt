@@ -17,3 +17,4 @@ mod SymbolOrderLemmas
 mod WordLemmas
 mod called
 pub mod declared
+mod ruled

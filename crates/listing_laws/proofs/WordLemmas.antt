@@ -284,7 +284,7 @@ end_has ends.Bec = refl
 end_has ends.Beu = refl
 
 -- no operand of an instruction that goes on is a jump's
-abbrev IsPlain : FlatOperand → Type 0
+abbrev pub IsPlain : FlatOperand → Type 0
 IsPlain o = (op_code : ℕ) → word_by op_code o ≡ word_of op_code
 
 register_plain : (which : Register) → IsPlain (register_operand which)
@@ -300,7 +300,7 @@ numbered_plain numbered.Counter from byte n = refl
 numbered_plain numbered.Db from byte n = refl
 numbered_plain numbered.Di from byte n = refl
 
-operand_plain : (o : Operand) (v : ResolvedOperand) → IsPlain (operand_of o v)
+pub operand_plain : (o : Operand) (v : ResolvedOperand) → IsPlain (operand_of o v)
 unfolding operand_of
 operand_plain o (view.Register which) n = register_plain which n
 operand_plain o (view.NumberBy what from byte) n = numbered_plain what from byte n

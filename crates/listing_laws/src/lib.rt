@@ -2,7 +2,9 @@
 //! statements, lines, labels and blocks are those of the program.
 #![tactic(auto)]
 
+mod bodies;
 mod called_names;
+mod calling;
 mod calls;
 mod chains;
 mod data_bytes;
@@ -11,12 +13,17 @@ mod fitting;
 mod handed_on;
 mod heads;
 mod ids;
+mod instructions;
 mod jumps;
+mod label_rules;
 mod labels;
 mod laws;
 mod lines;
 mod listed;
 mod names;
+mod nesting;
+mod operands;
+mod own_parameters;
 mod owned;
 mod passings;
 mod rules;
@@ -24,7 +31,9 @@ mod source_types;
 mod statements;
 mod steps;
 
+pub use bodies::law_of_listed_bodies;
 pub use called_names::law_of_called_names;
+pub use calling::law_of_listed_bare_calls;
 pub use calls::law_of_listed_calls;
 pub use chains::law_of_listed_chains;
 pub use data_bytes::law_of_listed_bytes;
@@ -33,12 +42,17 @@ pub use fitting::law_of_fitting_passings;
 pub use handed_on::law_of_handed_types;
 pub use heads::law_of_listed_heads;
 pub use ids::law_of_listed_ids;
+pub use instructions::law_of_listed_instructions;
 pub use jumps::law_of_listed_jumps;
+pub use label_rules::law_of_label_rules;
 pub use labels::law_of_listed_labels;
 pub use laws::law_of_listed_trees;
 pub use lines::law_of_listed_lines;
 pub use listed::law_of_listed_parameters;
 pub use names::law_of_listed_names;
+pub use nesting::law_of_nestings;
+pub use operands::law_of_listed_operands;
+pub use own_parameters::law_of_own_parameters;
 pub use owned::law_of_own_types;
 pub use passings::law_of_listed_passings;
 pub use rules::law_of_right_declarations;

@@ -1,0 +1,206 @@
+-- The calls of a listing that pass nothing.
+use Rattle.std.proofs.Common.{◌≡◌, ℕ, zero, suc, Bool, true, false, List, [], ◌∷◌, Option, Some, None, if◌then◌else◌, refl, sym, ap, ◌∙◌, arith}
+use Rattle.std.proofs.lemmas.Bool.{ne_eqb}
+use Rattle.plc_base.specs.Kinds.{is_callable, is_function_block, is_system_function, kind_number}
+use Rattle.plc_base.specs.declared.blocks.BlockId.{BlockId}
+use Rattle.plc_base.specs.declared.blocks.BlockKind.{BlockKind}
+use Rattle.plc_base.specs.declared.blocks.BlockKind.TheVariants as kinds
+use Rattle.flat_code.specs.Instr.{Calls, Passing}
+use Rattle.flat_code.specs.declared.operations.CallOperation.{CallOperation}
+use Rattle.stl_ast.specs.Statements.{is_called}
+use Rattle.stl_ast.specs.declared.mnemonics.Mnemonic.{Mnemonic}
+use Rattle.stl_ast.specs.declared.mnemonics.Mnemonic.TheVariants as code
+use Rattle.stl_ast.specs.declared.names.BlockName.{BlockName}
+use Rattle.stl_ast.specs.declared.names.BlockName.TheVariants as block
+use Rattle.stl_ast.specs.declared.operands.Operand.{Operand}
+use Rattle.stl_ast.specs.declared.operands.Operand.TheVariants as operand
+use Rattle.stl_ast.specs.declared.statements.Actual.{Actual}
+use Rattle.stl_ast.specs.declared.statements.Statement.{Statement}
+use Rattle.block_layout.specs.Blocks.{named_block}
+use Rattle.stl_types.specs.Context.{Context, data_number, whole_place}
+use Rattle.stl_types.specs.Forms.{form_of}
+use Rattle.stl_types.specs.Kinds.{is_called as is_called_view}
+use Rattle.stl_types.specs.Operands.{operand_rule, rule_of, rule_seen, statement_rule, takes}
+use Rattle.stl_types.specs.Parameters.{Callee, callee_of}
+use Rattle.stl_types.specs.Resolution.{called_seen, id_at, instance_number, seen, whole_block}
+use Rattle.stl_types.specs.Resolved.{resolved}
+use Rattle.stl_types.specs.declared.forms.OperandRule.{OperandRule}
+use Rattle.stl_types.specs.declared.parameters.Formal.{Formal}
+use Rattle.stl_types.specs.declared.views.Resolution.TheVariants.{Resolved}
+use Rattle.stl_types.specs.declared.views.ResolvedOperand.{ResolvedOperand}
+use Rattle.stl_types.specs.declared.views.ResolvedOperand.TheVariants as view
+use Rattle.stl_codegen.specs.Emitted.{instance_number as instance_of}
+use Rattle.stl_codegen.specs.Instruction.{block_at, in_order, instr_by, instruction, passings_to, resolved_instr, view_instr}
+use Rattle.stl_codegen.specs.Operations.{call_of, jump_of}
+use Rattle.stl_codegen.specs.Passed.{passings_from}
+use Rattle.stl_list.specs.Actuals.{actuals_by}
+use Rattle.stl_list.specs.Joined.{called_id}
+use Rattle.stl_list.specs.Operands.{data_block_name, instance_name, operand_by, plain_operand}
+use Rattle.stl_list.specs.Statements.{Surroundings, statement}
+use Rattle.listing_laws.specs.Calling.{AreCalledAgain, AreCallsKept}
+use Rattle.listing_laws.specs.Instructions.{HasAgain, IsKept}
+use Rattle.listing_laws.specs.Statements.{run_of}
+use Rattle.listing_laws.proofs.WordLemmas.{call_words_found}
+use Rattle.listing_laws.proofs.ruled.Instructions.{resolves, rule_broken, what_seen}
+use Rattle.listing_laws.proofs.ruled.Rules.{taken_view}
+
+-- ---- nothing is passed
+
+none_from : (c : Context) (index : ℕ) (fs : List Formal) → passings_from c [] index fs ≡ []
+none_from c index [] = refl
+none_from c index (f ∷ fs) = none_from c (suc index) fs
+
+none_passed : (c : Context) (s : Statement) (callee : Option Callee) → s.actuals ≡ [] → passings_to c s callee ≡ []
+none_passed c s None h = refl
+none_passed c s (Some callee) h =
+    let fs : List Formal = in_order (block_at c.blocks callee.place) callee.formals in
+    ap (λ (actuals : List Actual). passings_from c actuals 0 fs) h ∙ none_from c 0 fs
+
+pub no_jump : (m : Mnemonic) (how : CallOperation) → call_of m ≡ Some how → jump_of m ≡ None
+no_jump code.Call how h = refl
+no_jump code.Uc how h = refl
+no_jump code.Cc how h = refl
+no_jump _ how h = absurd cc
+
+calls_to : (c : Context) (body : List Statement) (n : ℕ) (s : Statement) (how : CallOperation) (id : BlockId) (instance : Option ℕ) → call_of s.code ≡ Some how → s.actuals ≡ [] → resolved c s ≡ Some (view.Called id instance)
+    → instruction c body n s ≡ Calls how id instance []
+unfolding instruction
+calls_to c body n s how id instance h none e =
+    ap (instr_by c body n s) (no_jump s.code how h) ∙ ap (resolved_instr c s) e ∙ ap (view_instr c s (view.Called id instance)) h
+    ∙ ap (λ (ps : List Passing). Calls how id instance ps) (none_passed c s (callee_of c s.operand) none)
+
+-- ---- the block that is called
+
+pub same_kind : (m : Mnemonic) (how : CallOperation) (v : ResolvedOperand) → call_of m ≡ Some how → takes (form_of m) v ≡ true → is_called_view v ≡ true
+unfolding takes form_of
+same_kind code.Call how v h e = e
+same_kind code.Uc how v h e = e
+same_kind code.Cc how v h e = e
+same_kind _ how v h e = absurd cc
+
+callable_again : (kind : BlockKind) (number : ℕ) → is_callable kind ≡ true → called_id (kind_number kind) number ≡ record { kind = kind; number = number }
+callable_again kinds.Fc number h = refl
+callable_again kinds.Fb number h = refl
+callable_again kinds.Sfc number h = refl
+callable_again kinds.Ob number h = refl
+callable_again _ number h = absurd cc
+
+block_again : (kind : BlockKind) (number : ℕ) → is_function_block kind ≡ true → called_id (kind_number kind) number ≡ record { kind = kind; number = number }
+block_again kinds.Fb number h = refl
+block_again _ number h = absurd cc
+
+id_again : (id : BlockId) (instance : Option ℕ) → is_called_view (view.Called id instance) ≡ true → called_id (kind_number id.kind) id.number ≡ id
+id_again id None h = callable_again id.kind id.number h
+id_again id (Some number) h = block_again id.kind id.number h
+
+named_id : (i id : BlockId) (b : Bool) (place : Option ℕ) → (if b then Some i else id_at i place) ≡ Some id → i ≡ id
+named_id i id true place e = cc
+named_id i id false None e = absurd cc
+named_id i id false (Some p) e = cc
+
+whole_id : (c : Context) (x : Option BlockId) (id : BlockId) → whole_block c x ≡ Some id → whole_block c (Some id) ≡ Some id
+whole_id c None id e = absurd cc
+whole_id c (Some i) id e = ap (λ (y : BlockId). whole_block c (Some y)) (sym (named_id i id (is_system_function i.kind) (whole_place c i) e)) ∙ e
+
+-- ---- its instance
+
+abbrev IsInstanceAgain : Context → Option ℕ → Type 0
+IsInstanceAgain listed None = Unit {0}
+IsInstanceAgain listed (Some number) = data_number listed (data_block_name number) ≡ Some number
+
+-- no data block has the number 0
+no_zero : (listed : Context) → data_number listed (data_block_name 0) ≡ Some 0 → ⊥
+no_zero listed e = no e
+  where
+    no : None ≡ Some zero → ⊥
+    no e = absurd cc
+
+named_instance : (listed : Context) (number : ℕ) → data_number listed (data_block_name number) ≡ Some number → instance_name number ≡ Some (data_block_name number)
+named_instance listed zero e = absurd (no_zero listed e)
+named_instance listed (suc n) e = rw (ne_eqb (suc n) 0 (λ h. omega (arith, h))) refl
+
+called_again : (listed : Context) (id : BlockId) (instance : Option ℕ) → whole_block listed (Some id) ≡ Some id → IsInstanceAgain listed instance
+    → seen listed (operand.Called (block.Number id) (instance_name (instance_of instance))) ≡ Resolved (view.Called id instance)
+unfolding seen
+called_again listed id None h k = ap (λ (x : Option BlockId). called_seen x None None) h
+called_again listed id (Some number) h k =
+    ap (λ (x : Option BlockName). called_seen (whole_block listed (Some id)) x (instance_number listed x)) (named_instance listed number k)
+    ∙ ap (λ (x : Option BlockId). called_seen x (Some (data_block_name number)) (data_number listed (data_block_name number))) h
+    ∙ ap (called_seen (Some id) (Some (data_block_name number))) k
+
+-- ---- the statement
+
+-- what a call sees stands in the listing
+record StandsCalled (listed : Context) (v : ResolvedOperand) : Type 0 where
+  id : BlockId
+  instance : Option ℕ
+  is : v ≡ view.Called id instance
+  whole : whole_block listed (Some id) ≡ Some id
+  again : IsInstanceAgain listed instance
+
+view_is : (y w : ResolvedOperand) → Resolved y ≡ Resolved w → w ≡ y
+view_is y w e = cc
+
+found_called : (c listed : Context) (formals : List Formal) (x : Option BlockId) (named : Option BlockName) (v : ResolvedOperand) → HasAgain c listed formals → AreCalledAgain c listed
+    → called_seen (whole_block c x) named (instance_number c named) ≡ Resolved v → StandsCalled listed v
+found_called c listed formals x named v has called e = by (whole_block c x) named (instance_number c named) refl refl e
+  where
+    by : (y : Option BlockId) (i : Option BlockName) (number : Option ℕ) → whole_block c x ≡ y → instance_number c i ≡ number → called_seen y i number ≡ Resolved v → StandsCalled listed v
+    by None i number g k e = absurd cc
+    by (Some id) None number g k e = record { id = id; instance = None; is = view_is (view.Called id None) v e; whole = called id (whole_id c x id g); again = tt }
+    by (Some id) (Some name) None g k e = absurd cc
+    by (Some id) (Some name) (Some number) g k e =
+        record { id = id; instance = Some number; is = view_is (view.Called id (Some number)) v e; whole = called id (whole_id c x id g); again = has.data_blocks name number k }
+
+sees_called : (c listed : Context) (formals : List Formal) (o : Operand) (v : ResolvedOperand) → HasAgain c listed formals → AreCalledAgain c listed → is_called o ≡ true → seen c o ≡ Resolved v → StandsCalled listed v
+unfolding seen
+sees_called c listed formals (operand.Called name instance) v has called is e = found_called c listed formals (named_block c.symbols name) instance v has called e
+sees_called c listed formals _ v has called is e = absurd cc
+
+pub rule_called : (c : Context) (f : OperandRule) (o : Operand) (v : ResolvedOperand) → is_called o ≡ true → operand_rule c f o ≡ None → seen c o ≡ Resolved v → rule_of f v ≡ None
+rule_called c f (operand.Called name instance) v is h e = sym (ap (rule_seen f) e) ∙ h
+rule_called c f _ v is h e = absurd cc
+
+call_operand : (sur : Surroundings) (k : ℕ) (f : ℕ → ℕ) (how : CallOperation) (id : BlockId) (instance : Option ℕ) → is_called_view (view.Called id instance) ≡ true
+    → (statement sur k (run_of f (Calls how id instance []))).operand ≡ operand.Called (block.Number id) (instance_name (instance_of instance))
+unfolding operand_by plain_operand
+call_operand sur k f how id instance h = ap (λ (i : BlockId). operand.Called (block.Number i) (instance_name (instance_of instance))) (id_again id instance h)
+
+no_actuals : (sur : Surroundings) (k : ℕ) (f : ℕ → ℕ) (how : CallOperation) (id : BlockId) (instance : Option ℕ) → (statement sur k (run_of f (Calls how id instance []))).actuals ≡ []
+unfolding actuals_by
+no_actuals sur k f how id instance = refl
+
+calls_again : (listed : Context) (sur : Surroundings) (f : ℕ → ℕ) (again : List Statement) (n k : ℕ) (m : Mnemonic) (how : CallOperation) (id : BlockId) (instance : Option ℕ)
+    → call_of m ≡ Some how → rule_of (form_of m) (view.Called id instance) ≡ None → whole_block listed (Some id) ≡ Some id → IsInstanceAgain listed instance
+    → IsKept listed again n m (Calls how id instance []) (statement sur k (run_of f (Calls how id instance [])))
+calls_again listed sur f again n k m how id instance h rule whole stands = record {
+  word = word;
+  right = right;
+  instr = calls_to listed again n listing how id instance (ap call_of word ∙ h) (no_actuals sur k f how id instance) (resolves listed listing (view.Called id instance) right (ap (seen listed) is ∙ sees));
+}
+  where
+    listing : Statement
+    listing = statement sur k (run_of f (Calls how id instance []))
+
+    word : listing.code ≡ m
+    word = call_words_found m how h
+
+    is : listing.operand ≡ operand.Called (block.Number id) (instance_name (instance_of instance))
+    is = call_operand sur k f how id instance (same_kind m how (view.Called id instance) h (taken_view (form_of m) (view.Called id instance) rule))
+
+    sees : seen listed (operand.Called (block.Number id) (instance_name (instance_of instance))) ≡ Resolved (view.Called id instance)
+    sees = called_again listed id instance whole stands
+
+    right : statement_rule listed listing ≡ None
+    right = ap (λ (x : Mnemonic). operand_rule listed (form_of x) listing.operand) word ∙ ap (operand_rule listed (form_of m)) is ∙ ap (rule_seen (form_of m)) sees ∙ rule
+
+pub calls_kept : AreCallsKept
+calls_kept c listed sur f body again n k s v how has called is none h e =
+    by (sees_called c listed sur.formals s.operand v has called is (what_seen c s v e))
+  where
+    by : StandsCalled listed v → IsKept listed again n s.code (instruction c body n s) (statement sur k (run_of f (instruction c body n s)))
+    by st =
+        let rule : rule_of (form_of s.code) (view.Called st.id st.instance) ≡ None =
+        ap (rule_of (form_of s.code)) (sym st.is) ∙ rule_called c (form_of s.code) s.operand v is (rule_broken c s v e) (what_seen c s v e) in
+        rw (calls_to c body n s how st.id st.instance h none (e ∙ ap (λ (x : ResolvedOperand). Some x) st.is))
+        (calls_again listed sur f again n k s.code how st.id st.instance h rule st.whole st.again)

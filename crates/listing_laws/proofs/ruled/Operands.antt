@@ -1,0 +1,392 @@
+-- The operand of a listed statement acts as that of the source.
+use Rattle.std.proofs.Common.{◌≡◌, ℕ, Bool, true, false, List, Option, Some, None, if◌then◌else◌, refl, sym, ap, ◌∙◌}
+use Rattle.std.specs.Prelude.{codes, nat_eq, not, option_map, ◌&&◌}
+use Rattle.plc_base.specs.declared.blocks.BlockId.{BlockId}
+use Rattle.plc_base.specs.declared.flags.Flag.{Flag}
+use Rattle.plc_base.specs.declared.places.Area.{Area}
+use Rattle.plc_base.specs.declared.places.Area.TheVariants as area
+use Rattle.plc_base.specs.declared.places.Place.{Place}
+use Rattle.plc_base.specs.declared.places.Width.{Width}
+use Rattle.flat_code.proofs.CodeLemmas.{flag_again, operation_again}
+use Rattle.flat_code.specs.Kinds.{condition_of, flag_of}
+use Rattle.flat_code.specs.Operations.{operation_of}
+use Rattle.flat_code.specs.OpCodes.{code_of}
+use Rattle.flat_code.specs.declared.operands.Operand.TheVariants as flat
+use Rattle.flat_code.specs.declared.operations.Operation.{Operation}
+use Rattle.stl_ast.specs.declared.blocks.PartKind.{PartKind}
+use Rattle.stl_ast.specs.declared.declarations.Simple.{Simple}
+use Rattle.stl_ast.specs.declared.literals.Literal.{Literal}
+use Rattle.stl_ast.specs.declared.mnemonics.Mnemonic.{Mnemonic}
+use Rattle.stl_ast.specs.declared.mnemonics.Mnemonic.TheVariants as code
+use Rattle.stl_ast.specs.declared.operands.Numbered.{Numbered}
+use Rattle.stl_ast.specs.declared.operands.Numbered.TheVariants as numbered
+use Rattle.stl_ast.specs.declared.operands.Operand.{Operand}
+use Rattle.stl_ast.specs.declared.operands.Operand.TheVariants as operand
+use Rattle.block_layout.specs.Offsets.{width_of}
+use Rattle.stl_types.specs.Addresses.{address_in, area_left, area_of, side_of}
+use Rattle.stl_types.specs.Constants.{takes_constant}
+use Rattle.stl_types.specs.Context.{Context}
+use Rattle.stl_types.specs.Forms.{form_of}
+use Rattle.stl_types.specs.Operands.{has_width, is_on_wrong_side, operand_rule, rule_of, rule_seen, takes, writes as form_writes}
+use Rattle.stl_types.specs.Resolution.{opened_seen, register_of as register_named, seen}
+use Rattle.stl_types.specs.declared.forms.OperandRule.{OperandRule}
+use Rattle.stl_types.specs.declared.forms.OperandRule.TheVariants as form
+use Rattle.stl_types.specs.declared.parameters.Formal.{Formal}
+use Rattle.stl_types.specs.declared.views.Register.{Register}
+use Rattle.stl_types.specs.declared.views.Register.TheVariants as register
+use Rattle.stl_types.specs.declared.views.Resolution.TheVariants.{Resolved}
+use Rattle.stl_types.specs.declared.views.ResolvedOperand.{ResolvedOperand}
+use Rattle.stl_types.specs.declared.views.ResolvedOperand.TheVariants as view
+use Rattle.stl_types.specs.declared.views.Side.{Side}
+use Rattle.stl_codegen.specs.Compiled.{aimed}
+use Rattle.stl_codegen.specs.Emitted.{opening}
+use Rattle.stl_codegen.specs.Operands.{is_db, numbered_operand, opened_by, opened_by_place, operand_of, register_operand}
+use Rattle.stl_codegen.specs.Operations.{call_of, jump_of, operation_for}
+use Rattle.stl_list.specs.Constants.{instruction_constant}
+use Rattle.stl_list.specs.Operands.{data_block_name, direct_operand, implied_operand, letters_of, opened_by as opened_first, operand_by, own_parameter, plain_operand, read_letters, writes}
+use Rattle.listing_laws.specs.Operands.{AreOperandsKept, IsActedAgain, IsCoded, IsConstantSeen, IsOpenedAgain, IsParameterAgain, StandsAgain}
+use Rattle.listing_laws.proofs.ruled.Constants.{constant_again, pointer_acts}
+use Rattle.listing_laws.proofs.ruled.Rules.{IsOther, is_taken, no_adding, none_broken, taken_view, unchanged}
+
+-- ---- areas
+
+area_again : (w : Bool) (a : Area) → area_of (letters_of w a) ≡ a
+area_again true area.P = refl
+area_again false area.P = refl
+area_again w area.I = refl
+area_again w area.Q = refl
+area_again w area.M = refl
+area_again w area.Db = refl
+area_again w area.Di = refl
+area_again w area.L = refl
+
+any_area_again : (a : Option Area) → area_left (option_map read_letters a) ≡ a
+any_area_again None = refl
+any_area_again (Some a) = ap (λ (x : Area). Some x) (area_again false a)
+
+-- what writes a place in a listing writes it in a source
+writes_place : (m : Mnemonic) (o : Operand) (place : Place) (width : Width) (side : Side) (declared : Option Simple) → rule_of (form_of m) (view.Direct place width side declared) ≡ None
+    → writes (operation_for m o (view.Direct place width side declared)) ≡ form_writes (form_of m)
+unfolding operation_for form_of
+writes_place code.Add o place width side declared h = absurd (no_adding (view.Direct place width side declared) h)
+writes_place _ o place width side declared h = refl
+
+right_side : (f : OperandRule) (a : Area) (w : Bool) (place : Place) (width : Width) → w ≡ form_writes f → is_on_wrong_side f (view.Direct place width (side_of (letters_of w a)) None) ≡ false
+right_side f area.P true place width e = rw (sym e) refl
+right_side f area.P false place width e = sym e
+right_side f area.I w place width e = refl
+right_side f area.Q w place width e = refl
+right_side f area.M w place width e = refl
+right_side f area.Db w place width e = refl
+right_side f area.Di w place width e = refl
+right_side f area.L w place width e = refl
+
+-- ---- a place
+
+takes_place : (f : OperandRule) (place other : Place) (width : Width) (side side2 : Side) (declared declared2 : Option Simple)
+    → takes f (view.Direct other width side2 declared2) ≡ takes f (view.Direct place width side declared)
+unfolding takes
+takes_place form.Bare place other width side side2 declared declared2 = refl
+takes_place _ place other width side side2 declared declared2 = refl
+
+place_operation : (m : Mnemonic) (o again : Operand) (place other : Place) (width : Width) (side side2 : Side) (declared declared2 : Option Simple) → rule_of (form_of m) (view.Direct place width side declared) ≡ None
+    → operation_for m again (view.Direct other width side2 declared2) ≡ operation_for m o (view.Direct place width side declared)
+unfolding operation_for
+place_operation code.Add o again place other width side side2 declared declared2 h = absurd (no_adding (view.Direct place width side declared) h)
+place_operation _ o again place other width side side2 declared declared2 h = refl
+
+never_written : (b : Bool) → (b && false) ≡ false
+never_written true = refl
+never_written false = refl
+
+place_right : (f : OperandRule) (place : Place) (other : Place) (a : Area) (w : Bool) (width : Width) (side : Side) (declared : Option Simple) → rule_of f (view.Direct place width side declared) ≡ None
+    → w ≡ form_writes f → rule_of f (view.Direct other width (side_of (letters_of w a)) None) ≡ None
+place_right f place other a w width side declared h e =
+    let parts = is_taken f (view.Direct place width side declared) h in
+    none_broken f (view.Direct other width (side_of (letters_of w a)) None) refl
+    (takes_place f place other width side (side_of (letters_of w a)) declared None ∙ parts.accepted)
+    parts.wide (right_side f a w other width e) (never_written (form_writes f))
+
+abbrev number_if : Bool → ℕ → Option ℕ
+number_if b n = if b then Some n else None
+
+none_named : (b : Bool) → number_if (b && false) 0 ≡ None
+none_named true = refl
+none_named false = refl
+
+same_number : (b : Bool) (k n : ℕ) → number_if b k ≡ Some n → k ≡ n
+same_number true k n e = cc
+same_number false k n e = absurd cc
+
+is_named : (d : Bool) (k n : ℕ) → number_if (d && not (nat_eq k 0)) k ≡ Some n → number_if (d && not (nat_eq n 0)) n ≡ Some n
+is_named d k n e = ap (λ (x : ℕ). number_if (d && not (nat_eq x 0)) x) (sym (same_number (d && not (nat_eq k 0)) k n e)) ∙ e
+
+abbrev at : Area → ℕ → Place → Place
+at a n place = record { area = a; number = n; byte = place.byte; bit = place.bit }
+
+place_operand : (o again : Operand) (place : Place) (n : ℕ) (w : Bool) (width : Width) (side side2 : Side) (declared declared2 : Option Simple)
+    → operand_of again (view.Direct (at (area_of (letters_of w place.area)) n place) width side2 declared2) ≡ operand_of o (view.Direct place width side declared)
+unfolding operand_of
+place_operand o again place n w width side side2 declared declared2 = ap (λ (a : Area). flat.Direct a width place.byte place.bit) (area_again w place.area)
+
+place_again : (c : Context) (m : Mnemonic) (o : Operand) (place : Place) (width : Width) (side : Side) (declared : Option Simple) → rule_of (form_of m) (view.Direct place width side declared) ≡ None
+    → IsOpenedAgain c (opened_by_place place) → (w : Bool) → w ≡ form_writes (form_of m)
+    → IsActedAgain c m o (direct_operand (opened_by_place place) w place.area width place.byte place.bit) (view.Direct place width side declared)
+unfolding seen
+place_again c m o place width side declared h k w e = by (opened_by_place place) refl k
+  where
+    by : (found : Option ℕ) → opened_by_place place ≡ found → IsOpenedAgain c found → IsActedAgain c m o (direct_operand found w place.area width place.byte place.bit) (view.Direct place width side declared)
+    by None g k = record {
+      found = view.Direct (at (area_of (letters_of w place.area)) 0 place) width (side_of (letters_of w place.area)) None;
+      sees = refl;
+      right = place_right (form_of m) place (at (area_of (letters_of w place.area)) 0 place) place.area w width side declared h e;
+      opened = none_named (is_db (area_of (letters_of w place.area))) ∙ sym g;
+      operation = place_operation m o _ place (at (area_of (letters_of w place.area)) 0 place) width side (side_of (letters_of w place.area)) declared None h;
+      operand = place_operand o _ place 0 w width side (side_of (letters_of w place.area)) declared None;
+    }
+    by (Some n) g k =
+        let sees : seen c (direct_operand (Some n) w place.area width place.byte place.bit) ≡ Resolved (view.Direct (at (area_of (letters_of w place.area)) n place) width (side_of (letters_of w place.area)) None) =
+        ap (λ (x : Option ℕ). address_in x (letters_of w place.area) width place.byte place.bit) k in
+        record {
+          found = view.Direct (at (area_of (letters_of w place.area)) n place) width (side_of (letters_of w place.area)) None;
+          sees = sees;
+          right = ap (rule_seen (form_of m)) sees ∙ place_right (form_of m) place (at (area_of (letters_of w place.area)) n place) place.area w width side declared h e;
+          opened = ap (λ (a : Area). opened_by_place (at a n place)) (area_again w place.area) ∙ is_named (is_db place.area) place.number n g ∙ sym g;
+          operation = place_operation m o _ place (at (area_of (letters_of w place.area)) n place) width side (side_of (letters_of w place.area)) declared None h;
+          operand = place_operand o _ place n w width side (side_of (letters_of w place.area)) declared None;
+        }
+
+-- ---- a parameter
+
+takes_parameter : (f : OperandRule) (index : ℕ) (section section2 : PartKind) (kind kind2 : Simple) → takes f (view.Parameter index section2 kind2) ≡ takes f (view.Parameter index section kind)
+unfolding takes
+takes_parameter form.Bare index section section2 kind kind2 = refl
+takes_parameter _ index section section2 kind kind2 = refl
+
+parameter_operation : (m : Mnemonic) (o again : Operand) (index : ℕ) (section section2 : PartKind) (kind kind2 : Simple) → rule_of (form_of m) (view.Parameter index section kind) ≡ None
+    → operation_for m again (view.Parameter index section2 kind2) ≡ operation_for m o (view.Parameter index section kind)
+unfolding operation_for
+parameter_operation code.Add o again index section section2 kind kind2 h = absurd (no_adding (view.Parameter index section kind) h)
+parameter_operation _ o again index section section2 kind kind2 h = refl
+
+parameter_operand : (o again : Operand) (index : ℕ) (section section2 : PartKind) (kind kind2 : Simple) → width_of kind2 ≡ width_of kind
+    → operand_of again (view.Parameter index section2 kind2) ≡ operand_of o (view.Parameter index section kind)
+unfolding operand_of
+parameter_operand o again index section section2 kind kind2 h = ap (flat.Parameter index) h
+
+parameter_again : (c : Context) (m : Mnemonic) (o : Operand) (formals : List Formal) (index : ℕ) (section : PartKind) (kind : Simple) → rule_of (form_of m) (view.Parameter index section kind) ≡ None
+    → IsParameterAgain c formals index section kind → IsActedAgain c m o (own_parameter formals index) (view.Parameter index section kind)
+unfolding seen
+parameter_again c m o formals index section kind h k =
+    let parts = is_taken (form_of m) (view.Parameter index section kind) h in
+    let sees : seen c (own_parameter formals index) ≡ Resolved (view.Parameter index k.section_again k.kind_again) = k.named in
+    record {
+      found = view.Parameter index k.section_again k.kind_again;
+      sees = sees;
+      right =
+          ap (rule_seen (form_of m)) sees
+          ∙ none_broken (form_of m) (view.Parameter index k.section_again k.kind_again) refl
+          (takes_parameter (form_of m) index section k.section_again kind k.kind_again ∙ parts.accepted)
+          (ap (λ (w : Width). has_width (form_of m) (Some w)) k.wide ∙ parts.wide)
+          refl
+          (ap (λ (b : Bool). form_writes (form_of m) && b) k.input ∙ parts.free);
+      opened = refl;
+      operation = parameter_operation m o (own_parameter formals index) index section k.section_again kind k.kind_again h;
+      operand = parameter_operand o (own_parameter formals index) index section k.section_again kind k.kind_again k.wide;
+    }
+
+-- ---- what names no place
+
+implied_nothing : (m : Mnemonic) (o : Operand) → rule_of (form_of m) view.Nothing ≡ None → implied_operand (operation_for m o view.Nothing) ≡ operand.Nothing
+unfolding operation_for
+implied_nothing code.Add o h = absurd (no_adding view.Nothing h)
+implied_nothing _ o h = refl
+
+implied_status : (m : Mnemonic) (o : Operand) → takes (form_of m) (view.Register register.Stw) ≡ true → implied_operand (operation_for m o (view.Register register.Stw)) ≡ operand.Other (codes "STW")
+unfolding operation_for takes form_of
+implied_status code.L o h = refl
+implied_status code.T o h = refl
+implied_status _ o h = absurd cc
+
+implied_second : (m : Mnemonic) (o : Operand) → takes (form_of m) (view.Register register.Ar2) ≡ true → implied_operand (operation_for m o (view.Register register.Ar2)) ≡ operand.Other (codes "AR2")
+unfolding operation_for takes form_of
+implied_second code.Lar1 o h = refl
+implied_second code.Tar1 o h = refl
+implied_second _ o h = absurd cc
+
+no_label : (m : Mnemonic) → jump_of m ≡ None → takes (form_of m) view.Label ≡ true → ⊥
+unfolding takes form_of
+no_label code.Ju h e = absurd cc
+no_label _ h e = absurd cc
+
+no_call : (m : Mnemonic) (id : BlockId) (instance : Option ℕ) → call_of m ≡ None → takes (form_of m) (view.Called id instance) ≡ true → ⊥
+unfolding takes form_of
+no_call code.Call id instance h e = absurd cc
+no_call _ id instance h e = absurd cc
+
+no_block : (f : OperandRule) → takes f view.Block ≡ true → ⊥
+unfolding takes
+no_block form.Bare e = absurd cc
+no_block _ e = absurd cc
+
+open_dblg : (m : Mnemonic) (o : Operand) → takes (form_of m) (view.Register register.Dblg) ≡ true → instruction_constant (operation_for m o (view.Register register.Dblg)) 0 ≡ operand.Other (codes "DBLG")
+unfolding operation_for takes form_of
+open_dblg code.L o h = refl
+open_dblg _ o h = absurd cc
+
+open_dbno : (m : Mnemonic) (o : Operand) → takes (form_of m) (view.Register register.Dbno) ≡ true → instruction_constant (operation_for m o (view.Register register.Dbno)) 1 ≡ operand.Other (codes "DBNO")
+unfolding operation_for takes form_of
+open_dbno code.L o h = refl
+open_dbno _ o h = absurd cc
+
+open_dilg : (m : Mnemonic) (o : Operand) → takes (form_of m) (view.Register register.Dilg) ≡ true → instruction_constant (operation_for m o (view.Register register.Dilg)) 2 ≡ operand.Other (codes "DILG")
+unfolding operation_for takes form_of
+open_dilg code.L o h = refl
+open_dilg _ o h = absurd cc
+
+open_dino : (m : Mnemonic) (o : Operand) → takes (form_of m) (view.Register register.Dino) ≡ true → instruction_constant (operation_for m o (view.Register register.Dino)) 3 ≡ operand.Other (codes "DINO")
+unfolding operation_for takes form_of
+open_dino code.L o h = refl
+open_dino _ o h = absurd cc
+
+-- an operand that is another by an equation
+moved : (c : Context) (m : Mnemonic) (o again other : Operand) (v : ResolvedOperand) → again ≡ other → IsActedAgain c m o other v → IsActedAgain c m o again v
+moved c m o again other v e h = rw e h
+
+named_again : (c : Context) (m : Mnemonic) (o again : Operand) (name : List ℕ) (which : Register) → rule_of (form_of m) (view.Register which) ≡ None → again ≡ operand.Other name → register_named name ≡ which
+    → IsActedAgain c m o again (view.Register which)
+unfolding seen
+named_again c m o again name which h e k = moved c m o again (operand.Other name) (view.Register which) e (unchanged c m o (operand.Other name) (view.Register which) tt h refl (ap (λ (r : Register). Resolved (view.Register r)) k))
+
+register_again : (c : Context) (m : Mnemonic) (o : Operand) (formals : List Formal) (starts : List ℕ) (f : ℕ → ℕ) (which : Register) → rule_of (form_of m) (view.Register which) ≡ None
+    → takes (form_of m) (view.Register which) ≡ true
+    → IsActedAgain c m o (operand_by formals starts None (operation_for m o (view.Register which)) (aimed f (register_operand which))) (view.Register which)
+unfolding operand_by
+register_again c m o formals starts f register.Stw h e = named_again c m o _ (codes "STW") register.Stw h (implied_status m o e) refl
+register_again c m o formals starts f register.Ar2 h e = named_again c m o _ (codes "AR2") register.Ar2 h (implied_second m o e) refl
+register_again c m o formals starts f register.Dblg h e = named_again c m o _ (codes "DBLG") register.Dblg h (open_dblg m o e) refl
+register_again c m o formals starts f register.Dbno h e = named_again c m o _ (codes "DBNO") register.Dbno h (open_dbno m o e) refl
+register_again c m o formals starts f register.Dilg h e = named_again c m o _ (codes "DILG") register.Dilg h (open_dilg m o e) refl
+register_again c m o formals starts f register.Dino h e = named_again c m o _ (codes "DINO") register.Dino h (open_dino m o e) refl
+
+number_seen : (c : Context) (what : Numbered) (from : Area) (byte : ℕ) → seen c (operand.NumberBy what (read_letters from) byte) ≡ Resolved (view.NumberBy what from byte)
+unfolding seen
+number_seen c what from byte = ap (λ (a : Area). Resolved (view.NumberBy what a byte)) (area_again false from)
+
+number_again : (c : Context) (m : Mnemonic) (o : Operand) (formals : List Formal) (starts : List ℕ) (f : ℕ → ℕ) (what : Numbered) (from : Area) (byte : ℕ) → rule_of (form_of m) (view.NumberBy what from byte) ≡ None
+    → IsActedAgain c m o (operand_by formals starts None (operation_for m o (view.NumberBy what from byte)) (aimed f (numbered_operand what from byte))) (view.NumberBy what from byte)
+unfolding operand_by plain_operand
+number_again c m o formals starts f numbered.Timer from byte h = unchanged c m o (operand.NumberBy numbered.Timer (read_letters from) byte) (view.NumberBy numbered.Timer from byte) tt h refl (number_seen c numbered.Timer from byte)
+number_again c m o formals starts f numbered.Counter from byte h = unchanged c m o (operand.NumberBy numbered.Counter (read_letters from) byte) (view.NumberBy numbered.Counter from byte) tt h refl (number_seen c numbered.Counter from byte)
+number_again c m o formals starts f numbered.Db from byte h = unchanged c m o (operand.NumberBy numbered.Db (read_letters from) byte) (view.NumberBy numbered.Db from byte) tt h refl (number_seen c numbered.Db from byte)
+number_again c m o formals starts f numbered.Di from byte h = unchanged c m o (operand.NumberBy numbered.Di (read_letters from) byte) (view.NumberBy numbered.Di from byte) tt h refl (number_seen c numbered.Di from byte)
+
+opened_again : (c : Context) (m : Mnemonic) (o : Operand) (di : Bool) (number : ℕ) → rule_of (form_of m) (view.OpenBlock di number) ≡ None → IsOpenedAgain c (Some number)
+    → IsActedAgain c m o (operand.OpenBlock di (data_block_name number)) (view.OpenBlock di number)
+unfolding seen
+opened_again c m o di number h k = unchanged c m o (operand.OpenBlock di (data_block_name number)) (view.OpenBlock di number) tt h refl (ap (opened_seen di) k)
+
+memory_seen : (c : Context) (a from : Area) (width : Width) (byte : ℕ) → seen c (operand.ByMemory (read_letters a) width (read_letters from) byte) ≡ Resolved (view.ByMemory a width from byte)
+unfolding seen
+memory_seen c a from width byte = rw (area_again false a, area_again false from) refl
+
+register_seen : (c : Context) (a : Option Area) (width : Width) (register bits : ℕ) → seen c (operand.ByRegister (option_map read_letters a) width register bits) ≡ Resolved (view.ByRegister a width register bits)
+unfolding seen
+register_seen c a width register bits = ap (λ (x : Option Area). Resolved (view.ByRegister x width register bits)) (any_area_again a)
+
+status_seen : (c : Context) (flag : Flag) → seen c (operand.OfStatus (flag_of (condition_of flag))) ≡ Resolved (view.OfStatus flag)
+unfolding seen
+status_seen c flag = ap (λ (x : Flag). Resolved (view.OfStatus x)) (flag_again flag)
+
+-- ---- all that is no constant
+
+by_view : (c : Context) (formals : List Formal) (starts : List ℕ) (f : ℕ → ℕ) (m : Mnemonic) (o : Operand) (v : ResolvedOperand)
+    → jump_of m ≡ None → call_of m ≡ None → rule_of (form_of m) v ≡ None → IsOther v → StandsAgain c formals v
+    → IsActedAgain c m o (operand_by formals starts (opened_by v) (operation_for m o v) (aimed f (operand_of o v))) v
+unfolding operand_by plain_operand operand_of seen
+by_view c formals starts f m o view.Nothing jumps calls h other k = moved c m o _ operand.Nothing view.Nothing (implied_nothing m o h) (unchanged c m o operand.Nothing view.Nothing tt h refl refl)
+by_view c formals starts f m o (view.Direct place width side declared) jumps calls h other k =
+    place_again c m o place width side declared h k (writes (operation_for m o (view.Direct place width side declared))) (writes_place m o place width side declared h)
+by_view c formals starts f m o (view.Parameter index section declared) jumps calls h other k = parameter_again c m o formals index section declared h k
+by_view c formals starts f m o view.Composite jumps calls h other k = let e = (is_taken (form_of m) view.Composite h).elementary in absurd cc
+by_view c formals starts f m o view.Date jumps calls h other k = let e = (is_taken (form_of m) view.Date h).elementary in absurd cc
+by_view c formals starts f m o (view.ByMemory a width from byte) jumps calls h other k =
+    unchanged c m o (operand.ByMemory (read_letters a) width (read_letters from) byte) (view.ByMemory a width from byte) tt h refl (memory_seen c a from width byte)
+by_view c formals starts f m o (view.ByRegister a width register bits) jumps calls h other k =
+    unchanged c m o (operand.ByRegister (option_map read_letters a) width register bits) (view.ByRegister a width register bits) tt h refl (register_seen c a width register bits)
+by_view c formals starts f m o (view.Timer number) jumps calls h other k = unchanged c m o (operand.Timer number) (view.Timer number) tt h refl refl
+by_view c formals starts f m o (view.Counter number) jumps calls h other k = unchanged c m o (operand.Counter number) (view.Counter number) tt h refl refl
+by_view c formals starts f m o (view.NumberBy what from byte) jumps calls h other k = number_again c m o formals starts f what from byte h
+by_view c formals starts f m o view.Constant jumps calls h other k = absurd other
+by_view c formals starts f m o (view.Pointer a byte bit) jumps calls h other k = pointer_acts c m o a byte bit k h (taken_view (form_of m) (view.Pointer a byte bit) h)
+by_view c formals starts f m o view.Label jumps calls h other k = absurd (no_label m jumps (taken_view (form_of m) view.Label h))
+by_view c formals starts f m o (view.OfStatus flag) jumps calls h other k = unchanged c m o (operand.OfStatus (flag_of (condition_of flag))) (view.OfStatus flag) tt h refl (status_seen c flag)
+by_view c formals starts f m o (view.Register which) jumps calls h other k = register_again c m o formals starts f which h (taken_view (form_of m) (view.Register which) h)
+by_view c formals starts f m o (view.OpenBlock true number) jumps calls h other k = opened_again c m o true number h k
+by_view c formals starts f m o (view.OpenBlock false number) jumps calls h other k = opened_again c m o false number h k
+by_view c formals starts f m o (view.Called id instance) jumps calls h other k = absurd (no_call m id instance calls (taken_view (form_of m) (view.Called id instance) h))
+by_view c formals starts f m o view.Block jumps calls h other k = absurd (no_block (form_of m) (taken_view (form_of m) view.Block h))
+
+-- ---- constants
+
+abbrev IsNoConstant : Operand → Type 0
+IsNoConstant (operand.Constant value) = ⊥
+IsNoConstant _ = Unit {0}
+
+pub rule_is : (c : Context) (f : OperandRule) (o : Operand) (v : ResolvedOperand) → IsNoConstant o → seen c o ≡ Resolved v → operand_rule c f o ≡ None → rule_of f v ≡ None
+rule_is c f (operand.Constant value) v n e h = absurd n
+rule_is c f _ v n e h = sym (ap (rule_seen f) e) ∙ h
+
+is_other : (o : Operand) (v : ResolvedOperand) → IsNoConstant o → IsConstantSeen o v → IsOther v
+is_other (operand.Constant value) v n h = absurd n
+is_other _ view.Constant n h = h
+is_other _ _ n h = tt
+
+abbrev rule_if : Bool → ℕ → Option ℕ
+rule_if b rule = if b then None else Some rule
+
+allowed : (b : Bool) → rule_if b 25 ≡ None → b ≡ true
+allowed true h = refl
+allowed false h = absurd cc
+
+opened_back : (x : Option ℕ) → opened_first (opening x) ≡ x
+opened_back None = refl
+opened_back (Some number) = refl
+
+constant_acts : (c listed : Context) (formals : List Formal) (starts : List ℕ) (f : ℕ → ℕ) (m : Mnemonic) (value : Literal) (v : ResolvedOperand)
+    → operand_rule c (form_of m) (operand.Constant value) ≡ None → v ≡ view.Constant → IsCoded value
+    → IsActedAgain listed m (operand.Constant value) (operand_by formals starts (opened_by v) (operation_for m (operand.Constant value) v) (aimed f (operand_of (operand.Constant value) v))) v
+unfolding operand_by operand_of
+constant_acts c listed formals starts f m value v h e k = rw e (constant_again listed m value k (allowed (takes_constant (form_of m) value) h))
+
+no_constant_acts : (c listed : Context) (formals : List Formal) (starts : List ℕ) (f : ℕ → ℕ) (m : Mnemonic) (o : Operand) (v : ResolvedOperand) → IsNoConstant o
+    → jump_of m ≡ None → call_of m ≡ None → operand_rule c (form_of m) o ≡ None → seen c o ≡ Resolved v → IsConstantSeen o v → StandsAgain listed formals v
+    → IsActedAgain listed m o (operand_by formals starts (opened_by v) (operation_for m o v) (aimed f (operand_of o v))) v
+no_constant_acts c listed formals starts f m o v n jumps calls h sees k stands =
+    by_view listed formals starts f m o v jumps calls (rule_is c (form_of m) o v n sees h) (is_other o v n k) stands
+
+by_operand : (c listed : Context) (formals : List Formal) (starts : List ℕ) (f : ℕ → ℕ) (m : Mnemonic) (o : Operand) (v : ResolvedOperand)
+    → jump_of m ≡ None → call_of m ≡ None → operand_rule c (form_of m) o ≡ None → seen c o ≡ Resolved v → IsConstantSeen o v → StandsAgain listed formals v
+    → IsActedAgain listed m o (operand_by formals starts (opened_by v) (operation_for m o v) (aimed f (operand_of o v))) v
+by_operand c listed formals starts f m (operand.Constant value) v jumps calls h sees k stands = constant_acts c listed formals starts f m value v h k.0 k.1
+by_operand c listed formals starts f m operand.Nothing v jumps calls h sees k stands = no_constant_acts c listed formals starts f m operand.Nothing v tt jumps calls h sees k stands
+by_operand c listed formals starts f m (operand.Direct name a width byte bit) v jumps calls h sees k stands = no_constant_acts c listed formals starts f m (operand.Direct name a width byte bit) v tt jumps calls h sees k stands
+by_operand c listed formals starts f m (operand.Timer number) v jumps calls h sees k stands = no_constant_acts c listed formals starts f m (operand.Timer number) v tt jumps calls h sees k stands
+by_operand c listed formals starts f m (operand.Counter number) v jumps calls h sees k stands = no_constant_acts c listed formals starts f m (operand.Counter number) v tt jumps calls h sees k stands
+by_operand c listed formals starts f m (operand.Named path steps) v jumps calls h sees k stands = no_constant_acts c listed formals starts f m (operand.Named path steps) v tt jumps calls h sees k stands
+by_operand c listed formals starts f m (operand.ByMemory a width from byte) v jumps calls h sees k stands = no_constant_acts c listed formals starts f m (operand.ByMemory a width from byte) v tt jumps calls h sees k stands
+by_operand c listed formals starts f m (operand.NumberBy what from byte) v jumps calls h sees k stands = no_constant_acts c listed formals starts f m (operand.NumberBy what from byte) v tt jumps calls h sees k stands
+by_operand c listed formals starts f m (operand.ByRegister a width register bits) v jumps calls h sees k stands = no_constant_acts c listed formals starts f m (operand.ByRegister a width register bits) v tt jumps calls h sees k stands
+by_operand c listed formals starts f m (operand.Pointer a byte bit) v jumps calls h sees k stands = no_constant_acts c listed formals starts f m (operand.Pointer a byte bit) v tt jumps calls h sees k stands
+by_operand c listed formals starts f m (operand.Label name) v jumps calls h sees k stands = no_constant_acts c listed formals starts f m (operand.Label name) v tt jumps calls h sees k stands
+by_operand c listed formals starts f m (operand.OfStatus flag) v jumps calls h sees k stands = no_constant_acts c listed formals starts f m (operand.OfStatus flag) v tt jumps calls h sees k stands
+by_operand c listed formals starts f m (operand.Other name) v jumps calls h sees k stands = no_constant_acts c listed formals starts f m (operand.Other name) v tt jumps calls h sees k stands
+by_operand c listed formals starts f m (operand.OpenBlock di name) v jumps calls h sees k stands = no_constant_acts c listed formals starts f m (operand.OpenBlock di name) v tt jumps calls h sees k stands
+by_operand c listed formals starts f m (operand.Called name instance) v jumps calls h sees k stands = no_constant_acts c listed formals starts f m (operand.Called name instance) v tt jumps calls h sees k stands
+
+pub operands_kept : AreOperandsKept
+operands_kept c listed formals starts f m o v goes h sees k stands =
+    moved listed m o _ (operand_by formals starts (opened_by v) (operation_for m o v) (aimed f (operand_of o v))) v
+    (ap (λ (x : Option ℕ). operand_by formals starts x (operation_of (code_of (operation_for m o v))) (aimed f (operand_of o v))) (opened_back (opened_by v))
+    ∙ ap (λ (w : Operation). operand_by formals starts (opened_by v) w (aimed f (operand_of o v))) (operation_again (operation_for m o v)))
+    (by_operand c listed formals starts f m o v goes.jumps goes.calls h sees k stands)

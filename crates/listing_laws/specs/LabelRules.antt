@@ -1,0 +1,37 @@
+-- The labels of a listing.
+use Rattle.std.specs.Prelude.{◌≡◌, ℕ, ◌<◌, ◌≤◌, true, List, [], length}
+use Rattle.std.specs.List.{AllByRecursion}
+use Rattle.flat_code.specs.Instr.{Instr}
+use Rattle.stl_ast.specs.declared.blocks.Block.{Block}
+use Rattle.stl_types.specs.Context.{Context}
+use Rattle.stl_types.specs.Labels.{labels_of, labels_twice, unknown_labels}
+use Rattle.stl_codegen.specs.Compiled.{StatedBlock, compiled}
+use Rattle.stl_codegen.specs.Generated.{statements_of}
+use Rattle.stl_list.specs.Signatures.{Signature}
+use Rattle.stl_list.specs.Statements.{body_of}
+use Rattle.listing_laws.specs.Statements.{jumps_to}
+
+-- no two statements of the listed body of a block have one label
+abbrev pub AreLabelsOnce : Type 0
+AreLabelsOnce =
+    (signatures : List Signature) (lines : List ℕ) (b : StatedBlock)
+    → length b.statements ≤ 93312
+    → labels_twice [] (body_of signatures lines (compiled b)) ≡ []
+
+-- a jump leads to a statement of the block
+abbrev pub LeadsWithin : (count : ℕ) → Instr → Type 0
+LeadsWithin count i = (n : ℕ) → jumps_to n i ≡ true → n < count
+
+-- and each jump of the listed body to a label that stands in it
+abbrev pub AreLabelsKnown : Type 0
+AreLabelsKnown =
+    (signatures : List Signature) (lines : List ℕ) (b : StatedBlock)
+    → AllByRecursion (λ s. LeadsWithin (length b.statements) s.instr) b.statements
+    → unknown_labels (labels_of (body_of signatures lines (compiled b)))
+    (body_of signatures lines (compiled b)) ≡ []
+
+-- the jumps of a block of a source lead to its statements, whatever it breaks
+abbrev pub AreJumpsWithin : Type 0
+AreJumpsWithin =
+    (c : Context) (b : Block)
+    → AllByRecursion (λ s. LeadsWithin (length (statements_of c b)) s.instr) (statements_of c b)
