@@ -1,6 +1,19 @@
-//! Laws of listings: the tree of a program's listing is printable.
+//! Laws of listings: the tree of a program's listing is printable, its symbols file is read back, and its
+//! statements, lines, labels and blocks are those of the program.
 #![tactic(auto)]
 
+mod heads;
+mod ids;
+mod labels;
 mod laws;
+mod lines;
+mod names;
+mod statements;
 
+pub use heads::law_of_listed_heads;
+pub use ids::law_of_listed_ids;
+pub use labels::law_of_listed_labels;
 pub use laws::law_of_listed_trees;
+pub use lines::law_of_listed_lines;
+pub use names::law_of_listed_names;
+pub use statements::law_of_listed_statements;

@@ -1,0 +1,62 @@
+-- The blocks of a listing by kind and number: those of its program, each found at its place.
+use Rattle.std.specs.Prelude.{◌≡◌, ℕ, List, [], ◌++◌, map, is_some, Some, slice_get, false}
+use Rattle.plc_base.specs.Kinds.{is_data_type}
+use Rattle.plc_base.specs.declared.blocks.BlockId.{BlockId}
+use Rattle.plc_base.specs.declared.blocks.BlockKind.TheVariants as kinds
+use Rattle.flat_code.specs.Programs.{Program}
+use Rattle.stl_ast.specs.declared.blocks.Tree.{Tree}
+use Rattle.stl_symbols.specs.Symbol.{Symbol}
+use Rattle.block_layout.specs.Blocks.{ids_of, known_block}
+use Rattle.block_layout.specs.Layouts.{layouts_of}
+use Rattle.block_layout.specs.Measures.{types_of}
+use Rattle.block_layout.specs.Rule22.{rule_22}
+use Rattle.block_layout.specs.Rule44.{rule_44}
+use Rattle.stl_codegen.specs.Generated.{program_of}
+use Rattle.stl_list.specs.CodeBlocks.{in_lines}
+use Rattle.stl_list.specs.Listing.{listed_tree}
+
+-- a data block by its number
+abbrev pub data_id : ℕ → BlockId
+data_id number = record { kind = kinds.Db; number = number }
+
+-- the blocks of a program in the order in which a listing has them
+abbrev pub program_ids : Program → List BlockId
+program_ids p =
+    map (λ b. b.id) (in_lines p.code_blocks) ++ map (λ d. data_id d.number) p.data_blocks
+
+-- a listing has the blocks of its program, whatever symbols there are
+abbrev pub AreIdsListed : Type 0
+AreIdsListed =
+    (symbols : List Symbol) (p : Program)
+    → ids_of symbols (listed_tree p).blocks ≡ map (λ id. Some id) (program_ids p)
+
+-- the program of a source
+abbrev pub source_program : Tree → List Symbol → Program
+source_program t symbols = program_of t symbols (layouts_of t symbols)
+
+-- a block that the source has, the listing has, and no other; but user-defined data types
+abbrev pub AreBlocksKept : Type 0
+AreBlocksKept =
+    (t : Tree) (symbols listed : List Symbol) (id : BlockId) → is_data_type id.kind ≡ false
+    → is_some (known_block id (ids_of listed (listed_tree (source_program t symbols)).blocks))
+    ≡ is_some (known_block id (ids_of symbols t.blocks))
+
+-- where the source has no block twice, and no number beyond the limits, each block is found at its place
+abbrev pub AreBlocksFound : Type 0
+AreBlocksFound =
+    (t : Tree) (symbols listed : List Symbol) (k : ℕ) (id : BlockId)
+    → rule_22 (types_of symbols t.blocks) t.blocks ≡ [] → rule_44 symbols t.blocks ≡ []
+    → slice_get (program_ids (source_program t symbols)) k ≡ Some id
+    → known_block id (ids_of listed (listed_tree (source_program t symbols)).blocks) ≡ Some k
+
+-- a listing has no user-defined data types to measure
+abbrev pub HasNoTypes : Type 0
+HasNoTypes =
+    (t : Tree) (symbols listed : List Symbol)
+    → types_of listed (listed_tree (source_program t symbols)).blocks
+    ≡ record {
+      symbols = listed;
+      ids = map (λ id. Some id) (program_ids (source_program t symbols));
+      depths = map (λ b. 0) (listed_tree (source_program t symbols)).blocks;
+      bits = map (λ b. 0) (listed_tree (source_program t symbols)).blocks;
+    }

@@ -1,0 +1,32 @@
+-- The lines of a listing: code blocks that stand by their lines never go back.
+use Rattle.std.specs.Prelude.{◌≡◌, ℕ, max, List, [], ◌∷◌, map}
+use Rattle.flat_code.specs.Programs.{CodeBlock}
+use Rattle.stl_ast.specs.declared.blocks.Tree.{Tree}
+use Rattle.stl_lexer.specs.Tokens.{AreTokens}
+use Rattle.stl_lexer.specs.declared.kinds.Token.{Token}
+use Rattle.stl_parser.specs.Source.{IsTree}
+use Rattle.stl_symbols.specs.Symbol.{Symbol}
+use Rattle.block_layout.specs.declared.blocks.BlockLayout.{BlockLayout}
+use Rattle.stl_codegen.specs.Compiled.{compiled}
+use Rattle.stl_codegen.specs.Generated.{code_blocks_of}
+use Rattle.stl_list.specs.CodeBlocks.{in_lines}
+use Rattle.stl_list.specs.Lines.{first_line, last_line, line_behind, lines_from}
+
+-- behind what reaches to a line, a block's statements and its END clause stand on their own lines
+pub record StandsBehind (reached : ℕ) (b : CodeBlock) : Type 0 where
+  pub lines : lines_from reached b.lines ≡ b.lines
+  pub head : max reached (first_line b) ≡ first_line b
+  pub end : line_behind reached b.lines ≡ last_line b
+
+-- and so do blocks one behind the other
+abbrev pub StandBehind : (reached : ℕ) → List CodeBlock → Type 0
+StandBehind reached [] = Unit {0}
+StandBehind reached (b ∷ bs) = StandsBehind reached b × StandBehind (last_line b) bs
+
+-- the code blocks of a source, in the order in which a listing has them
+abbrev pub AreLinesKept : Type 0
+AreLinesKept =
+    (source : List ℕ) (tokens : List Token) (t : Tree) (symbols : List Symbol)
+    (layouts : List BlockLayout)
+    → AreTokens source tokens → IsTree source tokens t
+    → StandBehind 1 (in_lines (map compiled (code_blocks_of t symbols layouts)))
