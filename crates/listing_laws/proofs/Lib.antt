@@ -1,5 +1,6 @@
 mod BlockLemmas
 mod CompiledLemmas
+mod FormLemmas
 mod HeadLemmas
 mod IdLemmas
 mod LabelLemmas
@@ -7,6 +8,7 @@ mod LineLemmas
 mod NameLemmas
 mod OperandLemmas
 mod OrderLemmas
+mod PlaceLemmas
 mod RangeLemmas
 mod RunLemmas
 mod StatementLemmas

@@ -2,18 +2,22 @@
 //! statements, lines, labels and blocks are those of the program.
 #![tactic(auto)]
 
+mod forms;
 mod heads;
 mod ids;
 mod labels;
 mod laws;
 mod lines;
 mod names;
+mod places;
 mod statements;
 
+pub use forms::law_of_listed_forms;
 pub use heads::law_of_listed_heads;
 pub use ids::law_of_listed_ids;
 pub use labels::law_of_listed_labels;
 pub use laws::law_of_listed_trees;
 pub use lines::law_of_listed_lines;
 pub use names::law_of_listed_names;
+pub use places::law_of_listed_places;
 pub use statements::law_of_listed_statements;
