@@ -1,4 +1,5 @@
 mod BlockLemmas
+mod BodyLemmas
 mod CompiledLemmas
 mod FormLemmas
 mod HeadLemmas

@@ -31,7 +31,7 @@ use Rattle.stl_codegen.specs.Generated.{code_blocks_of, program_of}
 use Rattle.stl_codegen.specs.Order.{sorted}
 use Rattle.stl_print.specs.Clauses.{line_of}
 use Rattle.stl_print.specs.Gaps.{line_behind as line_past}
-use Rattle.stl_print.specs.Trees.{begin_clauses, block_clauses, declared_from, part_clauses, structure_ends}
+use Rattle.stl_print.specs.Trees.{begin_clauses, block_clauses, declared_from, part_clauses, structure_ends, type_clauses}
 use Rattle.stl_list.specs.CodeBlocks.{in_lines, line_reached, listed_block, listed_blocks}
 use Rattle.stl_list.specs.DataBlocks.{function_block, known_settings, listed_data, listed_data_blocks}
 use Rattle.stl_list.specs.Initial.{byte_at, byte_here, byte_setting, byte_settings, parameter_here, parameter_setting, parameter_settings, settings_of, value_in, values_of}
@@ -51,7 +51,7 @@ use Rattle.listing_laws.specs.Places.{AreClausesOnLines}
 -- ---- clauses one behind the other
 
 -- the line that a text reaches behind clauses
-past : (reached : ℕ) → List Clause → ℕ
+abbrev past : (reached : ℕ) → List Clause → ℕ
 past reached cs = fold (λ r c. line_past r (line_of c)) reached cs
 
 on_joined : (reached : ℕ) (cs ds : List Clause) → AreOnLines reached cs → AreOnLines (past reached cs) ds → AreOnLines reached (cs ++ ds)
@@ -109,7 +109,7 @@ line_met reached line h le = omega (arith, h, le)
 -- ---- declarations
 
 -- a declaration on a line that opens no structure
-IsAt : ℕ → Declaration → Type 0
+abbrev IsAt : ℕ → Declaration → Type 0
 IsAt line d = (d.line ≡ line) × (structure_ends (0 - d.level) ≡ []) × (level_behind d.level d.of.of ≡ 0)
 
 declares_stay : (line : ℕ) (d : Declaration) (cs : List Clause) → 1 ≤ line → d.line ≡ line → Stays line cs → Stays line (clause.Declares d ∷ cs)
@@ -119,8 +119,8 @@ declares_stay line d cs h e k = one_stays line (clause.Declares d) cs (line_agai
 items_stay : (line : ℕ) (ds : List Declaration) → 1 ≤ line → AllByRecursion (IsAt line) ds → Stays line (declared_from 0 ds)
 items_stay line [] h all = none_stay line
 items_stay line (d ∷ ds) h (one, more) =
-    subst (λ (front : List Clause). Stays line (front ++ (clause.Declares d ∷ declared_from (level_behind d.level d.of.of) ds))) (sym one.1.0)
-    (subst (λ (level : ℕ). Stays line (clause.Declares d ∷ declared_from level ds)) (sym one.1.1) (declares_stay line d (declared_from 0 ds) h one.0 (items_stay line ds h more)))
+    subst (λ (front : List Clause). Stays line (front ++ (clause.Declares d ∷ declared_from (level_behind d.level d.of.of) ds))) (sym one.1)
+    (subst (λ (level : ℕ). Stays line (clause.Declares d ∷ declared_from level ds)) (sym one.2) (declares_stay line d (declared_from 0 ds) h one.0 (items_stay line ds h more)))
 
 bytes_at : (line : ℕ) (name : List ℕ) (count : ℕ) (values : List Init) → AllByRecursion (IsAt line) (bytes_here line name count values)
 bytes_at line name count values = either_way (λ l. AllByRecursion (IsAt line) l) (count == 0) [] (byte_array line name count values ∷ []) tt ((refl, refl, refl), tt)
@@ -134,7 +134,7 @@ declared_at line (f ∷ formals) kind = all_append (IsAt line) (declared_here li
 
 -- ---- sections
 
-IsPartAt : ℕ → Part → Type 0
+abbrev IsPartAt : ℕ → Part → Type 0
 IsPartAt line p = (p.line ≡ line) × AllByRecursion (IsAt line) p.items
 
 section_at : (line : ℕ) (kind : PartKind) (items : List Declaration) → AllByRecursion (IsAt line) items → AllByRecursion (IsPartAt line) (section line kind items)
@@ -202,7 +202,7 @@ reach_joined reached last xs ys h k = subst (λ (cs : List Clause). Reaches reac
 })
 
 -- lines of which none is before the one in front of it
-DoRise : List ℕ → Type 0
+abbrev DoRise : List ℕ → Type 0
 DoRise lines = (i : ℕ) → suc i < length lines → line_at lines i ≤ line_at lines (suc i)
 
 body_reaches : (s : Surroundings) (n reached : ℕ) (r : Run) (rs : List Run) → DoRise s.lines → n + length (r ∷ rs) ≡ length s.lines → 1 ≤ reached → reached ≤ line_at s.lines n
@@ -244,7 +244,7 @@ line_later reached (line ∷ lines) = let more = line_later (max reached line) l
 -- ---- code blocks
 
 -- a block with as many statements as lines
-HasLines : CodeBlock → Type 0
+abbrev HasLines : CodeBlock → Type 0
 HasLines b = length (runs b.code) ≡ length b.lines
 
 block_body : (ss : List Signature) (reached : ℕ) (b : CodeBlock) (rs : List Run) (lines : List ℕ) → length rs ≡ length lines → 1 ≤ reached
@@ -309,7 +309,7 @@ reached_later reached (b ∷ bs) = let here = line_later reached b.lines in let 
 
 -- ---- data blocks
 
-IsSetAt : ℕ → Setting → Type 0
+abbrev IsSetAt : ℕ → Setting → Type 0
 IsSetAt line s = s.line ≡ line
 
 sets_stay : (line : ℕ) (ss : List Setting) → 1 ≤ line → AllByRecursion (IsSetAt line) ss → Stays line (map clause.Sets ss)
@@ -351,7 +351,7 @@ stay_ends : (line : ℕ) (cs : List Clause) → Stays line cs → Ends line line
 stay_ends line cs h = record { on = h.on; same = h.same }
 
 data_ends : (ss : List Signature) (r line number : ℕ) (bytes : List ℕ) (of_ : Option ℕ) → 1 ≤ line → r ≤ line → Ends r line (block_clauses (listed_data ss line number bytes of_))
-unfolding block_clauses line_of
+unfolding block_clauses line_of type_clauses
 data_ends ss r line number bytes None h le =
     let items = bytes_here line data_name (length bytes) (values_of bytes) in
     head_ends r line line _ _ _ _ h le (stay_ends line _

@@ -2,6 +2,7 @@
 //! statements, lines, labels and blocks are those of the program.
 #![tactic(auto)]
 
+mod bodies;
 mod forms;
 mod heads;
 mod ids;
@@ -12,6 +13,7 @@ mod names;
 mod places;
 mod statements;
 
+pub use bodies::law_of_listed_bodies;
 pub use forms::law_of_listed_forms;
 pub use heads::law_of_listed_heads;
 pub use ids::law_of_listed_ids;
