@@ -96,7 +96,7 @@ sign_name = (refl, refl)
 known : (b : Bool) (fs : List Formal) (o : Option (List Formal)) → AreFormals fs → AreKnown o → AreKnown (if b then Some fs else o)
 known b fs o h k = either_way AreKnown b (Some fs) o h k
 
-system_named : (n : ℕ) → AreFormals (system_parameters n)
+pub system_named : (n : ℕ) → AreFormals (system_parameters n)
 unfolding system_formals
 system_named n =
     known (nat_eq n 32) (ob_nr ∷ dtime ∷ sign ∷ returns simple.Int ∷ []) _ (ob_nr_name, (dtime_name, (sign_name, (return_is, tt))))

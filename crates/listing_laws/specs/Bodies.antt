@@ -1,5 +1,5 @@
 -- The statements of a listing are read back, where their ops are those of a source.
-use Rattle.std.specs.Prelude.{◌≡◌, ◌⊎◌, ◌<◌, ◌*◌, ℕ, suc, true, false, length, List, Option, Some, None, slice_get}
+use Rattle.std.specs.Prelude.{◌≡◌, ◌⊎◌, ◌<◌, ◌*◌, ℕ, suc, true, false, length, List, [], Option, Some, None, slice_get}
 use Rattle.std.specs.List.{AllByRecursion}
 use Rattle.std.specs.Option.{unwrap_or}
 use Rattle.plc_base.specs.declared.places.Area.{Area}
@@ -53,20 +53,25 @@ abbrev pub Prepares : Operand → Type 0
 Prepares (flat.Pass index p) = PassesPlace p
 Prepares _ = Unit {0}
 
--- the operand of the last op of a statement, of an op code. CALL alone has an instance, that of a function block (3)
-abbrev pub IsShown : (opened : Option ℕ) → (code : ℕ) → Operand → Type 0
-IsShown opened code (flat.Direct a w byte bit) = IsOpenedIn opened a × IsPlace a w bit
-IsShown opened code (flat.ByRegister a w register bits) = bits < 8 * 65536
-IsShown opened code (flat.Called kind number instance) =
-    (instance ≡ 0) ⊎ ((code ≡ code_of (operation.Call calls.Call)) × (kind ≡ 3))
-IsShown opened code _ = Unit {0}
+-- CALL passes parameters, and has no instance or that of a function block (3); UC and CC do neither
+abbrev pub IsCallBy : (before : List OpData) → (code kind instance : ℕ) → Type 0
+IsCallBy before code kind instance =
+    ((code ≡ code_of (operation.Call calls.Call)) × ((instance ≡ 0) ⊎ (kind ≡ 3)))
+    ⊎ ((instance ≡ 0) × (before ≡ []))
+
+-- the operand of the last op of a statement, of an op code, behind these ops
+abbrev pub IsShown : (before : List OpData) → (code : ℕ) → Operand → Type 0
+IsShown before code (flat.Direct a w byte bit) = IsOpenedIn (opened_by before) a × IsPlace a w bit
+IsShown before code (flat.ByRegister a w register bits) = bits < 8 * 65536
+IsShown before code (flat.Called kind number instance) = IsCallBy before code kind instance
+IsShown before code _ = Unit {0}
 
 -- the ops of a statement of a source
 pub record IsSourceRun (r : Run) : Type 0 where
   pub ops : AllByRecursion IsOp r.before
   pub op : IsOp r.op
   pub prepares : AllByRecursion (λ op. Prepares op.operand) r.before
-  pub shown : IsShown (opened_by r.before) r.op.code r.op.operand
+  pub shown : IsShown r.before r.op.code r.op.operand
   pub word : is_empty (mnemonic_of r.op) ≡ false
 
 -- ---- the body of a block
