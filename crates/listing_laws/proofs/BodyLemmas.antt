@@ -375,10 +375,10 @@ calls_fit line empty id e h = absurd (false≢true e)
 
 -- ---- actual parameters
 
-abbrev AreBlocksWords : List Signature → Type 0
+abbrev pub AreBlocksWords : List Signature → Type 0
 AreBlocksWords ss = AllByRecursion (λ s. AreWords s.formals) ss
 
-words_of : (formals : List Formal) → AllByRecursion (λ f. IsCutName f.name) formals → AreWords formals
+pub words_of : (formals : List Formal) → AllByRecursion (λ f. IsCutName f.name) formals → AreWords formals
 words_of [] h = tt
 words_of (f ∷ formals) h = (h.0.0, words_of formals h.1)
 

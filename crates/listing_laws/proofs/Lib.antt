@@ -12,6 +12,7 @@ mod OrderLemmas
 mod PlaceLemmas
 mod RangeLemmas
 mod RunLemmas
+mod SourceLemmas
 mod StatementLemmas
 mod SymbolFileLemmas
 mod SymbolLineLemmas

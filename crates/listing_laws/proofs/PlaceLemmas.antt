@@ -227,7 +227,7 @@ lines_rise reached (line ∷ []) i h = absurd (omega (arith, h))
 lines_rise reached (line ∷ next ∷ lines) zero h = omega arith
 lines_rise reached (line ∷ next ∷ lines) (suc i) h = lines_rise (max reached line) (next ∷ lines) i (omega (arith, h))
 
-lines_count : (reached : ℕ) (lines : List ℕ) → length (lines_from reached lines) ≡ length lines
+pub lines_count : (reached : ℕ) (lines : List ℕ) → length (lines_from reached lines) ≡ length lines
 lines_count reached [] = refl
 lines_count reached (line ∷ lines) = let more = lines_count (max reached line) lines in omega (arith, more)
 
@@ -244,7 +244,7 @@ line_later reached (line ∷ lines) = let more = line_later (max reached line) l
 -- ---- code blocks
 
 -- a block with as many statements as lines
-abbrev HasLines : CodeBlock → Type 0
+abbrev pub HasLines : CodeBlock → Type 0
 HasLines b = length (runs b.code) ≡ length b.lines
 
 block_body : (ss : List Signature) (reached : ℕ) (b : CodeBlock) (rs : List Run) (lines : List ℕ) → length rs ≡ length lines → 1 ≤ reached
@@ -378,7 +378,7 @@ all_have_lines : (bs : List StatedBlock) → AllByRecursion HasLines (map compil
 all_have_lines [] = tt
 all_have_lines (b ∷ bs) = (ap length (runs_found b.statements) ∙ length-map b.statements _ ∙ sym (length-map b.statements _), all_have_lines bs)
 
-placed_by : (p : Program) → AllByRecursion HasLines p.code_blocks → AreOnLines 0 (flat_map block_clauses (listed_tree p).blocks)
+pub placed_by : (p : Program) → AllByRecursion HasLines p.code_blocks → AreOnLines 0 (flat_map block_clauses (listed_tree p).blocks)
 unfolding listed_tree in_lines
 placed_by p h =
     let ss = signatures (chains_of p.code_blocks) p.code_blocks in

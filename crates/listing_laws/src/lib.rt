@@ -11,6 +11,7 @@ mod laws;
 mod lines;
 mod names;
 mod places;
+mod sources;
 mod statements;
 
 pub use bodies::law_of_listed_bodies;
@@ -22,4 +23,5 @@ pub use laws::law_of_listed_trees;
 pub use lines::law_of_listed_lines;
 pub use names::law_of_listed_names;
 pub use places::law_of_listed_places;
+pub use sources::law_of_listed_source;
 pub use statements::law_of_listed_statements;
