@@ -1,6 +1,7 @@
 mod BlockLemmas
 mod BodyLemmas
 mod CompiledLemmas
+mod EndLemmas
 mod FormLemmas
 mod HeadLemmas
 mod IdLemmas

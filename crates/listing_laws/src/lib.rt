@@ -3,6 +3,7 @@
 #![tactic(auto)]
 
 mod bodies;
+mod ends;
 mod forms;
 mod heads;
 mod ids;
@@ -15,6 +16,7 @@ mod sources;
 mod statements;
 
 pub use bodies::law_of_listed_bodies;
+pub use ends::law_of_listed_ends;
 pub use forms::law_of_listed_forms;
 pub use heads::law_of_listed_heads;
 pub use ids::law_of_listed_ids;
