@@ -10,6 +10,7 @@ use Rattle.plc_base.specs.declared.blocks.BlockId.{BlockId}
 use Rattle.plc_base.specs.declared.blocks.BlockKind.{BlockKind}
 use Rattle.plc_base.specs.declared.blocks.BlockKind.TheVariants as kinds
 use Rattle.flat_code.proofs.PartLemmas.{all_of_blocks, chain_parts, good_block, good_head, unless_fine}
+use Rattle.flat_code.specs.Codes.{are_ops}
 use Rattle.flat_code.specs.Faults.{fault_of, lies_within, unless}
 use Rattle.flat_code.specs.Image.{IsProgram, body, body_rows, code_block, code_blocks, counts, counts_of, data_blocks, kind_field, names, parameter_count, parts_of_block, parts_of_records, plain_block, record_of_block, record_of_param, records, records_of, row_of_body_parts}
 use Rattle.flat_code.specs.Layout.{chain, is_fine}
@@ -45,7 +46,7 @@ use Rattle.print_laws.specs.Reading.{IsByte, IsCountOf, IsDeclaredIn, IsLabel, I
 use Rattle.listing_laws.proofs.BlockLemmas.{AreBytes, all_sorted, range_below, value_is, byte_is}
 use Rattle.listing_laws.proofs.IdLemmas.{same_order}
 use Rattle.listing_laws.proofs.NameLemmas.{all_joined, either_way, label_is, parameter_is, signed_int, signed_long}
-use Rattle.listing_laws.proofs.RangeLemmas.{IsInstanceOf, IsListedCode, IsListedData, IsListed, program_listed}
+use Rattle.listing_laws.proofs.RangeLemmas.{IsInstanceOf, IsListedCode, IsListedData, IsListed, ops_fit, program_listed}
 use Rattle.listing_laws.specs.Forms.{AreDataPrinted, AreFramesPrinted, AreLabelsPrinted, IsPrintedFrame}
 use Rattle.listing_laws.specs.Ranges.{IsWrittenProgram}
 
@@ -84,10 +85,11 @@ labels_printed n = record { is_name = record { word = (label_is n).0; free = lab
 
 -- ---- heads of code blocks
 
--- a code block's kind, and an organization block's parameters
-record IsHead (b : CodeBlock) : Type 0 where
-  kind : is_code b.id.kind ≡ true
-  none : is_organization_block b.id.kind ≡ true → length b.params ≡ 0
+-- a code block's kind, an organization block's parameters, and the ops
+pub record IsHead (b : CodeBlock) : Type 0 where
+  pub kind : is_code b.id.kind ≡ true
+  pub none : is_organization_block b.id.kind ≡ true → length b.params ≡ 0
+  pub code : are_ops b.code ≡ true
 
 kind_is : (before : ℕ) (k : BlockKind) → (kind_field before).good (kind_number k) ≡ true → is_code k ≡ true
 unfolding kind_field fault_of
@@ -115,13 +117,15 @@ head_is : (before : ℕ × ℕ) (b : CodeBlock) → (code_block false before).go
 unfolding code_block plain_block
 head_is before b good =
     let parts = parts_of_block (record_of_block b) in
-    let fields = good_head before parts.head (good_block false before 0 parts good).head_good in
+    let whole = good_block false before 0 parts good in
+    let fields = good_head before parts.head whole.head_good in
     record {
       kind = kind_is before.0 b.id.kind fields.kind_good;
       none = λ is. omega (arith, count_is b.id.kind parts.head.parameter_count fields.params_good is, length-map b.params record_of_param);
+      code = ops_fit false parts.head.code_length b.code whole.code_good;
     }
 
-program_heads : (p : Program) → IsProgram p → AllByRecursion IsHead p.code_blocks
+pub program_heads : (p : Program) → IsProgram p → AllByRecursion IsHead p.code_blocks
 unfolding body records body_rows
 program_heads p is =
     let row = row_of_body_parts (parts_of_records (records_of p)) in

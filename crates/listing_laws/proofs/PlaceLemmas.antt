@@ -374,7 +374,7 @@ data_on ss line (d ∷ ds) r h le =
 
 -- ---- the listing of a source's program
 
-all_have_lines : (bs : List StatedBlock) → AllByRecursion HasLines (map compiled bs)
+pub all_have_lines : (bs : List StatedBlock) → AllByRecursion HasLines (map compiled bs)
 all_have_lines [] = tt
 all_have_lines (b ∷ bs) = (ap length (runs_found b.statements) ∙ length-map b.statements _ ∙ sym (length-map b.statements _), all_have_lines bs)
 

@@ -1,10 +1,38 @@
 -- The tree of the listing of a source's program is one that is read back.
-use Rattle.std.proofs.Common.{◌≡◌, ℕ, List, [], ◌∷◌, ◌++◌, length, inl, ◌∙◌}
+use Rattle.std.proofs.Common.{◌≡◌, ℕ, suc, true, false, List, [], ◌∷◌, ◌++◌, length, map, Option, Some, None, inl, refl, sym, ap, subst, ◌∙◌}
 use Rattle.std.specs.List.{AllByRecursion}
+use Rattle.std.proofs.lemmas.Bool.{and_parts}
 use Rattle.plc_base.proofs.ListLemmas.{all_append}
 use Rattle.flat_code.specs.Image.{IsProgram}
 use Rattle.flat_code.specs.Programs.{CodeBlock, Program}
-use Rattle.stl_codegen.specs.Order.{sorted}
+use Rattle.plc_base.specs.Kinds.{is_code}
+use Rattle.plc_base.specs.declared.blocks.BlockId.{BlockId}
+use Rattle.flat_code.specs.Codes.{are_ops}
+use Rattle.flat_code.specs.Instr.{Calls, Does, Instr, Jumps, JumpsByList, Returns}
+use Rattle.flat_code.specs.OpCodes.{code_of}
+use Rattle.flat_code.specs.Ops.{IsOp, OpData, is_op}
+use Rattle.flat_code.specs.declared.operands.Operand.TheVariants as flat
+use Rattle.flat_code.specs.declared.operands.Operand.{Operand as FlatOperand}
+use Rattle.stl_ast.specs.Statements.{is_empty}
+use Rattle.stl_ast.specs.WellFormed.{IsWellFormed}
+use Rattle.stl_ast.specs.declared.blocks.Block.{Block}
+use Rattle.stl_ast.specs.declared.blocks.Tree.{Tree}
+use Rattle.stl_symbols.specs.Symbol.{Symbol}
+use Rattle.block_layout.specs.declared.blocks.BlockLayout.{BlockLayout}
+use Rattle.stl_types.specs.Bodies.{first_context}
+use Rattle.stl_types.specs.Context.{Context}
+use Rattle.stl_types.specs.Labels.{rule_26}
+use Rattle.stl_codegen.specs.Compiled.{Stated, StatedBlock, aimed, code_in, compiled}
+use Rattle.stl_codegen.specs.Generated.{code_block, code_block_of, code_blocks_of, each_block, program_of}
+use Rattle.stl_codegen.specs.Order.{is_code_before}
+use Rattle.stl_list.specs.Mnemonics.{mnemonic_of, word_by}
+use Rattle.stl_list.specs.Runs.{Run, runs, runs_from}
+use Rattle.listing_laws.proofs.EndLemmas.{ends_free}
+use Rattle.listing_laws.proofs.RunLemmas.{runs_found}
+use Rattle.listing_laws.proofs.WordLemmas.{have_words}
+use Rattle.listing_laws.specs.Bodies.{IsEndFree, IsSourceRun}
+use Rattle.listing_laws.specs.Labels.{HasWord}
+use Rattle.listing_laws.specs.Statements.{offset_in, run_of}
 use Rattle.stl_list.specs.CodeBlocks.{in_lines, line_reached, listed_block, listed_blocks}
 use Rattle.stl_list.specs.DataBlocks.{listed_data_blocks}
 use Rattle.stl_list.specs.Joined.{chains_of}
@@ -15,13 +43,13 @@ use Rattle.print_laws.specs.Printed.{IsPrintable}
 use Rattle.print_laws.specs.Reading.{IsPrintable as IsReadable, IsPrintedBlock}
 use Rattle.listing_laws.proofs.BlockLemmas.{all_sorted, listed_printable}
 use Rattle.listing_laws.proofs.BodyLemmas.{AreBlocksWords, bodies_printed, words_of}
-use Rattle.listing_laws.proofs.FormLemmas.{data_printed, frames_printed}
-use Rattle.listing_laws.proofs.NameLemmas.{AreSignatures, all_signatures}
-use Rattle.listing_laws.proofs.PlaceLemmas.{HasLines, lines_count, placed_by}
+use Rattle.listing_laws.proofs.FormLemmas.{IsHead, data_printed, frames_printed, program_heads}
+use Rattle.listing_laws.proofs.NameLemmas.{AreSignatures, all_signatures, either_way}
+use Rattle.listing_laws.proofs.PlaceLemmas.{HasLines, all_have_lines, lines_count, placed_by}
 use Rattle.listing_laws.proofs.RangeLemmas.{program_listed}
 use Rattle.listing_laws.specs.Forms.{IsPrintedFrame}
 use Rattle.listing_laws.specs.Ranges.{IsWrittenProgram}
-use Rattle.listing_laws.specs.Sources.{IsSourceBlock}
+use Rattle.listing_laws.specs.Sources.{IsNamed, IsNamedProgram, IsSourceBlock}
 
 signatures_words : (ss : List Signature) → AreSignatures ss → AreBlocksWords ss
 signatures_words [] h = tt
@@ -67,3 +95,82 @@ source_readable p is w h =
 
 pub source_printable : (p : Program) → IsProgram p → IsWrittenProgram p → AllByRecursion IsSourceBlock p.code_blocks → IsPrintable (listed_tree p)
 source_printable p is w h = record { cut = listed_printable p is w; read = source_readable p is w h }
+
+-- ---- the program of a source
+
+abbrev HasOps : Run → Type 0
+HasOps r = AllByRecursion IsOp r.before × IsOp r.op
+
+ops_are : (ops : List OpData) → are_ops ops ≡ true → AllByRecursion IsOp ops
+ops_are [] e = tt
+ops_are (op ∷ ops) e = let parts = and_parts (is_op op.code op.operand) (are_ops ops) e in (parts.0, ops_are ops parts.1)
+
+runs_have_ops : (before ops : List OpData) → AllByRecursion IsOp before → AllByRecursion IsOp ops → AllByRecursion HasOps (runs_from before ops)
+runs_have_ops before [] h k = tt
+runs_have_ops before (op ∷ ops) h (one, more) =
+    either_way (λ rs. AllByRecursion HasOps rs) op.last (record { before = before; op = op } ∷ runs_from [] ops) (runs_from (before ++ op ∷ []) ops)
+    ((h, one), runs_have_ops [] ops tt more) (runs_have_ops (before ++ op ∷ []) ops (all_append IsOp before (op ∷ []) h (one, tt)) more)
+
+block_ops : (b : CodeBlock) → are_ops b.code ≡ true → AllByRecursion HasOps (runs b.code)
+unfolding runs
+block_ops b e = runs_have_ops [] b.code tt (ops_are b.code e)
+
+abbrev HasRunWord : Run → Type 0
+HasRunWord r = is_empty (mnemonic_of r.op) ≡ false
+
+word_aimed : (f : ℕ → ℕ) (code : ℕ) (o : FlatOperand) → word_by code (aimed f o) ≡ word_by code (aimed (λ n. n) o)
+word_aimed f code (flat.Jump kind target) = refl
+word_aimed f code _ = refl
+
+word_same : (f : ℕ → ℕ) (i : Instr) → mnemonic_of (run_of f i).op ≡ mnemonic_of (run_of (λ n. n) i).op
+word_same f (Does use_db w o) = word_aimed f (code_of w) o
+word_same f (Jumps how target) = refl
+word_same f (JumpsByList targets otherwise) = refl
+word_same f (Calls how id instance passings) = refl
+word_same f (Returns how) = refl
+
+runs_have_words : (f : ℕ → ℕ) (ss : List Stated) → AllByRecursion (λ s. HasWord s.instr) ss → AllByRecursion HasRunWord (map (λ s. run_of f s.instr) ss)
+runs_have_words f [] h = tt
+runs_have_words f (s ∷ ss) (one, more) = (ap is_empty (word_same f s.instr) ∙ one, runs_have_words f ss more)
+
+abbrev HasWords : StatedBlock → Type 0
+HasWords b = AllByRecursion (λ s. HasWord s.instr) b.statements
+
+one_has_words : (c : Context) (b : Block) (l : BlockLayout) (id : Option BlockId) → AllByRecursion HasWords (code_block_of c b l id)
+one_has_words c b l None = tt
+one_has_words c b l (Some id) = either_way (λ l. AllByRecursion HasWords l) (is_code id.kind) (code_block c b l id ∷ []) [] (have_words c b, tt) tt
+
+blocks_have_words : (c : Context) (bs : List Block) (ls : List BlockLayout) → AllByRecursion HasWords (each_block (λ c b l. code_block_of c b l l.id) c bs ls)
+blocks_have_words c [] ls = tt
+blocks_have_words c (b ∷ bs) [] = tt
+blocks_have_words c (b ∷ bs) (l ∷ ls) = all_append HasWords (code_block_of c b l l.id) _ (one_has_words c b l l.id) (blocks_have_words (record c { block = suc c.block }) bs ls)
+
+program_words : (t : Tree) (symbols : List Symbol) (layouts : List BlockLayout) → AllByRecursion HasWords (code_blocks_of t symbols layouts)
+unfolding code_blocks_of
+program_words t symbols layouts =
+    all_sorted HasWords is_code_before (each_block (λ c b l. code_block_of c b l l.id) (first_context symbols layouts t.blocks) t.blocks layouts)
+    (blocks_have_words (first_context symbols layouts t.blocks) t.blocks layouts)
+
+runs_of_source : (rs : List Run) → AllByRecursion HasOps rs → AllByRecursion HasRunWord rs → AllByRecursion IsNamed rs → AllByRecursion IsSourceRun rs
+runs_of_source [] ops words named = tt
+runs_of_source (r ∷ rs) (op, ops) (word, words) (one, more) =
+    (record { ops = op.0; op = op.1; prepares = one.prepares; shown = one.shown; word = word }, runs_of_source rs ops words more)
+
+all_source : (bs : List StatedBlock) → AllByRecursion HasWords bs → AllByRecursion IsHead (map compiled bs) → AllByRecursion (λ b. IsEndFree (length b.lines) b) (map compiled bs)
+    → AllByRecursion (λ b. AllByRecursion IsNamed (runs b.code)) (map compiled bs) → AllByRecursion HasLines (map compiled bs) → AllByRecursion IsSourceBlock (map compiled bs)
+all_source [] words heads ends named lines = tt
+all_source (b ∷ bs) (word, words) (head, heads) (end, ends) (one, named) (count, lines) = (
+  record {
+    statements = runs_of_source (runs (code_in b.statements)) (block_ops (compiled b) head.code)
+        (subst (λ (rs : List Run). AllByRecursion HasRunWord rs) (sym (runs_found b.statements)) (runs_have_words (offset_in b.statements) b.statements word)) one;
+    count = count;
+    end = end;
+  },
+  all_source bs words heads ends named lines,
+)
+
+pub source_blocks : (t : Tree) (symbols : List Symbol) (layouts : List BlockLayout) → IsWellFormed t → rule_26 t.blocks ≡ [] → IsProgram (program_of t symbols layouts) → IsNamedProgram (program_of t symbols layouts)
+    → AllByRecursion IsSourceBlock (program_of t symbols layouts).code_blocks
+source_blocks t symbols layouts whole labels is named =
+    let bs = code_blocks_of t symbols layouts in
+    all_source bs (program_words t symbols layouts) (program_heads (program_of t symbols layouts) is) (ends_free t symbols layouts whole labels) named (all_have_lines bs)

@@ -1,14 +1,20 @@
 -- The text of the listing of a program is read as its tree, where its ops are those of a source.
-use Rattle.std.specs.Prelude.{◌≡◌, ◌*◌, length, List}
+use Rattle.std.specs.Prelude.{◌≡◌, ◌*◌, length, List, []}
 use Rattle.std.specs.List.{AllByRecursion}
 use Rattle.flat_code.specs.Image.{IsProgram}
 use Rattle.flat_code.specs.Programs.{CodeBlock, Program}
+use Rattle.stl_ast.specs.WellFormed.{IsWellFormed}
+use Rattle.stl_ast.specs.declared.blocks.Tree.{Tree}
 use Rattle.stl_lexer.specs.Tokens.{AreTokens}
 use Rattle.stl_lexer.specs.declared.kinds.Token.{Token}
 use Rattle.stl_parser.specs.Source.{IsTree}
+use Rattle.stl_symbols.specs.Symbol.{Symbol}
+use Rattle.block_layout.specs.declared.blocks.BlockLayout.{BlockLayout}
+use Rattle.stl_types.specs.Labels.{rule_26}
+use Rattle.stl_codegen.specs.Generated.{program_of}
 use Rattle.stl_list.specs.Listing.{listed_source, listed_tree}
-use Rattle.stl_list.specs.Runs.{runs}
-use Rattle.listing_laws.specs.Bodies.{IsEndFree, IsSourceRun}
+use Rattle.stl_list.specs.Runs.{Run, runs}
+use Rattle.listing_laws.specs.Bodies.{IsEndFree, IsShown, IsSourceRun, Prepares}
 use Rattle.listing_laws.specs.Ranges.{IsWrittenProgram}
 
 -- a block whose statements are those of a source: as many as lines, and none jumps to the END clause
@@ -23,3 +29,22 @@ AreListingsRead =
     (p : Program) → IsProgram p → IsWrittenProgram p → AllByRecursion IsSourceBlock p.code_blocks
     → (tokens : List Token) × AreTokens (listed_source p) tokens
     × IsTree (listed_source p) tokens (listed_tree p)
+
+-- what a statement acts on, calls and passes is named as in a source
+pub record IsNamed (r : Run) : Type 0 where
+  pub prepares : AllByRecursion (λ op. Prepares op.operand) r.before
+  pub shown : IsShown r.before r.op.code r.op.operand
+
+-- so it is in the blocks of a program
+abbrev pub IsNamedProgram : Program → Type 0
+IsNamedProgram p = AllByRecursion (λ b. AllByRecursion IsNamed (runs b.code)) p.code_blocks
+
+-- the listing of the program of a source, each of whose jumps has its label, is read as its tree
+abbrev pub AreSourcesRead : Type 0
+AreSourcesRead =
+    (t : Tree) (symbols : List Symbol) (layouts : List BlockLayout) → IsWellFormed t
+    → rule_26 t.blocks ≡ [] → IsProgram (program_of t symbols layouts)
+    → IsNamedProgram (program_of t symbols layouts)
+    → (tokens : List Token) × AreTokens (listed_source (program_of t symbols layouts)) tokens
+    × IsTree (listed_source (program_of t symbols layouts)) tokens
+    (listed_tree (program_of t symbols layouts))
