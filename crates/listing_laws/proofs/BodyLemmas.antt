@@ -1,5 +1,5 @@
 -- The statements of a listing are read back, where their ops are those of a source.
-use Rattle.std.proofs.Common.{◌≡◌, ℕ, zero, suc, ◌+◌, ◌*◌, ◌%◌, ◌/◌, ◌^◌, ◌<◌, ◌≤◌, ◌⊎◌, inl, inr, Bool, true, false, not, ◌&&◌, ◌||◌, List, [], ◌∷◌, ◌++◌, length, Option, Some, None, refl, sym, ap, subst, ◌∙◌, arith}
+use Rattle.std.proofs.Common.{◌≡◌, ℕ, zero, suc, ◌%◌, ◌/◌, ◌^◌, ◌<◌, ◌≤◌, ◌⊎◌, inl, inr, Bool, true, false, not, ◌&&◌, ◌||◌, List, [], ◌∷◌, length, Option, Some, None, refl, sym, ap, subst, ◌∙◌, arith}
 use Rattle.std.specs.Prelude.{codes, MatchOption, option_map, nat_le, nat_lt, ◌==◌, slice_get, unwrap_or, if◌then◌else◌}
 use Rattle.std.specs.List.{AllByRecursion}
 use Rattle.std.proofs.lemmas.Bool.{agree_below_at, and_parts, cond_both, eqb-true, false≢true, leb-true, ltb-true}
@@ -13,8 +13,7 @@ use Rattle.plc_base.specs.declared.places.Width.{Width}
 use Rattle.flat_code.specs.Forms.{actual, actual_fits, crosses, direct, holds_pointers, in_memory, payload_fits}
 use Rattle.flat_code.specs.Operations.{operation_of}
 use Rattle.flat_code.specs.Ops.{IsOp, OpData, is_op}
-use Rattle.flat_code.specs.Programs.{CodeBlock}
-use Rattle.flat_code.specs.Table.{admits, is_call, is_jump, is_open, is_pass, is_use_db, takes_condition, takes_direct, takes_indirect, takes_kind, takes_literal, takes_nothing, takes_of}
+use Rattle.flat_code.specs.Table.{admits, is_call, is_open, is_pass, is_use_db, takes_condition, takes_direct, takes_indirect, takes_kind, takes_literal, takes_nothing, takes_of}
 use Rattle.flat_code.specs.declared.table.Takes.{Takes}
 use Rattle.flat_code.specs.declared.table.Takes.TheVariants as takes
 use Rattle.flat_code.specs.declared.operations.Adding.TheVariants as adding
@@ -27,13 +26,11 @@ use Rattle.flat_code.specs.declared.operands.Passed.TheVariants as passed
 use Rattle.flat_code.specs.declared.operands.Passed.{Passed}
 use Rattle.flat_code.specs.declared.operations.Operation.TheVariants as operation
 use Rattle.flat_code.specs.declared.operations.Operation.{Operation}
-use Rattle.stl_ast.specs.Operands.{IsBitOf, IsNumber}
+use Rattle.stl_ast.specs.Operands.{IsNumber}
 use Rattle.stl_ast.specs.Statements.{is_empty, is_nothing}
 use Rattle.stl_ast.specs.declared.operands.Letters.TheVariants as letters
-use Rattle.stl_ast.specs.declared.operands.Letters.{Letters}
 use Rattle.stl_ast.specs.declared.operands.Operand.TheVariants as operand
 use Rattle.stl_ast.specs.declared.operands.Operand.{Operand}
-use Rattle.stl_ast.specs.declared.statements.Actual.{Actual}
 use Rattle.stl_ast.specs.declared.statements.Statement.{Statement}
 use Rattle.stl_ast.specs.declared.names.BlockName.TheVariants as block
 use Rattle.stl_lexer.specs.Bytes.{is_word_byte, is_word_start}
@@ -43,7 +40,6 @@ use Rattle.stl_list.specs.Constants.{instruction_constant, open_block_name, poin
 use Rattle.stl_list.specs.Mnemonics.{jump_word, mnemonic_of, word_by, word_of}
 use Rattle.stl_parser.specs.Operands.{holds_pointer}
 use Rattle.stl_types.specs.declared.parameters.Formal.{Formal}
-use Rattle.plc_base.specs.declared.blocks.BlockKind.TheVariants as kinds
 use Rattle.stl_list.specs.Actuals.{actual_for, actual_here, actuals_before, actuals_by, is_written, passed_operand}
 use Rattle.stl_list.specs.Joined.{called_id, system_parameters}
 use Rattle.stl_list.specs.Labels.{label_of}
@@ -55,7 +51,7 @@ use Rattle.stl_list.specs.Operands.{data_block_name, direct_operand, implied_ope
 use Rattle.print_laws.specs.Reading.{FitsSyntax, IsArea, IsAreaOf, IsBlockOf, IsCalled, IsLabelOf, IsOpened, IsPassed, IsPrintedActual, IsPrintedOperand, IsPrintedStatement, IsRegister, IsTarget, Syntax, block_call, bracket, call, empty, jump, opens, plain, syntax_of}
 use Rattle.print_laws.specs.Standing.{IsName as IsCutName}
 use Rattle.listing_laws.proofs.FormLemmas.{labels_printed, typed_printed}
-use Rattle.listing_laws.proofs.NameLemmas.{all_joined, either_way, parameter_is, signed_long, system_named}
+use Rattle.listing_laws.proofs.NameLemmas.{either_way, parameter_is, signed_long, system_named}
 use Rattle.listing_laws.specs.Bodies.{AreBodiesPrinted, AreWords, IsCallBy, IsNoBit, IsOpenedIn, IsPlace, IsShown, IsSourceRun, PassesPlace, Prepares}
 
 -- ---- areas

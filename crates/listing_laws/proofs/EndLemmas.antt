@@ -16,7 +16,7 @@ use Rattle.flat_code.specs.declared.kinds.JumpOperation.{JumpOperation}
 use Rattle.flat_code.specs.declared.operations.CallOperation.{CallOperation}
 use Rattle.flat_code.specs.declared.operations.EndOperation.{EndOperation}
 use Rattle.stl_ast.specs.Statements.{IsStatement, is_empty}
-use Rattle.stl_ast.specs.WellFormed.{IsBlock, IsWellFormed}
+use Rattle.stl_ast.specs.WellFormed.{IsBlock}
 use Rattle.stl_ast.specs.declared.blocks.Block.{Block}
 use Rattle.stl_ast.specs.declared.operands.Numbered.TheVariants as numbered
 use Rattle.stl_ast.specs.declared.operands.Operand.TheVariants as operand

@@ -1,8 +1,8 @@
 -- The data blocks of a listing, and its code blocks but for their statements, are of forms that are read back.
-use Rattle.std.proofs.Common.{◌≡◌, ℕ, zero, suc, ◌+◌, ◌-◌, ◌%◌, ◌^◌, ◌<◌, ◌≤◌, ◌⊎◌, inl, inr, max, Bool, true, false, eqb, leb, ltb, not, ◌&&◌, ◌||◌, List, [], ◌∷◌, ◌++◌, length, Option, Some, None, refl, sym, ap, subst, ◌∙◌, decimal, arith}
+use Rattle.std.proofs.Common.{◌≡◌, ℕ, suc, ◌+◌, ◌-◌, ◌%◌, ◌^◌, ◌<◌, ◌≤◌, inr, max, Bool, true, false, eqb, leb, ltb, ◌&&◌, List, [], ◌∷◌, ◌++◌, length, Option, Some, None, refl, sym, ap, subst, ◌∙◌, arith}
 use Rattle.std.specs.Prelude.{◌==◌, nat_lt, find, if◌then◌else◌, option_map}
 use Rattle.std.specs.List.{AllByRecursion, list_all, range_with_len}
-use Rattle.std.proofs.lemmas.Bool.{and_parts, cond_both, eqb-true, false≢true, leb-true, ltb-true}
+use Rattle.std.proofs.lemmas.Bool.{and_parts, cond_both, eqb-true, false≢true, ltb-true}
 use Rattle.std.proofs.lemmas.List.{length-map}
 use Rattle.plc_base.proofs.ListLemmas.{all_append}
 use Rattle.plc_base.specs.Kinds.{is_code, is_function, is_function_block, is_organization_block, is_same_block, is_same_kind, kind_number}
@@ -11,13 +11,12 @@ use Rattle.plc_base.specs.declared.blocks.BlockKind.{BlockKind}
 use Rattle.plc_base.specs.declared.blocks.BlockKind.TheVariants as kinds
 use Rattle.flat_code.proofs.PartLemmas.{all_of_blocks, chain_parts, good_block, good_head, unless_fine}
 use Rattle.flat_code.specs.Codes.{are_ops}
-use Rattle.flat_code.specs.Faults.{fault_of, lies_within, unless}
+use Rattle.flat_code.specs.Faults.{fault_of, unless}
 use Rattle.flat_code.specs.Image.{IsProgram, body, body_rows, code_block, code_blocks, counts, counts_of, data_blocks, kind_field, names, parameter_count, parts_of_block, parts_of_records, plain_block, record_of_block, record_of_param, records, records_of, row_of_body_parts}
 use Rattle.flat_code.specs.Layout.{chain, is_fine}
 use Rattle.flat_code.specs.Programs.{CodeBlock, DataBlock, Program}
 use Rattle.flat_code.specs.declared.programs.Param.{Param}
 use Rattle.stl_ast.specs.Blocks.{is_parameter, may_declare, may_have, part_rank}
-use Rattle.stl_ast.specs.Literals.{IsDecimal}
 use Rattle.stl_ast.specs.Operands.{IsNumber}
 use Rattle.stl_ast.specs.WellFormed.{AreInOrder}
 use Rattle.stl_ast.specs.declared.blocks.Part.{Part}
@@ -32,7 +31,7 @@ use Rattle.stl_lexer.specs.Bytes.{is_word_byte, is_word_start}
 use Rattle.stl_parser.proofs.FrameLemmas.{same_kind}
 use Rattle.stl_parser.specs.Tables.{keywords, look_up}
 use Rattle.stl_types.specs.declared.parameters.Formal.{Formal}
-use Rattle.stl_list.specs.CodeBlocks.{in_lines, line_reached, listed_block, listed_blocks, result_of}
+use Rattle.stl_list.specs.CodeBlocks.{in_lines, listed_block, listed_blocks, result_of}
 use Rattle.stl_list.specs.Constants.{typed_constant}
 use Rattle.stl_list.specs.DataBlocks.{function_block, known_settings, listed_data, listed_data_blocks}
 use Rattle.stl_list.specs.Initial.{byte_at, byte_here, byte_setting, byte_settings, init, inits_from, inits_of, parameter_here, parameter_setting, parameter_settings, settings_of, value_in, values_of}
@@ -42,13 +41,12 @@ use Rattle.stl_list.specs.Lines.{first_line, line_behind, stands_before}
 use Rattle.stl_list.specs.Parameters.{is_return, parameter_name, return_name}
 use Rattle.stl_list.specs.Sections.{byte_array, bytes_here, data_name, declared_here, declared_in, is_declared_in, plain_declaration, section, sections, static_bytes, static_len, static_name, static_start, temporary_name}
 use Rattle.stl_list.specs.Signatures.{Signature, formals_from, formals_of, is_behind, signatures, signatures_from}
-use Rattle.print_laws.specs.Reading.{IsByte, IsCountOf, IsDeclaredIn, IsLabel, IsName, IsPrintedBlock, IsPrintedDeclaration, IsPrintedInit, IsPrintedLiteral, IsPrintedPart, IsPrintedSetting, IsResultOf}
+use Rattle.print_laws.specs.Reading.{IsCountOf, IsDeclaredIn, IsName, IsPrintedBlock, IsPrintedDeclaration, IsPrintedInit, IsPrintedLiteral, IsPrintedPart, IsPrintedSetting, IsResultOf}
 use Rattle.listing_laws.proofs.BlockLemmas.{AreBytes, all_sorted, range_below, value_is, byte_is}
 use Rattle.listing_laws.proofs.IdLemmas.{same_order}
 use Rattle.listing_laws.proofs.NameLemmas.{all_joined, either_way, label_is, parameter_is, signed_int, signed_long}
-use Rattle.listing_laws.proofs.RangeLemmas.{IsInstanceOf, IsListedCode, IsListedData, IsListed, ops_fit, program_listed}
+use Rattle.listing_laws.proofs.RangeLemmas.{IsInstanceOf, IsListedCode, IsListedData, ops_fit, program_listed}
 use Rattle.listing_laws.specs.Forms.{AreDataPrinted, AreFramesPrinted, AreLabelsPrinted, IsPrintedFrame}
-use Rattle.listing_laws.specs.Ranges.{IsWrittenProgram}
 
 -- ---- names
 

@@ -56,17 +56,20 @@ signatures_words [] h = tt
 signatures_words (s ∷ ss) (one, more) = (words_of s.formals one.0, signatures_words ss more)
 
 block_printed : (ss : List Signature) (reached : ℕ) (b : CodeBlock) → AreBlocksWords ss → IsSourceBlock b → IsPrintedFrame (listed_block ss reached b) → IsPrintedBlock (listed_block ss reached b)
-block_printed ss reached b known h frame = (frame.name, inl (record {
-  kind = frame.kind;
-  result = frame.result;
-  order = frame.order;
-  parts = frame.parts;
-  shape = frame.shape;
-  components = frame.components;
-  instance = frame.instance;
-  settings = frame.settings;
-  body = bodies_printed ss (lines_from reached b.lines) b known h.statements (λ n e. h.end n (e ∙ lines_count reached b.lines));
-}))
+block_printed ss reached b known h frame = (
+  frame.name,
+  inl (record {
+    kind = frame.kind;
+    result = frame.result;
+    order = frame.order;
+    parts = frame.parts;
+    shape = frame.shape;
+    components = frame.components;
+    instance = frame.instance;
+    settings = frame.settings;
+    body = bodies_printed ss (lines_from reached b.lines) b known h.statements (λ n e. h.end n (e ∙ lines_count reached b.lines));
+  }),
+)
 
 blocks_printed : (ss : List Signature) (reached : ℕ) (bs : List CodeBlock) → AreBlocksWords ss → AllByRecursion IsSourceBlock bs → AllByRecursion IsPrintedFrame (listed_blocks ss reached bs)
     → AllByRecursion IsPrintedBlock (listed_blocks ss reached bs)

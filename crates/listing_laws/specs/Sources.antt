@@ -1,5 +1,5 @@
 -- The text of the listing of a program is read as its tree, where its ops are those of a source.
-use Rattle.std.specs.Prelude.{◌≡◌, ◌*◌, length, List, []}
+use Rattle.std.specs.Prelude.{◌≡◌, length, List, []}
 use Rattle.std.specs.List.{AllByRecursion}
 use Rattle.flat_code.specs.Image.{IsProgram}
 use Rattle.flat_code.specs.Programs.{CodeBlock, Program}
