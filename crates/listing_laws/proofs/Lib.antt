@@ -8,6 +8,7 @@ mod IdLemmas
 mod LabelLemmas
 mod LineLemmas
 mod NameLemmas
+mod OpenedLemmas
 mod OperandLemmas
 mod OrderLemmas
 mod PlaceLemmas
