@@ -27,10 +27,16 @@ use Rattle.stl_codegen.specs.Generated.{code_block, code_block_of, code_blocks_o
 use Rattle.stl_codegen.specs.Order.{is_code_before}
 use Rattle.stl_list.specs.Mnemonics.{mnemonic_of, word_by}
 use Rattle.stl_list.specs.Runs.{Run, runs, runs_from}
+use Rattle.flat_code.specs.declared.operands.Passed.TheVariants as passed
+use Rattle.flat_code.specs.declared.operands.Passed.{Passed}
+use Rattle.stl_list.specs.Operands.{opened_by}
+use Rattle.listing_laws.proofs.CompiledLemmas.{written_compiled}
+use Rattle.listing_laws.proofs.OpenedLemmas.{opened_right}
+use Rattle.listing_laws.specs.Opened.{ActsIn, OpensRight, PassesIn, PreparesIn}
 use Rattle.listing_laws.proofs.EndLemmas.{ends_free}
 use Rattle.listing_laws.proofs.RunLemmas.{runs_found}
 use Rattle.listing_laws.proofs.WordLemmas.{have_words}
-use Rattle.listing_laws.specs.Bodies.{IsEndFree, IsSourceRun}
+use Rattle.listing_laws.specs.Bodies.{IsEndFree, IsShown, IsSourceRun, PassesPlace, Prepares}
 use Rattle.listing_laws.specs.Labels.{HasWord}
 use Rattle.listing_laws.specs.Statements.{offset_in, run_of}
 use Rattle.stl_list.specs.CodeBlocks.{in_lines, line_reached, listed_block, listed_blocks}
@@ -48,8 +54,8 @@ use Rattle.listing_laws.proofs.NameLemmas.{AreSignatures, all_signatures, either
 use Rattle.listing_laws.proofs.PlaceLemmas.{HasLines, all_have_lines, lines_count, placed_by}
 use Rattle.listing_laws.proofs.RangeLemmas.{program_listed}
 use Rattle.listing_laws.specs.Forms.{IsPrintedFrame}
-use Rattle.listing_laws.specs.Ranges.{IsWrittenProgram}
-use Rattle.listing_laws.specs.Sources.{IsNamed, IsNamedProgram, IsSourceBlock}
+use Rattle.listing_laws.specs.Ranges.{IsWritten, IsWrittenBlock, IsWrittenProgram}
+use Rattle.listing_laws.specs.Sources.{ActsOn, IsNamed, IsNamedProgram, IsSourceBlock, PassesOn, PreparesOn}
 
 signatures_words : (ss : List Signature) → AreSignatures ss → AreBlocksWords ss
 signatures_words [] h = tt
@@ -102,21 +108,21 @@ source_printable p is w h = record { cut = listed_printable p is w; read = sourc
 -- ---- the program of a source
 
 abbrev HasOps : Run → Type 0
-HasOps r = AllByRecursion IsOp r.before × IsOp r.op
+HasOps r = AllByRecursion IsOp r.before × IsOp r.op × IsWritten r.op.operand
 
 ops_are : (ops : List OpData) → are_ops ops ≡ true → AllByRecursion IsOp ops
 ops_are [] e = tt
 ops_are (op ∷ ops) e = let parts = and_parts (is_op op.code op.operand) (are_ops ops) e in (parts.0, ops_are ops parts.1)
 
-runs_have_ops : (before ops : List OpData) → AllByRecursion IsOp before → AllByRecursion IsOp ops → AllByRecursion HasOps (runs_from before ops)
-runs_have_ops before [] h k = tt
-runs_have_ops before (op ∷ ops) h (one, more) =
+runs_have_ops : (before ops : List OpData) → AllByRecursion IsOp before → AllByRecursion IsOp ops → AllByRecursion (λ op. IsWritten op.operand) ops → AllByRecursion HasOps (runs_from before ops)
+runs_have_ops before [] h k w = tt
+runs_have_ops before (op ∷ ops) h (one, more) (here, there) =
     either_way (λ rs. AllByRecursion HasOps rs) op.last (record { before = before; op = op } ∷ runs_from [] ops) (runs_from (before ++ op ∷ []) ops)
-    ((h, one), runs_have_ops [] ops tt more) (runs_have_ops (before ++ op ∷ []) ops (all_append IsOp before (op ∷ []) h (one, tt)) more)
+    ((h, one, here), runs_have_ops [] ops tt more there) (runs_have_ops (before ++ op ∷ []) ops (all_append IsOp before (op ∷ []) h (one, tt)) more there)
 
-block_ops : (b : CodeBlock) → are_ops b.code ≡ true → AllByRecursion HasOps (runs b.code)
+block_ops : (b : CodeBlock) → are_ops b.code ≡ true → IsWrittenBlock b → AllByRecursion HasOps (runs b.code)
 unfolding runs
-block_ops b e = runs_have_ops [] b.code tt (ops_are b.code e)
+block_ops b e w = runs_have_ops [] b.code tt (ops_are b.code e) w
 
 abbrev HasRunWord : Run → Type 0
 HasRunWord r = is_empty (mnemonic_of r.op) ≡ false
@@ -154,26 +160,55 @@ program_words t symbols layouts =
     all_sorted HasWords is_code_before (each_block (λ c b l. code_block_of c b l l.id) (first_context symbols layouts t.blocks) t.blocks layouts)
     (blocks_have_words (first_context symbols layouts t.blocks) t.blocks layouts)
 
-runs_of_source : (rs : List Run) → AllByRecursion HasOps rs → AllByRecursion HasRunWord rs → AllByRecursion IsNamed rs → AllByRecursion IsSourceRun rs
-runs_of_source [] ops words named = tt
-runs_of_source (r ∷ rs) (op, ops) (word, words) (one, more) =
-    (record { ops = op.0; op = op.1; prepares = one.prepares; shown = one.shown; word = word }, runs_of_source rs ops words more)
+passes_place : (p : Passed) → PassesIn p → PassesOn p → PassesPlace p
+passes_place (passed.Direct a w byte bit) h k = k
+passes_place (passed.InBlock number a w byte bit) h k = (h, k)
+passes_place _ h k = tt
 
-all_source : (bs : List StatedBlock) → AllByRecursion HasWords bs → AllByRecursion IsHead (map compiled bs) → AllByRecursion (λ b. IsEndFree (length b.lines) b) (map compiled bs)
-    → AllByRecursion (λ b. AllByRecursion IsNamed (runs b.code)) (map compiled bs) → AllByRecursion HasLines (map compiled bs) → AllByRecursion IsSourceBlock (map compiled bs)
-all_source [] words heads ends named lines = tt
-all_source (b ∷ bs) (word, words) (head, heads) (end, ends) (one, named) (count, lines) = (
+prepares_place : (o : FlatOperand) → PreparesIn o → PreparesOn o → Prepares o
+prepares_place (flat.Pass index p) h k = passes_place p h k
+prepares_place _ h k = tt
+
+all_prepare : (ops : List OpData) → AllByRecursion (λ op. PreparesIn op.operand) ops → AllByRecursion (λ op. PreparesOn op.operand) ops → AllByRecursion (λ op. Prepares op.operand) ops
+all_prepare [] h k = tt
+all_prepare (op ∷ ops) (one, more) (on, others) = (prepares_place op.operand one on, all_prepare ops more others)
+
+shows : (before : List OpData) (code : ℕ) (o : FlatOperand) → ActsIn (opened_by before) o → IsWritten o → ActsOn before code o → IsShown before code o
+shows before code (flat.Direct a w byte bit) h k on = (h, on)
+shows before code (flat.ByRegister a w register bits) h k on = k
+shows before code (flat.Called kind number instance) h k on = on
+shows before code _ h k on = tt
+
+runs_of_source : (rs : List Run) → AllByRecursion HasOps rs → AllByRecursion HasRunWord rs → AllByRecursion OpensRight rs → AllByRecursion IsNamed rs → AllByRecursion IsSourceRun rs
+runs_of_source [] ops words opens named = tt
+runs_of_source (r ∷ rs) (op, ops) (word, words) (open_, opens) (one, more) = (
   record {
-    statements = runs_of_source (runs (code_in b.statements)) (block_ops (compiled b) head.code)
-        (subst (λ (rs : List Run). AllByRecursion HasRunWord rs) (sym (runs_found b.statements)) (runs_have_words (offset_in b.statements) b.statements word)) one;
+    ops = op.0;
+    op = op.1;
+    prepares = all_prepare r.before open_.prepares one.prepares;
+    shown = shows r.before r.op.code r.op.operand open_.acts op.2 one.acts;
+    word = word;
+  },
+  runs_of_source rs ops words opens more,
+)
+
+all_source : (bs : List StatedBlock) → AllByRecursion HasWords bs → AllByRecursion IsHead (map compiled bs) → AllByRecursion IsWrittenBlock (map compiled bs)
+    → AllByRecursion (λ b. IsEndFree (length b.lines) b) (map compiled bs) → AllByRecursion (λ b. AllByRecursion OpensRight (runs b.code)) (map compiled bs)
+    → AllByRecursion (λ b. AllByRecursion IsNamed (runs b.code)) (map compiled bs) → AllByRecursion HasLines (map compiled bs) → AllByRecursion IsSourceBlock (map compiled bs)
+all_source [] words heads writes ends opens named lines = tt
+all_source (b ∷ bs) (word, words) (head, heads) (written, writes) (end, ends) (open_, opens) (one, named) (count, lines) = (
+  record {
+    statements = runs_of_source (runs (code_in b.statements)) (block_ops (compiled b) head.code written)
+        (subst (λ (rs : List Run). AllByRecursion HasRunWord rs) (sym (runs_found b.statements)) (runs_have_words (offset_in b.statements) b.statements word)) open_ one;
     count = count;
     end = end;
   },
-  all_source bs words heads ends named lines,
+  all_source bs words heads writes ends opens named lines,
 )
 
-pub source_blocks : (t : Tree) (symbols : List Symbol) (layouts : List BlockLayout) → IsWellFormed t → rule_26 t.blocks ≡ [] → IsProgram (program_of t symbols layouts) → IsNamedProgram (program_of t symbols layouts)
-    → AllByRecursion IsSourceBlock (program_of t symbols layouts).code_blocks
+pub source_blocks : (t : Tree) (symbols : List Symbol) (layouts : List BlockLayout) → IsWellFormed t → rule_26 t.blocks ≡ [] → IsProgram (program_of t symbols layouts)
+    → IsNamedProgram (program_of t symbols layouts) → AllByRecursion IsSourceBlock (program_of t symbols layouts).code_blocks
 source_blocks t symbols layouts whole labels is named =
     let bs = code_blocks_of t symbols layouts in
-    all_source bs (program_words t symbols layouts) (program_heads (program_of t symbols layouts) is) (ends_free t symbols layouts whole labels) named (all_have_lines bs)
+    all_source bs (program_words t symbols layouts) (program_heads (program_of t symbols layouts) is) (written_compiled t symbols layouts whole)
+    (ends_free t symbols layouts whole labels) (opened_right t symbols layouts) named (all_have_lines bs)
