@@ -1,5 +1,5 @@
 -- A statement of a source that opens a data block acts on a place in it.
-use Rattle.std.proofs.Common.{◌≡◌, ℕ, suc, Bool, true, false, List, [], ◌∷◌, ◌++◌, map, Option, Some, None, refl, sym, subst}
+use Rattle.std.proofs.Common.{◌≡◌, ℕ, suc, true, List, [], ◌∷◌, map, Option, Some, None, refl, sym, subst}
 use Rattle.std.specs.Prelude.{if◌then◌else◌}
 use Rattle.std.specs.List.{AllByRecursion}
 use Rattle.std.proofs.lemmas.Bool.{and_parts, cond_both, false≢true}
@@ -15,7 +15,6 @@ use Rattle.flat_code.specs.declared.kinds.JumpOperation.TheVariants as jump
 use Rattle.flat_code.specs.declared.kinds.JumpOperation.{JumpOperation}
 use Rattle.flat_code.specs.declared.operands.Operand.TheVariants as flat
 use Rattle.flat_code.specs.declared.operands.Operand.{Operand as FlatOperand}
-use Rattle.flat_code.specs.declared.operands.Passed.{Passed}
 use Rattle.flat_code.specs.declared.operands.Passed.TheVariants as passed
 use Rattle.flat_code.specs.declared.operations.CallOperation.{CallOperation}
 use Rattle.flat_code.specs.declared.operations.EndOperation.{EndOperation}
@@ -36,14 +35,13 @@ use Rattle.stl_types.specs.declared.views.Resolution.{Resolution}
 use Rattle.stl_types.specs.declared.views.ResolvedOperand.TheVariants as view
 use Rattle.stl_types.specs.declared.views.ResolvedOperand.{ResolvedOperand}
 use Rattle.stl_codegen.specs.Compiled.{Stated, StatedBlock, aimed, compiled}
-use Rattle.stl_codegen.specs.Emitted.{opening, passing}
+use Rattle.stl_codegen.specs.Emitted.{passing}
 use Rattle.stl_codegen.specs.Generated.{code_block, code_block_of, code_blocks_of, each_block, returning, stated_from, statements_of}
 use Rattle.stl_codegen.specs.Instruction.{block_at, call_instr, end_instr, in_order, instr_by, instruction, jump_instr, passings_to, resolved_instr, target_of, view_instr}
-use Rattle.stl_codegen.specs.Operands.{direct, is_db, is_in_named_block, opened_by, operand_of}
+use Rattle.stl_codegen.specs.Operands.{is_db, is_in_named_block, opened_by, operand_of}
 use Rattle.stl_codegen.specs.Operations.{call_of, end_of, jump_of}
 use Rattle.stl_codegen.specs.Order.{is_code_before}
 use Rattle.stl_codegen.specs.Passed.{passed_actual, passed_place, passed_seen, passed_view, passings_from, supplied, with_index}
-use Rattle.stl_list.specs.Operands.{opened_by as opened_before}
 use Rattle.stl_list.specs.Runs.{runs}
 use Rattle.listing_laws.proofs.BlockLemmas.{all_sorted}
 use Rattle.listing_laws.proofs.NameLemmas.{either_way}
