@@ -32,7 +32,7 @@ use Rattle.listing_laws.proofs.StatementLemmas.{body_printable}
 use Rattle.listing_laws.proofs.RangeLemmas.{IsInstanceOf, IsListedCode, IsListedData, IsListed, program_listed}
 use Rattle.listing_laws.specs.Ranges.{AreListedPrintable}
 
-abbrev AreBytes : List ℕ → Type 0
+abbrev pub AreBytes : List ℕ → Type 0
 AreBytes bytes = AllByRecursion (λ b. b < 256) bytes
 
 -- ---- declarations and sections
@@ -134,7 +134,7 @@ values_printable bytes = either_way (λ l. AllByRecursion IsPrintableInit l) (li
 
 -- ---- settings
 
-byte_is : (bytes : List ℕ) (at : ℕ) → AreBytes bytes → byte_at bytes at < 256
+pub byte_is : (bytes : List ℕ) (at : ℕ) → AreBytes bytes → byte_at bytes at < 256
 byte_is [] at h = omega arith
 byte_is (b ∷ bytes) zero (one, more) = one
 byte_is (b ∷ bytes) (suc at) (one, more) = byte_is bytes at more
@@ -142,7 +142,7 @@ byte_is (b ∷ bytes) (suc at) (one, more) = byte_is bytes at more
 word_is : (bytes : List ℕ) (at : ℕ) → AreBytes bytes → word_at bytes at < 65536
 word_is bytes at h = omega (arith, byte_is bytes at h, byte_is bytes (at + 1) h)
 
-value_is : (bytes : List ℕ) (w : Width) (byte bit : ℕ) → AreBytes bytes → value_in bytes w byte bit < 4294967296
+pub value_is : (bytes : List ℕ) (w : Width) (byte bit : ℕ) → AreBytes bytes → value_in bytes w byte bit < 4294967296
 value_is bytes width.Bit byte bit h = omega (arith, bit_is (byte_at bytes byte / 2 ^ (bit % 8)))
   where
     bit_is : (n : ℕ) → n % 2 < 2
@@ -166,7 +166,7 @@ byte_printable : (line index value : ℕ) → index ≤ 65535 → AllByRecursion
 byte_printable line index value h =
     either_way (λ l. AllByRecursion IsPrintableSetting l) (value == 0) [] (byte_setting line index value ∷ []) tt (((static_is, (h, tt)), tt), tt)
 
-range_below : (a n most : ℕ) → a + n ≤ most → AllByRecursion (λ i. i < most) (range_with_len a n)
+pub range_below : (a n most : ℕ) → a + n ≤ most → AllByRecursion (λ i. i < most) (range_with_len a n)
 range_below a zero most h = tt
 range_below a (suc n) most h = (omega (arith, h), range_below (a + 1) n most (omega (arith, h)))
 

@@ -38,7 +38,7 @@ use Rattle.listing_laws.proofs.OrderLemmas.{Pairs, all_sorted, pairs_sorted}
 
 -- ---- kinds
 
-same_order : (a b : BlockKind) → is_same_kind a b ≡ nat_eq (kind_order a) (kind_order b)
+pub same_order : (a b : BlockKind) → is_same_kind a b ≡ nat_eq (kind_order a) (kind_order b)
 same_order kinds.Ob kinds.Ob = refl
 same_order kinds.Ob kinds.Fc = refl
 same_order kinds.Ob kinds.Fb = refl

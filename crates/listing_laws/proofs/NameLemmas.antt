@@ -96,7 +96,7 @@ sign_name = (refl, refl)
 known : (b : Bool) (fs : List Formal) (o : Option (List Formal)) → AreFormals fs → AreKnown o → AreKnown (if b then Some fs else o)
 known b fs o h k = either_way AreKnown b (Some fs) o h k
 
-system_named : (n : ℕ) → AreFormals (system_parameters n)
+pub system_named : (n : ℕ) → AreFormals (system_parameters n)
 unfolding system_formals
 system_named n =
     known (nat_eq n 32) (ob_nr ∷ dtime ∷ sign ∷ returns simple.Int ∷ []) _ (ob_nr_name, (dtime_name, (sign_name, (return_is, tt))))
@@ -136,13 +136,13 @@ called_named ss id h = either_way AreFormals (is_system_function id.kind) (syste
 
 -- ---- constants
 
-signed_long : (n : ℕ) → n < 4294967296 → IsLong (cast_signed w32 n)
+pub signed_long : (n : ℕ) → n < 4294967296 → IsLong (cast_signed w32 n)
 signed_long n h = elim (cases_lt n 2147483648) as (λ _. IsLong (cast_signed w32 n)) [
   | inl lt ↦ rw (lt-ltb n 2147483648 lt) (omega (arith, lt))
   | inr ge ↦ rw (le-ltb n 2147483648 ge) (omega (arith, ge, h))
 ]
 
-signed_int : (n : ℕ) → n < 65536 → IsDecimal (cast_signed w16 n)
+pub signed_int : (n : ℕ) → n < 65536 → IsDecimal (cast_signed w16 n)
 signed_int n h = elim (cases_lt n 32768) as (λ _. IsDecimal (cast_signed w16 n)) [
   | inl lt ↦ rw (lt-ltb n 32768 lt) (omega (arith, lt))
   | inr ge ↦ rw (le-ltb n 32768 ge) (omega (arith, ge, h))

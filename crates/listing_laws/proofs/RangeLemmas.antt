@@ -65,7 +65,7 @@ instance_fits : (kind n : ℕ) → (instance_bytes kind).good n ≡ true → n <
 unfolding instance_bytes
 instance_fits kind n good = ltb-true n 65536 (and_parts (nat_lt n 65536) _ good).0
 
-ops_fit : (judged : Bool) (n : ℕ) (ops : List OpData) → (code_of judged n).good ops ≡ true → are_ops ops ≡ true
+pub ops_fit : (judged : Bool) (n : ℕ) (ops : List OpData) → (code_of judged n).good ops ≡ true → are_ops ops ≡ true
 unfolding code_of
 ops_fit judged n ops good = (and_parts (are_ops ops) (is_nowhere (stop_at judged ops [])) (and_parts _ _ good).0).0
 

@@ -1,0 +1,94 @@
+-- The statements of a listing are read back, where their ops are those of a source.
+use Rattle.std.specs.Prelude.{◌≡◌, ◌⊎◌, ◌<◌, ◌*◌, ℕ, suc, true, false, length, List, [], Option, Some, None, slice_get}
+use Rattle.std.specs.List.{AllByRecursion}
+use Rattle.std.specs.Option.{unwrap_or}
+use Rattle.plc_base.specs.declared.places.Area.{Area}
+use Rattle.plc_base.specs.declared.places.Area.TheVariants as area
+use Rattle.plc_base.specs.declared.places.Width.{Width}
+use Rattle.plc_base.specs.declared.places.Width.TheVariants as width
+use Rattle.flat_code.specs.OpCodes.{code_of}
+use Rattle.flat_code.specs.Ops.{IsOp, OpData}
+use Rattle.flat_code.specs.Programs.{CodeBlock}
+use Rattle.flat_code.specs.declared.operands.Operand.{Operand}
+use Rattle.flat_code.specs.declared.operands.Operand.TheVariants as flat
+use Rattle.flat_code.specs.declared.operands.Passed.{Passed}
+use Rattle.flat_code.specs.declared.operands.Passed.TheVariants as passed
+use Rattle.flat_code.specs.declared.operations.CallOperation.TheVariants as calls
+use Rattle.flat_code.specs.declared.operations.Operation.TheVariants as operation
+use Rattle.stl_ast.specs.Operands.{IsBitOf}
+use Rattle.stl_ast.specs.Statements.{is_empty}
+use Rattle.stl_types.specs.declared.parameters.Formal.{Formal}
+use Rattle.stl_lexer.specs.Forms.{is_word}
+use Rattle.stl_list.specs.Mnemonics.{mnemonic_of}
+use Rattle.stl_list.specs.Operands.{opened_by}
+use Rattle.stl_list.specs.Runs.{Run, runs, starts, targets}
+use Rattle.stl_list.specs.Signatures.{Signature}
+use Rattle.stl_list.specs.Statements.{body_of}
+use Rattle.print_laws.specs.Reading.{IsPrintedStatement}
+
+-- ---- ops of a source
+
+-- a place of the peripherals is no bit
+abbrev pub IsNoBit : Area → Width → Type 0
+IsNoBit area.P width.Bit = ⊥
+IsNoBit a w = Unit {0}
+
+-- a place as a source names it: only that of a bit has a bit number
+abbrev pub IsPlace : Area → Width → (bit : ℕ) → Type 0
+IsPlace a w bit = IsNoBit a w × IsBitOf w bit
+
+-- a statement that opens a data block acts on a place in it
+abbrev pub IsOpenedIn : Option ℕ → Area → Type 0
+IsOpenedIn None a = Unit {0}
+IsOpenedIn (Some number) a = a ≡ area.Db
+
+-- what a CALL passes
+abbrev pub PassesPlace : Passed → Type 0
+PassesPlace (passed.Direct a w byte bit) = IsPlace a w bit
+PassesPlace (passed.InBlock number a w byte bit) = (a ≡ area.Db) × IsPlace a w bit
+PassesPlace _ = Unit {0}
+
+-- the operand of an op before the last one of a statement
+abbrev pub Prepares : Operand → Type 0
+Prepares (flat.Pass index p) = PassesPlace p
+Prepares _ = Unit {0}
+
+-- CALL passes parameters, and has no instance or that of a function block (3); UC and CC do neither
+abbrev pub IsCallBy : (before : List OpData) → (code kind instance : ℕ) → Type 0
+IsCallBy before code kind instance =
+    ((code ≡ code_of (operation.Call calls.Call)) × ((instance ≡ 0) ⊎ (kind ≡ 3)))
+    ⊎ ((instance ≡ 0) × (before ≡ []))
+
+-- the operand of the last op of a statement, of an op code, behind these ops
+abbrev pub IsShown : (before : List OpData) → (code : ℕ) → Operand → Type 0
+IsShown before code (flat.Direct a w byte bit) = IsOpenedIn (opened_by before) a × IsPlace a w bit
+IsShown before code (flat.ByRegister a w register bits) = bits < 8 * 65536
+IsShown before code (flat.Called kind number instance) = IsCallBy before code kind instance
+IsShown before code _ = Unit {0}
+
+-- the ops of a statement of a source
+pub record IsSourceRun (r : Run) : Type 0 where
+  pub ops : AllByRecursion IsOp r.before
+  pub op : IsOp r.op
+  pub prepares : AllByRecursion (λ op. Prepares op.operand) r.before
+  pub shown : IsShown r.before r.op.code r.op.operand
+  pub word : is_empty (mnemonic_of r.op) ≡ false
+
+-- ---- the body of a block
+
+-- the parameters of blocks have names
+abbrev pub AreWords : List Formal → Type 0
+AreWords formals = AllByRecursion (λ f. is_word f.name ≡ true) formals
+
+-- no jump leads to the last of so many statements, the END clause
+abbrev pub IsEndFree : (count : ℕ) → CodeBlock → Type 0
+IsEndFree count b =
+    (n : ℕ) → suc n ≡ count → unwrap_or (slice_get (targets (starts b.code) b.code) n) false ≡ false
+
+-- statements of a source are listed as ones that are read back
+abbrev pub AreBodiesPrinted : Type 0
+AreBodiesPrinted =
+    (signatures : List Signature) (lines : List ℕ) (b : CodeBlock)
+    → AllByRecursion (λ s. AreWords s.formals) signatures
+    → AllByRecursion IsSourceRun (runs b.code) → IsEndFree (length lines) b
+    → AllByRecursion IsPrintedStatement (body_of signatures lines b)

@@ -1,0 +1,49 @@
+-- The forms of a listing: its data blocks, and its code blocks but for their statements, are ones that
+-- are read back.
+use Rattle.std.specs.Prelude.{◌≡◌, ℕ, true, List, [], None}
+use Rattle.std.specs.List.{AllByRecursion}
+use Rattle.plc_base.specs.Kinds.{is_code}
+use Rattle.flat_code.specs.Image.{IsProgram}
+use Rattle.flat_code.specs.Programs.{Program}
+use Rattle.stl_ast.specs.WellFormed.{AreInOrder}
+use Rattle.stl_ast.specs.declared.blocks.Block.{Block}
+use Rattle.stl_list.specs.CodeBlocks.{in_lines, listed_blocks}
+use Rattle.stl_list.specs.DataBlocks.{listed_data_blocks}
+use Rattle.stl_list.specs.Joined.{chains_of}
+use Rattle.stl_list.specs.Signatures.{Signature, signatures}
+use Rattle.print_laws.specs.Reading.{IsLabel, IsNameOf, IsPrintedBlock, IsPrintedPart, IsResultOf}
+use Rattle.stl_list.specs.Labels.{label_of}
+use Rattle.listing_laws.specs.Ranges.{IsWrittenProgram}
+
+-- what a listing says of the blocks of a program
+abbrev pub program_signatures : Program → List Signature
+program_signatures p = signatures (chains_of p.code_blocks) p.code_blocks
+
+-- a code block but for its statements
+pub record IsPrintedFrame (b : Block) : Type 0 where
+  pub name : IsNameOf b.kind b.name
+  pub kind : is_code b.kind ≡ true
+  pub result : IsResultOf b.kind b.result
+  pub order : AreInOrder 0 b.parts
+  pub parts : AllByRecursion (IsPrintedPart b.kind) b.parts
+  pub shape : b.shape ≡ None
+  pub components : b.components ≡ []
+  pub instance : b.instance_of ≡ None
+  pub settings : b.settings ≡ []
+
+-- the data blocks of a listing are read back
+abbrev pub AreDataPrinted : Type 0
+AreDataPrinted =
+    (p : Program) (line : ℕ) → IsProgram p → IsWrittenProgram p
+    → AllByRecursion IsPrintedBlock (listed_data_blocks (program_signatures p) line p.data_blocks)
+
+-- and so are its code blocks, but for their statements
+abbrev pub AreFramesPrinted : Type 0
+AreFramesPrinted =
+    (p : Program) → IsProgram p → IsWrittenProgram p
+    → AllByRecursion IsPrintedFrame
+    (listed_blocks (program_signatures p) 1 (in_lines p.code_blocks))
+
+-- a label that a listing makes is no keyword, and short
+abbrev pub AreLabelsPrinted : Type 0
+AreLabelsPrinted = (n : ℕ) → IsLabel (label_of n)

@@ -1,0 +1,42 @@
+-- A statement of a source that opens a data block acts on a place in it.
+use Rattle.std.specs.Prelude.{◌≡◌, ℕ, List, Option}
+use Rattle.std.specs.List.{AllByRecursion}
+use Rattle.plc_base.specs.declared.places.Area.TheVariants as area
+use Rattle.flat_code.specs.declared.operands.Operand.{Operand}
+use Rattle.flat_code.specs.declared.operands.Operand.TheVariants as flat
+use Rattle.flat_code.specs.declared.operands.Passed.{Passed}
+use Rattle.flat_code.specs.declared.operands.Passed.TheVariants as passed
+use Rattle.block_layout.specs.declared.blocks.BlockLayout.{BlockLayout}
+use Rattle.stl_ast.specs.declared.blocks.Tree.{Tree}
+use Rattle.stl_codegen.specs.Generated.{program_of}
+use Rattle.stl_list.specs.Operands.{opened_by}
+use Rattle.stl_list.specs.Runs.{Run, runs}
+use Rattle.stl_symbols.specs.Symbol.{Symbol}
+use Rattle.listing_laws.specs.Bodies.{IsOpenedIn}
+
+-- a fixed place, where a data block is opened first
+abbrev pub ActsIn : (opened : Option ℕ) → Operand → Type 0
+ActsIn opened (flat.Direct a w byte bit) = IsOpenedIn opened a
+ActsIn opened _ = Unit {0}
+
+-- a place that is passed in a data block
+abbrev pub PassesIn : Passed → Type 0
+PassesIn (passed.InBlock number a w byte bit) = a ≡ area.Db
+PassesIn _ = Unit {0}
+
+-- the same of an op before a call
+abbrev pub PreparesIn : Operand → Type 0
+PreparesIn (flat.Pass index p) = PassesIn p
+PreparesIn _ = Unit {0}
+
+-- the ops of a statement
+pub record OpensRight (r : Run) : Type 0 where
+  pub acts : ActsIn (opened_by r.before) r.op.operand
+  pub prepares : AllByRecursion (λ op. PreparesIn op.operand) r.before
+
+-- those of the program of each source
+abbrev pub AreOpenedRight : Type 0
+AreOpenedRight =
+    (t : Tree) (symbols : List Symbol) (layouts : List BlockLayout)
+    → AllByRecursion (λ b. AllByRecursion OpensRight (runs b.code))
+    (program_of t symbols layouts).code_blocks
