@@ -2,6 +2,7 @@
 //! statements, lines, labels and blocks are those of the program.
 #![tactic(auto)]
 
+mod accepted_types;
 mod called_names;
 mod calls;
 mod chains;
@@ -24,6 +25,7 @@ mod source_types;
 mod statements;
 mod steps;
 
+pub use accepted_types::law_of_accepted_types;
 pub use called_names::law_of_called_names;
 pub use calls::law_of_listed_calls;
 pub use chains::law_of_listed_chains;
