@@ -1,10 +1,10 @@
 -- An accepted source owes nothing for the types of its parameters.
-use Rattle.std.proofs.Common.{◌≡◌, ℕ, zero, suc, ◌⊎◌, inl, inr, Bool, true, false, ◌&&◌, ◌||◌, not, is_some, List, [], ◌∷◌, length, map, Option, Some, None, slice_get, refl, sym, ap, subst, ◌∙◌, if◌then◌else◌, eq-eqb}
+use Rattle.std.proofs.Common.{◌≡◌, ℕ, zero, suc, Bool, true, false, ◌||◌, not, is_some, List, [], ◌∷◌, length, map, Option, Some, None, slice_get, refl, sym, ap, subst, ◌∙◌, if◌then◌else◌}
 use Rattle.std.specs.Prelude.{unwrap_or}
 use Rattle.std.specs.List.{AllByRecursion, list_all, list_any}
 use Rattle.std.specs.Option.{is_none, option_and_then, option_map}
 use Rattle.std.proofs.lemmas.Option.{same_Some}
-use Rattle.plc_base.specs.Kinds.{is_callable, is_code, is_function, is_function_block, is_same_block, is_same_kind, is_system_function}
+use Rattle.plc_base.specs.Kinds.{is_callable, is_code, is_function, is_same_block, is_system_function}
 use Rattle.plc_base.specs.declared.blocks.BlockId.{BlockId}
 use Rattle.plc_base.specs.declared.blocks.BlockKind.{BlockKind}
 use Rattle.plc_base.specs.declared.blocks.BlockKind.TheVariants as kinds
@@ -45,21 +45,22 @@ use Rattle.stl_types.specs.declared.views.Resolution.TheVariants.{Resolved, Unkn
 use Rattle.stl_types.specs.declared.views.ResolvedOperand.{ResolvedOperand}
 use Rattle.stl_types.specs.declared.views.ResolvedOperand.TheVariants as view
 use Rattle.stl_codegen.specs.Compiled.{StatedBlock, compiled}
-use Rattle.stl_codegen.specs.Generated.{code_block, code_blocks_of, params_of}
+use Rattle.stl_codegen.specs.Generated.{code_blocks_of, params_of}
 use Rattle.stl_codegen.specs.Instruction.{in_order}
 use Rattle.stl_list.specs.Joined.{system_parameters}
 use Rattle.sem_kept.proofs.accepted.Accepted.{AllLaid, IsSound, IsSoundStatement, IsSoundTree, context_at, right_tree}
 use Rattle.sem_kept.proofs.accepted.OperandsCells.{block_unbroken, cells_are, known_there, measured_symbols, place_there}
-use Rattle.sem_kept.proofs.accepted.OperandsFormals.{Distinct, IsFoundIn, IsSystem, Matched, block_formals, found_each, fresh_distinct, return_all, source_matched, system_matched}
+use Rattle.sem_kept.proofs.accepted.OperandsFormals.{Distinct, IsFoundIn, Matched, block_formals, found_each, fresh_distinct, return_all, source_matched, system_matched}
 use Rattle.sem_kept.proofs.accepted.OperandsMembers.{code_block_there, one_block}
 use Rattle.sem_kept.proofs.accepted.OperandsOperations.{allowed}
-use Rattle.sem_kept.proofs.accepted.OperandsPlaces.{AreParameters, IsParameterCell as IsParameterOf, function_components}
+use Rattle.sem_kept.proofs.accepted.OperandsPlaces.{AreParameters, function_components}
 use Rattle.sem_kept.proofs.accepted.OperandsViews.{IsThere, id_there, id_there_is, ids_same, layout_id}
-use Rattle.sem_kept.proofs.accepted.Shared.{callable_by, kind_there}
+use Rattle.sem_kept.proofs.accepted.Shared.{callable_by}
 use Rattle.listing_laws.specs.AcceptedTypes.{AreAcceptedTypesKept, AreAcceptedTypesOwed, declared_kinds, kinds_at}
-use Rattle.listing_laws.specs.HandedOn.{IsCallable, IsFoundAmong, OwesCall, SeesOwn, called_kinds, ordered}
+use Rattle.listing_laws.specs.HandedOn.{IsFoundAmong, SeesOwn, called_kinds, ordered}
 use Rattle.listing_laws.specs.Owned.{IsParameterCell, own_kinds}
 use Rattle.listing_laws.specs.SourceTypes.{OweBodies, OwesBody, OwesStatement}
+use Rattle.listing_laws.proofs.IdLemmas.{id_itself}
 use Rattle.listing_laws.proofs.called.Owned.{own_seen}
 use Rattle.listing_laws.proofs.called.Sources.{source_types_kept}
 
@@ -174,23 +175,14 @@ got_mapped [] k l e = absurd cc
 got_mapped (x ∷ ls) zero l e = ap (λ (z : BlockLayout). Some z.id) (same_Some x l e)
 got_mapped (x ∷ ls) (suc k) l e = got_mapped ls k l e
 
-same_itself : (k : BlockKind) → is_same_kind k k ≡ true
-same_itself kinds.Ob = refl
-same_itself kinds.Fc = refl
-same_itself kinds.Fb = refl
-same_itself kinds.Db = refl
-same_itself kinds.Sfc = refl
-same_itself kinds.Udt = refl
-
-id_itself : (id : BlockId) → is_same_block id id ≡ true
-id_itself id = rw (same_itself id.kind) (eq-eqb id.number id.number refl)
-
 place_known : (id : BlockId) (is : List (Option BlockId)) (k : ℕ) → slice_get is k ≡ Some (Some id)
     → (m : ℕ) × (block_place id is ≡ Some m)
 place_known id [] k e = absurd cc
-place_known id (i ∷ is) zero e =
-    (0, ap (λ (t : Bool). if t then Some 0 else option_map (λ k. suc k) (block_place id is))
-    (ap (is_id id) (same_Some i (Some id) e) ∙ id_itself id))
+place_known id (i ∷ is) zero e = (
+  0,
+  ap (λ (t : Bool). if t then Some 0 else option_map (λ k. suc k) (block_place id is))
+      (ap (is_id id) (same_Some i (Some id) e) ∙ id_itself id),
+)
 place_known id (i ∷ is) (suc k) e = by (is_id id i) (place_known id is k e)
   where
     by : (t : Bool) → (m : ℕ) × (block_place id is ≡ Some m)
@@ -399,10 +391,12 @@ module _ (symbols : List Symbol) (t : Tree) (tree : IsSoundTree symbols t) where
         ∙ sym (ap (callee_of c) n.is) ∙ e
 
     owed : (s : Statement) → IsSoundStatement (types_of symbols t.blocks) c s → OwesStatement types all c s
-    owed s h id instance e =
-        ((callable, either (is_system_function id.kind) refl), λ callee is.
-        let right = callee_right id callee (found_callee s.operand id callee named is) in
-        (right.0, (h.calls callee is).fits, right.1))
+    owed s h id instance e = (
+      (callable, either (is_system_function id.kind) refl),
+      λ callee is.
+          let right = callee_right id callee (found_callee s.operand id callee named is) in
+          (right.0, (h.calls callee is).fits, right.1),
+    )
       where
         at : seen c s.operand ≡ Resolved (view.Called id instance)
         at = resolved_seen c s (view.Called id instance) e
