@@ -84,7 +84,7 @@ same_itself kinds.Db = refl
 same_itself kinds.Sfc = refl
 same_itself kinds.Udt = refl
 
-id_itself : (id : BlockId) → is_same_block id id ≡ true
+pub id_itself : (id : BlockId) → is_same_block id id ≡ true
 id_itself id = rw (same_itself id.kind) (eq-eqb id.number id.number refl)
 
 same_turned : (a b : BlockId) → is_same_block a b ≡ false → is_same_block b a ≡ false

@@ -1,4 +1,5 @@
 -- Lemmas on the calls of a listing.
+pub mod AcceptedTypes
 pub mod Calls
 pub mod Chains
 pub mod Fitting

@@ -2,6 +2,7 @@
 //! statements, lines, labels and blocks are those of the program.
 #![tactic(auto)]
 
+mod accepted_types;
 mod bodies;
 mod called_names;
 mod calling;
@@ -37,6 +38,7 @@ mod sources;
 mod statements;
 mod steps;
 
+pub use accepted_types::law_of_accepted_types;
 pub use bodies::law_of_listed_bodies;
 pub use called_names::law_of_called_names;
 pub use calling::law_of_listed_bare_calls;
