@@ -1,0 +1,39 @@
+-- The data blocks with a structure of their own, in the listing of an accepted source's program.
+use Rattle.std.specs.Prelude.{◌≡◌, ℕ, false, List, [], ◌∷◌, length, Some, None, slice_get}
+use Rattle.std.specs.List.{AllByRecursion}
+use Rattle.flat_code.specs.Programs.{DataBlock}
+use Rattle.stl_ast.specs.Literals.{AreBytes}
+use Rattle.stl_ast.specs.declared.blocks.Block.{Block}
+use Rattle.stl_ast.specs.declared.blocks.Tree.{Tree}
+use Rattle.stl_symbols.specs.Symbol.{Symbol}
+use Rattle.block_layout.specs.Layouts.{layouts_of}
+use Rattle.block_layout.specs.Lengths.{length_of}
+use Rattle.block_layout.specs.Types.{Types}
+use Rattle.block_layout.specs.declared.blocks.BlockLayout.{BlockLayout}
+use Rattle.stl_types.specs.Bodies.{first_context}
+use Rattle.stl_codegen.specs.Generated.{data_block_of}
+use Rattle.stl_list.specs.DataBlocks.{listed_data}
+use Rattle.stl_list.specs.Signatures.{Signature}
+use Rattle.sem_kept.specs.Accepted.{IsAccepted, program_in}
+use Rattle.listing_laws.specs.Declared.{signatures_in}
+
+-- a data block with a structure of its own, listed, is as long as it was, whatever stands beside it; and
+-- where it stands in a source and breaks no rule as a whole, the program of that source has it again,
+-- with its number and its bytes
+pub record IsOwnDataAgain (ss : List Signature) (d : DataBlock) : Type 0 where
+  pub length : (y : Types) (blocks : List Block) (line : ℕ)
+      → length_of y blocks (listed_data ss line d.number d.bytes None) ≡ length d.bytes
+  pub again : (symbols : List Symbol) (t : Tree) (k line : ℕ) (l : BlockLayout)
+      → slice_get t.blocks k ≡ Some (listed_data ss line d.number d.bytes None)
+      → slice_get (layouts_of t symbols) k ≡ Some l → l.broken ≡ false
+      → data_block_of (record (first_context symbols (layouts_of t symbols) t.blocks) { block = k })
+      l l.id ≡ d ∷ []
+
+-- so it is with each such data block of an accepted source's program
+abbrev pub AreOwnDataAgain : Type 0
+AreOwnDataAgain =
+    (source file : List ℕ) (symbols : List Symbol) (t : Tree)
+    → IsAccepted source file symbols t → AreBytes source → AreBytes file
+    → AllByRecursion
+    (λ d. d.instance_of ≡ None → IsOwnDataAgain (signatures_in (program_in symbols t)) d)
+    (program_in symbols t).data_blocks
