@@ -12,4 +12,5 @@ pub mod Chains
 pub mod Links
 pub mod Own
 pub mod OwnData
+pub mod OwnKept
 pub mod Right

@@ -11,8 +11,9 @@ use Rattle.block_layout.specs.Lengths.{length_of}
 use Rattle.block_layout.specs.Types.{Types}
 use Rattle.block_layout.specs.declared.blocks.BlockLayout.{BlockLayout}
 use Rattle.stl_types.specs.Bodies.{first_context}
-use Rattle.stl_codegen.specs.Generated.{data_block_of}
+use Rattle.stl_codegen.specs.Generated.{data_block_of, data_blocks_of}
 use Rattle.stl_list.specs.DataBlocks.{listed_data}
+use Rattle.stl_list.specs.Listing.{listed_tree}
 use Rattle.stl_list.specs.Signatures.{Signature}
 use Rattle.sem_kept.specs.Accepted.{IsAccepted, program_in}
 use Rattle.listing_laws.specs.Declared.{signatures_in}
@@ -36,4 +37,22 @@ AreOwnDataAgain =
     → IsAccepted source file symbols t → AreBytes source → AreBytes file
     → AllByRecursion
     (λ d. d.instance_of ≡ None → IsOwnDataAgain (signatures_in (program_in symbols t)) d)
+    (program_in symbols t).data_blocks
+
+-- a data block that is one of some
+pub record IsAmong (d : DataBlock) (ds : List DataBlock) : Type 0 where
+  pub place : ℕ
+  pub there : slice_get ds place ≡ Some d
+
+-- and where no block of the listing breaks a rule as a whole, each is among the data blocks of its program
+abbrev pub AreOwnDataKept : Type 0
+AreOwnDataKept =
+    (source file : List ℕ) (symbols : List Symbol) (t : Tree)
+    → IsAccepted source file symbols t → AreBytes source → AreBytes file → (others : List Symbol)
+    → AllByRecursion (λ l. l.broken ≡ false) (layouts_of (listed_tree (program_in symbols t)) others)
+    → AllByRecursion
+    (λ d. d.instance_of ≡ None
+    → IsAmong d
+    (data_blocks_of (listed_tree (program_in symbols t)) others
+    (layouts_of (listed_tree (program_in symbols t)) others)))
     (program_in symbols t).data_blocks
