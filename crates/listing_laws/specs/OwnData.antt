@@ -8,6 +8,7 @@ use Rattle.stl_ast.specs.declared.blocks.Tree.{Tree}
 use Rattle.stl_symbols.specs.Symbol.{Symbol}
 use Rattle.block_layout.specs.Layouts.{layouts_of}
 use Rattle.block_layout.specs.Lengths.{length_of}
+use Rattle.block_layout.specs.Rule51.{is_too_long}
 use Rattle.block_layout.specs.Types.{Types}
 use Rattle.block_layout.specs.declared.blocks.BlockLayout.{BlockLayout}
 use Rattle.stl_types.specs.Bodies.{first_context}
@@ -18,12 +19,14 @@ use Rattle.stl_list.specs.Signatures.{Signature}
 use Rattle.sem_kept.specs.Accepted.{IsAccepted, program_in}
 use Rattle.listing_laws.specs.Declared.{signatures_in}
 
--- a data block with a structure of its own, listed, is as long as it was, whatever stands beside it; and
--- where it stands in a source and breaks no rule as a whole, the program of that source has it again,
--- with its number and its bytes
+-- a data block with a structure of its own, listed, is as long as it was and not too long, whatever
+-- stands beside it (rule 51); and where it stands in a source and breaks no rule as a whole, the program of
+-- that source has it again, with its number and its bytes
 pub record IsOwnDataAgain (ss : List Signature) (d : DataBlock) : Type 0 where
   pub length : (y : Types) (blocks : List Block) (line : ℕ)
       → length_of y blocks (listed_data ss line d.number d.bytes None) ≡ length d.bytes
+  pub by_51 : (y : Types) (blocks : List Block) (line : ℕ)
+      → is_too_long y blocks (listed_data ss line d.number d.bytes None) ≡ false
   pub again : (symbols : List Symbol) (t : Tree) (k line : ℕ) (l : BlockLayout)
       → slice_get t.blocks k ≡ Some (listed_data ss line d.number d.bytes None)
       → slice_get (layouts_of t symbols) k ≡ Some l → l.broken ≡ false

@@ -1,9 +1,10 @@
 -- The data blocks with a structure of their own are those of the program again.
 use Rattle.std.proofs.Common.{◌≡◌, ℕ, zero, suc, ◌+◌, ◌*◌, ◌/◌, ◌%◌, ◌<◌, ◌≤◌, Bool, true, false, List, [], ◌∷◌, ◌++◌, length, replicate, Option, Some, None, refl, sym, ap, ◌∙◌, arith}
-use Rattle.std.specs.Prelude.{if◌then◌else◌, slice_get}
+use Rattle.std.specs.Prelude.{if◌then◌else◌, nat_lt, slice_get}
 use Rattle.std.specs.List.{AllByRecursion}
 use Rattle.std.specs.Option.{option_and_then, option_map}
 use Rattle.std.proofs.lemmas.Bool.{ltb-false}
+use Rattle.std.proofs.lemmas.Bool.Decides.{nat_tests}
 use Rattle.std.proofs.lemmas.List.{length-replicate}
 use Rattle.plc_base.specs.Kinds.{is_data_block}
 use Rattle.plc_base.specs.declared.blocks.BlockId.{BlockId}
@@ -168,9 +169,13 @@ own_structure ls k l there whole own =
     ap (λ o. option_and_then (λ (b : BlockLayout). shape_block ls k b.shape) (whole_block o)) there
     ∙ ap (λ (t : Bool). option_and_then (λ (b : BlockLayout). shape_block ls k b.shape) (if t then None else Some l)) whole ∙ ap (shape_block ls k) own
 
+not_long : (n : ℕ) → n ≤ 16384 → nat_lt 16384 n ≡ false
+not_long n h = grind (arith, nat_tests)
+
 own_again : (ss : List Signature) (d : DataBlock) → IsEven d → AllByRecursion (λ b. b < 256) d.bytes → d.instance_of ≡ None → IsOwnDataAgain ss d
 own_again ss d h small own = record {
   length = λ y blocks line. listed_long y blocks ss line d.number d.bytes h.even h.short;
+  by_51 = λ y blocks line. ap (nat_lt 16384) (listed_long y blocks ss line d.number d.bytes h.even h.short) ∙ not_long (length d.bytes) h.short;
   again = λ symbols t k line l there e whole. again symbols t k line l there e whole;
 }
   where
