@@ -11,4 +11,6 @@ pub mod Blocks
 pub mod Chains
 pub mod Links
 pub mod Own
+pub mod OwnData
+pub mod OwnKept
 pub mod Right

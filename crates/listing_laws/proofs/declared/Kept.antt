@@ -147,11 +147,11 @@ plain_params y ss reached b p other plain last a l e =
 
 -- ---- local data
 
-even : (n : ℕ) → n % 2 ≡ 0 → up (8 * n) 16 ≡ 8 * n
+pub even : (n : ℕ) → n % 2 ≡ 0 → up (8 * n) 16 ≡ 8 * n
 unfolding up
 even n h = omega (arith, h)
 
-uncapped : (n : ℕ) → n ≤ 131072 → capped n ≡ n
+pub uncapped : (n : ℕ) → n ≤ 131072 → capped n ≡ n
 uncapped n h = grind (arith, nat_tests)
 
 bytes_bits : (kind : PartKind) (name : List ℕ) (n : ℕ) → 0 < n → n % 2 ≡ 0 → n ≤ 16384 → cell_bits (byte_cell kind name n) [] ≡ 8 * n
@@ -161,15 +161,15 @@ bytes_bits kind name n some is_even short =
     let whole : n * 8 ≡ 8 * n = omega arith in
     rw (size, whole, uncapped (8 * n) (omega (arith, short)), even n is_even, uncapped (8 * n) (omega (arith, short))) refl
 
-up_from : (n : ℕ) → up 0 16 + n ≡ n
+pub up_from : (n : ℕ) → up 0 16 + n ≡ n
 unfolding up
 up_from n = omega arith
 
-no_bytes_end : (n : ℕ) → n ≡ 0 → capped (up (end_of 0 0 []) 16) ≡ 8 * n
+pub no_bytes_end : (n : ℕ) → n ≡ 0 → capped (up (end_of 0 0 []) 16) ≡ 8 * n
 unfolding end_of up
 no_bytes_end n z = omega (arith, z)
 
-last_step : (at : ℕ) → end_of 0 at [] ≡ at
+pub last_step : (at : ℕ) → end_of 0 at [] ≡ at
 unfolding end_of
 last_step at = refl
 

@@ -188,7 +188,7 @@ written_again bytes small near =
 -- ---- the declaration
 
 -- the cell of the array that a data block has
-own_cell : ℕ → List Init → Cell
+unfoldable pub own_cell : ℕ → List Init → Cell
 own_cell n values = record {
   name = folded data_name;
   section = part.Static;
@@ -329,3 +329,10 @@ own_bytes y l blocks k ss line number bytes structure cells long there small nea
     (λ i. fold put (replicate (long i) 0) (structure_writes l (structure i) ++ setting_writes l k (settings_at (there i))))
     ∙ ap (fold put (replicate (length bytes) 0)) (append-nil (structure_writes l (Some k)) ∙ whole_writes l k ∙ ap (writes_from (type_writes l 8) 0 (0 ∷ []) 0) cells)
     ∙ structure_back (type_writes l 8) line y bytes small near
+
+-- the components of a data block of some bytes
+pub own_cells : (y : Types) (line b : ℕ) (bs : List ℕ) → cells_of y of_structure part.Static [] (bytes_here line data_name (length (b ∷ bs)) (values_of (b ∷ bs)))
+    ≡ own_cell (length (b ∷ bs)) (values_of (b ∷ bs)) ∷ []
+own_cells y line b bs =
+    ap (λ (t : Bool). cells_of y of_structure part.Static [] (if t then [] else byte_array line data_name (length (b ∷ bs)) (values_of (b ∷ bs)) ∷ [])) (some_bytes b bs)
+    ∙ own_listed y line (length (b ∷ bs)) (values_of (b ∷ bs)) (omega arith) (some_fit b bs)
