@@ -13,7 +13,10 @@ use Rattle.machine.specs.Entering.{Call, Fails, Stops, Enters, call}
 use Rattle.machine.specs.Returning.{Return, GoesOn, Ends, returning}
 use Rattle.machine.specs.SystemCalls.{Given, system_call, system_function}
 use Rattle.machine.specs.Statement.{World, Step, went_on, after_call, after_system_call, after_return, block_called, system_called, called, is_called, is_ended, returned, callee_of, performed, fetched, Goes}
+use Rattle.machine.specs.Flat.{is_jl, jump_instr, list_of, most_listed}
 use Rattle.machine.specs.There.{is_there, is_complete}
+use Rattle.flat_code.specs.Ops.{OpData}
+use Rattle.flat_code.specs.declared.kinds.JumpOperation.{JumpOperation}
 
 parts_go : (e : Result Parts ℕ) (next : ℕ) (a : Activation) → Goes (went_on e next a)
 parts_go (Ok p) next a = tt
@@ -83,3 +86,15 @@ pub fetched_goes :
     → is_complete c f a.running.frame.block ≡ true → Goes (fetched c f a w)
 fetched_goes c (Some f) a w there = performed_goes c f.instr f.next a w there
 fetched_goes c None a w there = absurd (false≢true there)
+
+either_jump :
+    (b : Bool) (c : Code) (own : BlockId) (operation : JumpOperation) (list : List ℕ) (target : ℕ)
+    → is_there c (if b then JumpsByList list target else Jumps operation target) own ≡ true
+either_jump true c own operation list target = refl
+either_jump false c own operation list target = refl
+
+pub jump_is_there :
+    (c : Code) (own : BlockId) (operation : JumpOperation) (target next : ℕ) (ops : List OpData)
+    → is_there c (jump_instr operation target next ops) own ≡ true
+jump_is_there c own operation target next ops =
+    either_jump (is_jl operation) c own operation (list_of most_listed ops target next) target

@@ -1,9 +1,8 @@
 pub mod Calling
-pub mod Fetching
+pub mod FetchLemmas
 pub mod Going
 pub mod Ready
 pub mod Lifts
-pub mod Completing
 pub mod Steps
 pub mod Walks
 pub mod Sizes

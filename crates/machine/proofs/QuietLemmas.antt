@@ -1,123 +1,67 @@
 -- Statements one after another that leave the peripheral outputs as they are.
 use Rattle.std.specs.Option.{option_map}
-use Rattle.std.proofs.Common.{◌≡◌, ◌∙◌, ◌+◌, ◌<◌, ◌≤◌, ℕ, zero, suc, length, is_ok, is_some, arith, Bool, true, false, List, [], ◌∷◌, Option, Some, None, Result, Ok, Err, refl, sym, ap, subst}
+use Rattle.std.proofs.Common.{◌≡◌, ◌∙◌, ◌+◌, ◌<◌, ◌≤◌, ◌&&◌, ℕ, zero, suc, length, is_some, not, arith, Bool, true, false, List, [], ◌∷◌, Option, Some, None, Result, Ok, Err, refl, sym, ap, subst, if◌then◌else◌}
+use Rattle.plc_base.specs.Kinds.{is_system_function}
 use Rattle.plc_base.specs.declared.BlockId.{BlockId}
 use Rattle.plc_mem.specs.Areas.{Areas}
-use Rattle.timers_counters.specs.Timer.{Timer}
-use Rattle.timers_counters.specs.Counter.{Counter}
 use Rattle.frames.specs.Activations.{frames_of, refused}
 use Rattle.frames.specs.declared.Activation.{Activation}
 use Rattle.frames.specs.declared.bindings.Binding.{Binding}
 use Rattle.frames.specs.declared.frame.Frame.{Frame}
 use Rattle.frames.specs.declared.FrameFault.{FrameFault}
-use Rattle.frames.specs.declared.running.Running.{Running}
-use Rattle.flat_code.specs.Instr.{Instr, Passing}
+use Rattle.flat_code.specs.Instr.{Instr, Does, Jumps, JumpsByList, Calls, Returns, Passing}
 use Rattle.flat_code.specs.Ops.{OpData}
 use Rattle.flat_code.specs.Placed.{op_placed}
 use Rattle.flat_code.specs.Programs.{CodeBlock, Program}
-use Rattle.flat_code.specs.Operations.{operation_of}
+use Rattle.flat_code.specs.declared.kinds.JumpOperation.{JumpOperation}
 use Rattle.flat_code.specs.declared.operands.Operand.{Operand}
-use Rattle.flat_code.specs.declared.operations.Operation.{Operation}
+use Rattle.flat_code.specs.declared.operands.Operand.TheVariants as operand
+use Rattle.flat_code.specs.declared.operations.CallOperation.{CallOperation}
+use Rattle.flat_code.specs.declared.operations.Operation.TheVariants as operation
 use Rattle.flat_code.specs.declared.programs.Param.{Param}
+use Rattle.flat_code.specs.Kinds.{jump_of}
 use Rattle.image_file.specs.Readers.{block_of}
+use Rattle.machine.specs.declared.outcomes.Outcome.{Outcome}
 use Rattle.machine.specs.declared.outcomes.Outcome.TheVariants as outcome
-use Rattle.machine.specs.Code.{Code, Fetched}
-use Rattle.machine.specs.Entering.{Call, Fails, Stops, Enters, Callee, Calls, called_with, entered_if, supplied}
-use Rattle.machine.specs.Flat.{code_of, instr_of, most_ops, run_at, statement_at}
-use Rattle.machine.specs.Outcomes.{Meets}
-use Rattle.machine.specs.Parts.{Parts, scene_of}
-use Rattle.machine.specs.Quiet.{GoesQuietly, GoesOrStays, RunsQuietly, StaysReady, goes_as, goes_on, has_caller as has_caller_of, is_of, is_quiet}
-use Rattle.machine.specs.Returning.{Return, Returns, GoesOn, Ends, given_back, left, returning}
-use Rattle.machine.specs.Statement.{Comes, Goes, Step, Went, Ended, SyncError, SysCall, Stop, Stuck, World, after_call, after_return, fetched, performed, statement, went_on, world}
-use Rattle.machine.specs.Walking.{Passes, Walk, walk_with}
-use Rattle.machine.proofs.Fetching.{fetched_nowhere, found_walk}
+use Rattle.machine.specs.Code.{Code, Fetched, Head}
+use Rattle.machine.specs.Does.{does_with}
+use Rattle.machine.specs.Entering.{Call, Fails, Stops, Enters, Callee, call, called_with, entered_if, supplied}
+use Rattle.machine.specs.Bindings.{bindings_of}
+use Rattle.machine.specs.Flat.{code_of, instr_of, is_jl, most_ops, run_at, statement_at}
+use Rattle.machine.specs.Lasting.{IsReady}
+use Rattle.machine.specs.Parts.{Parts, own_of, parts_of, scene_of}
+use Rattle.machine.specs.Quiet.{GoesQuietly, GoesOrStays, RunsQuietly, StaysReady, goes_as, goes_on, has_caller as has_caller_of, is_next, is_quiet, keeps_outputs, stays_in_block}
+use Rattle.machine.specs.Returning.{Return, GoesOn, Ends, given_back, left, returning}
+use Rattle.machine.specs.Statement.{Comes, Goes, Performs, Step, Went, Ended, SyncError, SysCall, Stop, Stuck, World, after_call, after_return, block_called, called, callee_of, fetched, is_called, is_ended, performed, returned, statement, went_on}
+use Rattle.machine.specs.Walking.{Walk, fetched_at, walk_with}
+use Rattle.machine.proofs.FetchLemmas.{found_there, found_nowhere, goes_there}
 use Rattle.machine.proofs.Keeping.{IfDone}
-use Rattle.machine.proofs.Outputs.{Stay, params_in_stay}
-use Rattle.machine.proofs.Steps.{call_comes, moved_to, return_comes, went_comes}
-use Rattle.machine.proofs.Walks.{first_ends}
+use Rattle.machine.proofs.Outputs.{PartsStay, Stay, does_with_stays, params_in_stay}
 
--- ---- one statement
+both_true : (p q : Bool) → (p && q) ≡ true → (p ≡ true) × (q ≡ true)
+both_true true true h = (refl, refl)
+both_true true false h = absurd cc
+both_true false true h = absurd cc
+both_true false false h = absurd cc
 
--- a call that goes on has come to what the statement comes to
-pub came_to : (step : Step) (old new : Activation) (w after : World) → Comes step old new w after outcome.Went
-    → step ≡ Went new after
-came_to (Went a v) old new w after h = let first : new ≡ a = h.0 in let second : after ≡ v = h.1 in cc
-came_to (Ended regs v) old new w after h = absurd h
-came_to (SyncError code a) old new w after h = absurd h
-came_to (SysCall number given a) old new w after h = absurd h
-came_to (Stop cause) old new w after h = absurd h
-came_to Stuck old new w after h = absurd h
+is_not : (p : Bool) → not p ≡ true → p ≡ false
+is_not true h = absurd cc
+is_not false h = refl
 
-pub went_quietly :
-    (e : Result Parts ℕ) (next : ℕ) (a : Activation) (s : Running) (m m' : Areas) (t t' : List Timer) (n n' : List Counter)
-    → Meets e a.running s m m' t t' n n' (Ok tt) → IfDone (λ (q : Parts). Stay m q.memory) e
-    → GoesQuietly (went_on e next a) (world m t n) (moved_to next a s) (world m' t' n')
-went_quietly (Ok p) next a s m m' t t' n n' h stays = record {
-  goes = came_to (went_on (Ok p) next a) a (moved_to next a s) (world m t n) (world m' t' n')
-      (went_comes (Ok p) next a s m m' t t' n n' h);
-  outputs = ap (λ (z : Areas). z.peripheral_outputs) h.1 ∙ stays;
-}
-went_quietly (Err e) next a s m m' t t' n n' h stays = absurd h
+-- ---- what comes of an instruction that is sure to show nothing
 
-pub failed_stays :
-    (e : Result Parts ℕ) (a : Activation) (s : Running) (m m' : Areas) (t t' : List Timer) (n n' : List Counter) (code : ℕ)
-    → Meets e a.running s m m' t t' n n' (Err code)
-    → ((let r : Activation = record a { running = s } in r) ≡ a) × (world m' t' n' ≡ world m t n)
-failed_stays (Ok p) a s m m' t t' n n' code h = absurd h
-failed_stays (Err e) a s m m' t t' n n' code h =
-    (ap (λ (z : Running). let r : Activation = record a { running = z } in r) h.1, worlds h.2 h.3 h.4)
-  where
-    worlds : m' ≡ m → t' ≡ t → n' ≡ n → world m' t' n' ≡ world m t n
-    worlds a b c = cc
+-- it fails, stops, or leaves the peripheral outputs as they are
+abbrev StepStays : Areas → Step → Type 0
+StepStays m (Went a after) = Stay m after.memory
+StepStays m (Ended regs after) = ⊥
+StepStays m (SysCall number given a) = ⊥
+StepStays m _ = Unit {0}
 
--- the statement of a block that is there
-pub statement_in :
-    (p : Program) (b : CodeBlock) (a : Activation) (w : World) → block_of a.running.frame.block p.code_blocks ≡ Some b
-    → statement (code_of p) a w ≡ fetched (code_of p) (statement_at b a.running.frame.at) a w
-unfolding statement
-statement_in p b a w is = rw is refl
-
--- what the machine finds along the ops is the statement there
-pub found_there :
-    (b : CodeBlock) (at : ℕ) (walk : Walk) (what : Operation) (operand : Operand) (opens : Option ℕ) (next : ℕ) (c : Code)
-    (kind : Instr → Activation → Bool) (a after : Activation) (w v : World) (answer : Bool)
-    → what ≡ operation_of walk.last.code → operand ≡ walk.last.operand → opens ≡ walk.opens → next ≡ walk.next
-    → Some walk ≡ option_map (walk_with None) (run_at most_ops b.code at) → Goes (fetched c (statement_at b at) a w)
-    → ((passings : List Passing) → Passes b.code at passings
-    → GoesOrStays (performed c (instr_of what operand opens passings next b.code) next a w)
-    (kind (instr_of what operand opens passings next b.code) a) a after w v answer)
-    → GoesOrStays (fetched c (statement_at b at) a w) (is_of kind (statement_at b at) a) a after w v answer
-found_there b at walk what operand opens next c kind a after w v answer words operands opened behind h there goes =
-    let found = found_walk b at walk c a w h there in
-    subst (λ (f : Option Fetched). GoesOrStays (fetched c f a w) (is_of kind f a) a after w v answer) (sym found.3)
-    (at_walk found.0 found.1)
-  where
-    at_walk : (passings : List Passing) → Passes b.code at passings
-        → GoesOrStays (performed c (instr_of (operation_of walk.last.code) walk.last.operand walk.opens passings walk.next b.code) walk.next a w)
-        (kind (instr_of (operation_of walk.last.code) walk.last.operand walk.opens passings walk.next b.code) a) a after w v answer
-    at_walk passings pass = rw (sym words, sym operands, sym opened, sym behind) (goes passings pass)
-
--- the same of a statement of one op
-pub found_alone :
-    (r : OpData × ℕ) (b : CodeBlock) (at : ℕ) → Some r ≡ op_placed 0 b.code at → (what : Operation) (operand : Operand) (c : Code)
-    (kind : Instr → Activation → Bool) (a after : Activation) (w v : World) (answer : Bool)
-    → what ≡ operation_of r.0.code → operand ≡ r.0.operand → r.0.last ≡ true → Goes (fetched c (statement_at b at) a w)
-    → ((passings : List Passing) → Passes b.code at passings
-    → GoesOrStays (performed c (instr_of what operand None passings r.1 b.code) r.1 a w)
-    (kind (instr_of what operand None passings r.1 b.code) a) a after w v answer)
-    → GoesOrStays (fetched c (statement_at b at) a w) (is_of kind (statement_at b at) a) a after w v answer
-found_alone r b at placed what operand c kind a after w v answer words operands last there goes =
-    found_there b at (record { opens = None; last = r.0; next = r.1 }) what operand None r.1 c kind a after w v answer
-    words operands refl refl (first_ends b.code at r.1 r.0 placed last) there goes
-
--- and where it finds none, no statement is there
-pub found_nowhere :
-    (b : CodeBlock) (at : ℕ) (c : Code) (kind : Instr → Activation → Bool) (a : Activation) (w : World)
-    → None ≡ option_map (walk_with None) (run_at most_ops b.code at) → Goes (fetched c (statement_at b at) a w)
-    → GoesOrStays (fetched c (statement_at b at) a w) (is_of kind (statement_at b at) a) a a w w false
-found_nowhere b at c kind a w h there = absurd (fetched_nowhere b at c a w h there)
-
--- ---- calls and returns
+plain_stays :
+    (e : Result Parts ℕ) (next : ℕ) (a : Activation) (p : Parts) → IfDone (PartsStay p) e
+    → StepStays p.memory (went_on e next a)
+plain_stays (Ok q) next a p stays = stays
+plain_stays (Err code) next a p stays = tt
 
 abbrev EnterStays : Areas → Call → Type 0
 EnterStays m (Enters a after) = Stay m after
@@ -135,37 +79,33 @@ entered_stays :
 entered_stays (Some fault) called bindings next a m = tt
 entered_stays None called bindings next a m = supplied_stays called.instance called.params _ m
 
-calls_quietly :
-    (c : Call) (next : ℕ) (a after : Activation) (m m' : Areas) (t : List Timer) (n : List Counter) → EnterStays m c
-    → Calls c a after m m' (Ok tt) → GoesQuietly (after_call c next a (world m t n)) (world m t n) after (world m' t n)
-calls_quietly (Fails code) next a after m m' t n stays h = absurd h
-calls_quietly (Stops fault) next a after m m' t n stays h = absurd h
-calls_quietly (Enters to memory) next a after m m' t n stays h = record {
-  goes = came_to (after_call (Enters to memory) next a (world m t n)) a after (world m t n) (world m' t n)
-      (call_comes (Enters to memory) next a after m m' t n h);
-  outputs = ap (λ (z : Areas). z.peripheral_outputs) h.1 ∙ stays;
-}
+call_bound_stays :
+    (bindings : Result (List Binding) ℕ) (called : Callee) (next : ℕ) (a : Activation) (m : Areas)
+    → EnterStays m (called_with bindings called next a m)
+call_bound_stays (Err code) called next a m = tt
+call_bound_stays (Ok bindings) called next a m =
+    entered_stays (refused called.local_len a) called bindings next a m
 
-refused_stays :
-    (c : Call) (next : ℕ) (a after : Activation) (m m' : Areas) (t : List Timer) (n : List Counter) (fault : FrameFault)
-    → Calls c a after m m' (Err fault)
-    → (after ≡ a) × (world m' t n ≡ world m t n) × (goes_on (after_call c next a (world m t n)) ≡ false)
-refused_stays (Fails code) next a after m m' t n fault h = absurd h
-refused_stays (Stops why) next a after m m' t n fault h = (h.1, ap (λ (z : Areas). world z t n) h.2, refl)
-refused_stays (Enters to memory) next a after m m' t n fault h = absurd h
+call_stays :
+    (called : Callee) (passings : List Passing) (next : ℕ) (a : Activation) (m : Areas)
+    → EnterStays m (call called passings next a m)
+unfolding call
+call_stays called passings next a m =
+    call_bound_stays (bindings_of called.params passings (own_of a.running) m) called next a m
 
--- a call whose parameters are bound
-pub enters_or_stays :
-    (called : Callee) (bindings : List Binding) (next : ℕ) (a after : Activation) (m m' : Areas)
-    (t : List Timer) (n : List Counter) (answer : Result (Unit {0}) FrameFault)
-    → Calls (entered_if (refused called.local_len a) called bindings next a m) a after m m' answer
-    → GoesOrStays (after_call (called_with (Ok bindings) called next a m) next a (world m t n)) true
-    a after (world m t n) (world m' t n) (is_ok answer)
-enters_or_stays called bindings next a after m m' t n (Ok done) h =
-    calls_quietly (entered_if (refused called.local_len a) called bindings next a m) next a after m m' t n
-    (entered_stays (refused called.local_len a) called bindings next a m) h
-enters_or_stays called bindings next a after m m' t n (Err fault) h =
-    refused_stays (entered_if (refused called.local_len a) called bindings next a m) next a after m m' t n fault h
+after_call_stays :
+    (c : Call) (next : ℕ) (a : Activation) (w : World) → EnterStays w.memory c → StepStays w.memory (after_call c next a w)
+after_call_stays (Fails code) next a w stays = tt
+after_call_stays (Stops fault) next a w stays = tt
+after_call_stays (Enters to m) next a w stays = stays
+
+block_called_stays :
+    (head : Option Head) (block : BlockId) (instance : Option ℕ) (passings : List Passing) (next : ℕ) (a : Activation)
+    (w : World) → StepStays w.memory (block_called head block instance passings next a w)
+block_called_stays None block instance passings next a w = tt
+block_called_stays (Some h) block instance passings next a w =
+    after_call_stays (call (callee_of block instance h) passings next a w.memory) next a w
+    (call_stays (callee_of block instance h) passings next a w.memory)
 
 -- a return from a block without an instance to its caller
 abbrev ReturnStays : Areas → Return → Type 0
@@ -189,38 +129,198 @@ return_stays :
 unfolding returning
 return_stays params a m has none = left_stays a.below params a.running.frame.instance a m has none
 
-returned_by :
-    (r : Return) (a after : Activation) (m m' : Areas) (t : List Timer) (n : List Counter) (answer : Bool)
-    → ReturnStays m r → Returns r a after m' answer
-    → GoesOrStays (after_return r (world m t n)) true a after (world m t n) (world m' t n) answer
-returned_by (Ends regs memory) a after m m' t n answer stays h = absurd stays
-returned_by (GoesOn to memory) a after m m' t n false stays h = absurd h
-returned_by (GoesOn to memory) a after m m' t n true stays h = record {
-  goes = came_to (after_return (GoesOn to memory) (world m t n)) a after (world m t n) (world m' t n)
-      (return_comes (GoesOn to memory) a after m m' t n h);
-  outputs = ap (λ (z : Areas). z.peripheral_outputs) h.1 ∙ stays;
-}
+after_return_stays : (r : Return) (w : World) → ReturnStays w.memory r → StepStays w.memory (after_return r w)
+after_return_stays (GoesOn to m) w stays = stays
+after_return_stays (Ends regs m) w stays = absurd stays
 
-has_caller : (below : List Frame) → 1 ≤ length below → HasCaller below
-has_caller [] h = absurd (omega arith)
-has_caller (caller ∷ rest) h = tt
+returned_stays :
+    (head : Option Head) (a : Activation) (w : World) → HasCaller a.below → a.running.frame.instance ≡ None
+    → StepStays w.memory (returned head a w)
+returned_stays None a w has none = tt
+returned_stays (Some h) a w has none =
+    after_return_stays (returning h.params a w.memory) w (return_stays h.params a w.memory has none)
 
-pub returns_or_stays :
-    (params : List Param) (a after : Activation) (m m' : Areas) (t : List Timer) (n : List Counter) (answer : Bool)
-    → 1 ≤ length a.below → a.running.frame.instance ≡ None → Returns (returning params a m) a after m' answer
-    → GoesOrStays (after_return (returning params a m) (world m t n)) true a after (world m t n) (world m' t n) answer
-returns_or_stays params a after m m' t n answer has none h =
-    returned_by (returning params a m) a after m m' t n answer (return_stays params a m (has_caller a.below has) none) h
+caller_there : (below : List Frame) → has_caller_of below ≡ true → HasCaller below
+caller_there [] h = absurd cc
+caller_there (caller ∷ rest) h = tt
 
--- a block that was called has a caller
-pub has_below :
-    (a : Activation) (depth : ℕ) → a.left ≡ false → depth ≡ length (frames_of a) → 2 ≤ depth → 1 ≤ length a.below
-has_below a depth stands is two =
-    let frames : length (frames_of a) ≡ suc (length a.below) = rw stands refl in omega (arith, is, frames, two)
-
-pub no_instance : (instance : Option ℕ) → is_some instance ≡ false → instance ≡ None
+no_instance : (instance : Option ℕ) → is_some instance ≡ false → instance ≡ None
 no_instance None h = refl
 no_instance (Some number) h = absurd cc
+
+-- an instruction of the kind
+quiet_stays :
+    (c : Code) (i : Instr) (next : ℕ) (a : Activation) (w : World) → is_quiet i a ≡ true
+    → StepStays w.memory (performed c i next a w)
+quiet_stays c (Does use_db operation operand) next a w h =
+    plain_stays (does_with use_db operation operand (parts_of a.running w.memory w.timers w.counters)) next a
+    (parts_of a.running w.memory w.timers w.counters)
+    (does_with_stays use_db operation operand (parts_of a.running w.memory w.timers w.counters)
+    (both_true _ (keeps_outputs operation operand a.running.frame.bindings) h).1)
+quiet_stays c (Jumps operation target) next a w h = refl
+quiet_stays c (JumpsByList targets otherwise) next a w h = absurd cc
+quiet_stays c (Calls how block instance passings) next a w h =
+    let made = both_true (is_called how a.running.regs.status.rlo) (not (is_system_function block.kind)) h in
+    rw (made.0, is_not (is_system_function block.kind) made.1)
+    (block_called_stays (c.head block) block instance passings next a w)
+quiet_stays c (Returns how) next a w h =
+    let made = both_true (is_ended how a.running.regs.status.rlo && not (is_some a.running.frame.instance)) (has_caller_of a.below) h in
+    let ends = both_true (is_ended how a.running.regs.status.rlo) (not (is_some a.running.frame.instance)) made.0 in
+    rw ends.0
+    (returned_stays (c.head a.running.frame.block) a w (caller_there a.below made.1)
+    (no_instance a.running.frame.instance (is_not (is_some a.running.frame.instance) ends.1)))
+
+-- ---- one statement
+
+-- an instruction that was performed went, or left all as it was
+by_step :
+    (step : Step) (next : ℕ) (a b : Activation) (w v : World) (answer : Bool) (other : Outcome) → Goes step
+    → StepStays w.memory step → Performs step next a b w v answer other → GoesOrStays step true a b w v answer
+by_step (Went x after) next a b w v true other there stays h = record {
+  goes = let first : b ≡ x = h.0 in let second : v ≡ after = h.1 in cc;
+  outputs = ap (λ (z : World). z.memory.peripheral_outputs) h.1 ∙ stays;
+}
+by_step (Went x after) next a b w v false other there stays h = absurd h
+by_step (Ended regs after) next a b w v answer other there stays h = absurd stays
+by_step (SyncError code x) next a b w v false (outcome.SyncError error) there stays h = (h.2, h.3, refl)
+by_step (SyncError code x) next a b w v false outcome.Went there stays h = absurd h
+by_step (SyncError code x) next a b w v false outcome.Ended there stays h = absurd h
+by_step (SyncError code x) next a b w v false (outcome.SysCall function inputs result) there stays h = absurd h
+by_step (SyncError code x) next a b w v false (outcome.Stop cause) there stays h = absurd h
+by_step (SyncError code x) next a b w v true other there stays h = absurd h
+by_step (SysCall number given x) next a b w v answer other there stays h = absurd stays
+by_step (Stop cause) next a b w v false (outcome.Stop why) there stays h = (h.1, h.2, refl)
+by_step (Stop cause) next a b w v false outcome.Went there stays h = absurd h
+by_step (Stop cause) next a b w v false outcome.Ended there stays h = absurd h
+by_step (Stop cause) next a b w v false (outcome.SysCall function inputs result) there stays h = absurd h
+by_step (Stop cause) next a b w v false (outcome.SyncError code) there stays h = absurd h
+by_step (Stop cause) next a b w v true other there stays h = absurd h
+by_step Stuck next a b w v answer other there stays h = absurd there
+
+pub performed_quietly :
+    (c : Code) (f : Fetched) (a b : Activation) (w v : World) (answer passed : Bool) (other : Outcome)
+    → is_quiet f.instr a ≡ true → Goes (performed c f.instr f.next a w)
+    → Performs (performed c f.instr f.next a w) f.next a b w v answer other → passed ≡ answer
+    → GoesOrStays (performed c f.instr f.next a w) (is_quiet f.instr a) a b w v passed
+performed_quietly c f a b w v answer passed other quiet there h same =
+    rw (same, quiet)
+    (by_step (performed c f.instr f.next a w) f.next a b w v answer other there
+    (quiet_stays c f.instr f.next a w quiet) h)
+
+-- the running block is the same after an instruction that stays in it
+abbrev StepIn : BlockId → Step → Type 0
+StepIn block (Went a after) = a.running.frame.block ≡ block
+StepIn block _ = Unit {0}
+
+plain_in : (e : Result Parts ℕ) (next : ℕ) (a : Activation) → StepIn a.running.frame.block (went_on e next a)
+plain_in (Ok q) next a = refl
+plain_in (Err code) next a = tt
+
+step_in :
+    (c : Code) (i : Instr) (next : ℕ) (a : Activation) (w : World) → stays_in_block i ≡ true
+    → StepIn a.running.frame.block (performed c i next a w)
+step_in c (Does use_db operation operand) next a w h =
+    plain_in (does_with use_db operation operand (parts_of a.running w.memory w.timers w.counters)) next a
+step_in c (Jumps operation target) next a w h = refl
+step_in c (JumpsByList targets otherwise) next a w h = refl
+step_in c (Calls how block instance passings) next a w h = absurd cc
+step_in c (Returns how) next a w h = absurd cc
+
+block_by :
+    (step : Step) (next : ℕ) (a b : Activation) (w v : World) (other : Outcome) → Goes step → StepIn a.running.frame.block step
+    → Performs step next a b w v true other → b.running.frame.block ≡ a.running.frame.block
+block_by (Went x after) next a b w v other there inside h =
+    ap (λ (z : Activation). z.running.frame.block) h.0 ∙ inside
+block_by (Ended regs after) next a b w v other there inside h = absurd h
+block_by (SyncError code x) next a b w v other there inside h = absurd h
+block_by (SysCall number given x) next a b w v other there inside h = absurd h
+block_by (Stop cause) next a b w v other there inside h = absurd h
+block_by Stuck next a b w v other there inside h = absurd there
+
+pub block_stays :
+    (c : Code) (f : Fetched) (a b : Activation) (w v : World) (answer : Bool) (other : Outcome) → answer ≡ true
+    → stays_in_block f.instr ≡ true → Goes (performed c f.instr f.next a w)
+    → Performs (performed c f.instr f.next a w) f.next a b w v answer other
+    → b.running.frame.block ≡ a.running.frame.block
+block_stays c f a b w v true other is inside there h =
+    block_by (performed c f.instr f.next a w) f.next a b w v other there (step_in c f.instr f.next a w inside) h
+block_stays c f a b w v false other is inside there h = absurd cc
+
+-- ---- the kinds of ops
+
+by_list :
+    (b : Bool) (list : List ℕ) (target otherwise : ℕ) (jumps : JumpOperation) (a : Activation)
+    → not b ≡ is_quiet (if b then JumpsByList list otherwise else Jumps jumps target) a
+by_list true list target otherwise jumps a = refl
+by_list false list target otherwise jumps a = refl
+
+pub jump_is_quiet :
+    (kind target : ℕ) (opens : Option ℕ) (passings : List Passing) (next : ℕ) (ops : List OpData) (a : Activation)
+    → not (is_jl (jump_of kind)) ≡ is_quiet (instr_of operation.Jump (operand.Jump kind target) opens passings next ops) a
+jump_is_quiet kind target opens passings next ops a = by_list (is_jl (jump_of kind)) _ target target (jump_of kind) a
+
+jump_in :
+    (b : Bool) (list : List ℕ) (target otherwise : ℕ) (jumps : JumpOperation)
+    → stays_in_block (if b then JumpsByList list otherwise else Jumps jumps target) ≡ true
+jump_in true list target otherwise jumps = refl
+jump_in false list target otherwise jumps = refl
+
+pub jump_stays :
+    (o : Operand) (opens : Option ℕ) (passings : List Passing) (next : ℕ) (ops : List OpData)
+    → stays_in_block (instr_of operation.Jump o opens passings next ops) ≡ true
+jump_stays (operand.Jump kind target) opens passings next ops = jump_in (is_jl (jump_of kind)) _ target target (jump_of kind)
+jump_stays operand.Nothing opens passings next ops = refl
+jump_stays (operand.Literal value) opens passings next ops = refl
+jump_stays (operand.Direct area width byte bit) opens passings next ops = refl
+jump_stays (operand.ByMemory area width from byte) opens passings next ops = refl
+jump_stays (operand.ByRegister area width register bits) opens passings next ops = refl
+jump_stays (operand.Parameter index width) opens passings next ops = refl
+jump_stays (operand.Numbered kind number) opens passings next ops = refl
+jump_stays (operand.NumberedBy kind from byte) opens passings next ops = refl
+jump_stays (operand.OfStatus condition) opens passings next ops = refl
+jump_stays (operand.UseDb number) opens passings next ops = refl
+jump_stays (operand.Silent index actual) opens passings next ops = refl
+jump_stays (operand.Called kind number instance) opens passings next ops = refl
+jump_stays (operand.OpenBlock register number) opens passings next ops = refl
+jump_stays (operand.OpenBy register from byte) opens passings next ops = refl
+
+-- ---- a statement that was found
+
+statement_is :
+    (p : Program) (b : CodeBlock) (f : Fetched) (a : Activation) (w : World)
+    → block_of a.running.frame.block p.code_blocks ≡ Some b → statement_at b a.running.frame.at ≡ Some f
+    → statement (code_of p) a w ≡ performed (code_of p) f.instr f.next a w
+unfolding statement
+statement_is p b f a w is found = rw (is, found) refl
+
+statement_in :
+    (p : Program) (b : CodeBlock) (a : Activation) (w : World) → block_of a.running.frame.block p.code_blocks ≡ Some b
+    → statement (code_of p) a w ≡ fetched (code_of p) (statement_at b a.running.frame.at) a w
+unfolding statement
+statement_in p b a w is = rw is refl
+
+pub there_of :
+    (p : Program) (b : CodeBlock) (a : Activation) (w : World) → block_of a.running.frame.block p.code_blocks ≡ Some b
+    → IsReady p a → is_some (statement_at b a.running.frame.at) ≡ true
+there_of p b a w is ready =
+    goes_there (code_of p) (statement_at b a.running.frame.at) a w (subst Goes (statement_in p b a w is) (ready.there w))
+
+-- so it has what it needs
+pub performs_there :
+    (p : Program) (b : CodeBlock) (f : Fetched) (a : Activation) (w : World)
+    → block_of a.running.frame.block p.code_blocks ≡ Some b → statement_at b a.running.frame.at ≡ Some f → IsReady p a
+    → Goes (performed (code_of p) f.instr f.next a w)
+performs_there p b f a w is found ready =
+    subst Goes (statement_is p b f a w is found) (ready.there w)
+
+-- and what came of its instruction came of it
+pub statement_passed :
+    (p : Program) (b : CodeBlock) (f : Fetched) (a c : Activation) (w v : World) (answer : Bool)
+    → block_of a.running.frame.block p.code_blocks ≡ Some b → statement_at b a.running.frame.at ≡ Some f
+    → GoesOrStays (performed (code_of p) f.instr f.next a w) (is_quiet f.instr a) a c w v answer
+    → GoesOrStays (statement (code_of p) a w) (is_next is_quiet (code_of p) a) a c w v answer
+unfolding statement
+statement_passed p b f a c w v answer is found h = rw (is, found) h
 
 -- ---- one after another
 
@@ -244,34 +344,6 @@ pub stays_ready :
 stays_ready p i a b w v ready runs =
     λ j c u more. ready (i + j) c u (runs_on (code_of p) i j a b c w v u runs more)
 
--- the statement of a block that is there was tried
-pub here_of :
-    (p : Program) (b : CodeBlock) (a after : Activation) (w v : World) (answer : Bool) (kind : Instr → Activation → Bool)
-    → block_of a.running.frame.block p.code_blocks ≡ Some b
-    → GoesOrStays (fetched (code_of p) (statement_at b a.running.frame.at) a w)
-    (is_of kind (statement_at b a.running.frame.at) a) a after w v answer
-    → GoesOrStays (statement (code_of p) a w)
-    (is_of kind ((code_of p).fetch a.running.frame.block a.running.frame.at) a) a after w v answer
-unfolding statement
-here_of p b a after w v answer kind is goes = rw is goes
-
--- one more statement of a block that was tried
-pub tried :
-    (p : Program) (b : CodeBlock) (i : ℕ) (a c d : Activation) (w v u : World) (answer : Bool)
-    → block_of a.running.frame.block p.code_blocks ≡ Some b → c.running.frame.block ≡ a.running.frame.block
-    → StaysReady p a w → RunsQuietly (code_of p) i a c w v
-    → (Goes (fetched (code_of p) (statement_at b c.running.frame.at) c v)
-    → GoesOrStays (fetched (code_of p) (statement_at b c.running.frame.at) c v)
-    (is_of is_quiet (statement_at b c.running.frame.at) c) c d v u answer)
-    → GoesOrStays (statement (code_of p) c v)
-    (is_of is_quiet ((code_of p).fetch c.running.frame.block c.running.frame.at) c) c d v u answer
-tried p b i a c d w v u answer found same ready runs pass =
-    let here : block_of c.running.frame.block p.code_blocks ≡ Some b =
-    ap (λ (block : BlockId). block_of block p.code_blocks) same ∙ found in
-    let is : statement (code_of p) c v ≡ fetched (code_of p) (statement_at b c.running.frame.at) c v = statement_in p b c v here in
-    let there : Goes (statement (code_of p) c v) = (ready i c v runs).there v in
-    here_of p b c d v u answer is_quiet here (pass (subst Goes is there))
-
 pub runs_next :
     (code : Code) (i : ℕ) (a c d : Activation) (w v u : World) (kind answer : Bool) → answer ≡ true
     → GoesOrStays (statement code c v) kind c d v u answer → RunsQuietly code i a c w v → RunsQuietly code (i + 1) a d w u
@@ -289,8 +361,7 @@ runs_still code i a c d w v u kind false is goes runs = rw (goes.0, goes.1) runs
 -- nothing was done since the statement isn't of the kind or doesn't go on, and so it is still
 pub stops_at :
     (code : Code) (kind : Instr → Activation → Bool) (a b : Activation) (w v : World) (answer : Bool) → answer ≡ false
-    → GoesOrStays (statement code a w) (is_of kind (code.fetch a.running.frame.block a.running.frame.at) a) a b w v answer
-    → goes_as kind code b v ≡ false
+    → GoesOrStays (statement code a w) (is_next kind code a) a b w v answer → goes_as kind code b v ≡ false
 stops_at code kind a b w v true is goes = absurd cc
 stops_at code kind a b w v false is goes = rw (goes.0, goes.1) goes.2
 

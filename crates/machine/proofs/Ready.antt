@@ -34,9 +34,8 @@ use Rattle.flat_code.specs.Forms.{is_callable, kind_of_code, payload_fits}
 use Rattle.machine.specs.Flat.{Run, run_at, run_with, with_op, most_ops, code_of, head_of, call_instr, instr_of, fetched_of, use_db_of, passings_of, statement_at}
 use Rattle.machine.specs.Statement.{World, statement, Goes}
 use Rattle.machine.specs.There.{is_callee, is_there, is_complete}
-use Rattle.machine.proofs.Completing.{jump_is_there}
-use Rattle.machine.proofs.Fetching.{none_some}
-use Rattle.machine.proofs.Going.{fetched_goes}
+use Rattle.machine.proofs.FetchLemmas.{none_some}
+use Rattle.machine.proofs.Going.{fetched_goes, jump_is_there}
 
 -- the last op of a statement stands at some offset
 abbrev HasLast : List OpData → Run → Type 0

@@ -14,8 +14,8 @@ use Rattle.flat_code.specs.declared.operands.Operand.TheVariants as operand
 use Rattle.flat_code.specs.declared.operations.Operation.{Operation}
 use Rattle.flat_code.specs.declared.operations.Operation.TheVariants as operation
 use Rattle.machine.specs.Code.{Code, Fetched}
-use Rattle.machine.specs.declared.quiet.Pass.{Pass}
-use Rattle.machine.specs.declared.quiet.Pass.TheVariants as pass
+use Rattle.machine.specs.declared.running.Silent.{Silent}
+use Rattle.machine.specs.declared.running.Silent.TheVariants as silent
 use Rattle.machine.specs.Flat.{code_of}
 use Rattle.machine.specs.Lasting.{IsReady}
 use Rattle.machine.specs.Places.{is_peripheral}
@@ -109,16 +109,24 @@ is_quiet (Returns how) a =
     && has_caller a.below
 is_quiet _ a = false
 
+-- after an instruction with which the activation goes on its block is surely the running one still
+abbrev pub stays_in_block : Instr → Bool
+stays_in_block (Calls how block instance passings) = false
+stays_in_block (Returns how) = false
+stays_in_block _ = true
+
 -- the statement has an instruction of a kind
 abbrev pub is_of : (Instr → Activation → Bool) → Option Fetched → Activation → Bool
 is_of kind None a = false
 is_of kind (Some f) a = kind f.instr a
 
--- the next statement is of a kind, and the activation goes on after it
+-- the next statement is of a kind
+abbrev pub is_next : (Instr → Activation → Bool) → Code → Activation → Bool
+is_next kind code a = is_of kind (code.fetch a.running.frame.block a.running.frame.at) a
+
+-- and the activation goes on after it
 abbrev pub goes_as : (Instr → Activation → Bool) → Code → Activation → World → Bool
-goes_as kind code a w =
-    is_of kind (code.fetch a.running.frame.block a.running.frame.at) a
-    && goes_on (statement code a w)
+goes_as kind code a w = is_next kind code a && goes_on (statement code a w)
 
 -- one such statement was executed, or nothing was done, since it isn't of the kind or doesn't go on
 abbrev pub GoesOrStays : Step → (kind : Bool) → (old new : Activation) (w after : World) → Bool → Type 0
@@ -127,11 +135,11 @@ GoesOrStays step kind old new w after false =
     (new ≡ old) × (after ≡ w) × ((kind && goes_on step) ≡ false)
 
 -- what came of a statement that was tried: whether it was executed
-abbrev pub has_passed : Pass → Bool
-has_passed pass.Not = false
-has_passed _ = true
+abbrev pub shows_nothing : Silent → Bool
+shows_nothing silent.Not = false
+shows_nothing _ = true
 
 -- and whether its block is surely the running one still
-abbrev pub is_still_inside : Pass → Bool
-is_still_inside pass.Inside = true
+abbrev pub is_still_inside : Silent → Bool
+is_still_inside silent.Inside = true
 is_still_inside _ = false

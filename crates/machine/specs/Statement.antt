@@ -1,5 +1,5 @@
 -- One statement of an activation: what comes of it. This is the only place where positions move.
-use Rattle.std.specs.Prelude.{◌≡◌, ℕ, Bool, true, List, Option, Some, None, Result, Ok, Err, if◌then◌else◌}
+use Rattle.std.specs.Prelude.{◌≡◌, ℕ, Bool, true, false, List, Option, Some, None, Result, Ok, Err, if◌then◌else◌}
 use Rattle.plc_base.specs.Kinds.{is_system_function}
 use Rattle.plc_base.specs.StopCauses as causes
 use Rattle.plc_base.specs.declared.BlockId.{BlockId}
@@ -190,3 +190,22 @@ Comes (SysCall number given a) old new w w' (outcome.SysCall function inputs res
     (function ≡ number) × (inputs ≡ given.inputs) × (result ≡ given.result) × (new ≡ a) × (w' ≡ w)
 Comes (Stop cause) old new w w' (outcome.Stop answer) = (answer ≡ cause) × (new ≡ old) × (w' ≡ w)
 Comes step old new w w' answer = ⊥
+
+-- the answer is a synchronous error
+abbrev pub is_error : Outcome → Bool
+is_error (outcome.SyncError code) = true
+is_error _ = false
+
+-- whether the activation goes on once an instruction was performed, what else came of it, and what
+-- that left: a synchronous error nothing at all, so that the next statement is still to be gone to. Of
+-- an instruction that lacks what it needs nothing is said
+abbrev pub Performs :
+    Step → (next : ℕ) → (old new : Activation) (w w' : World) → (goes : Bool) → (other : Outcome) → Type 0
+Performs Stuck next old new w w' goes other = Unit {0}
+Performs (Went a after) next old new w w' true other = (new ≡ a) × (w' ≡ after)
+Performs (Went a after) next old new w w' false other = ⊥
+Performs (SyncError code a) next old new w w' false (outcome.SyncError answer) =
+    (answer ≡ code) × (a ≡ moved_on next old) × (new ≡ old) × (w' ≡ w)
+Performs (SyncError code a) next old new w w' goes other = ⊥
+Performs step next old new w w' false other = Comes step old new w w' other
+Performs step next old new w w' true other = ⊥

@@ -2,7 +2,7 @@ use Rattle.std.proofs.Common.{◌-◌, ◌≤◌}
 use Rattle.machine.specs.Flat.{code_of}
 use Rattle.machine.specs.Quiet.{RunsQuietly}
 use Rattle.machine.specs.Statement.{world}
-use Rattle.machine.proofs.quiet.quiet_statements.Given as goal
+use Rattle.machine.proofs.running.run.Given as goal
 
 abbrev pub invariant-loop-done : goal.invariant-loop-done
 invariant-loop-done l = record {

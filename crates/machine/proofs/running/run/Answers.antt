@@ -2,7 +2,7 @@ use Rattle.std.proofs.Common.{rules}
 use Rattle.machine.specs.Flat.{code_of}
 use Rattle.machine.specs.Statement.{world}
 use Rattle.machine.proofs.QuietLemmas.{runs_on, stays_ready}
-use Rattle.machine.proofs.quiet.quiet_statements.Goals as goal
+use Rattle.machine.proofs.running.run.Goals as goal
 
 pub run_inside-more-requires : goal.run_inside-more-requires
 run_inside-more-requires c =
