@@ -9,18 +9,17 @@ use Rattle.flat_code.specs.Ops.{OpData}
 use Rattle.flat_code.specs.Placed.{op_placed, line_placed}
 use Rattle.flat_code.specs.Programs.{CodeBlock}
 use Rattle.flat_code.specs.Operations.{operation_of}
-use Rattle.flat_code.specs.declared.operations.Operation.{Operation}
 use Rattle.flat_code.specs.declared.operands.Operand.{Operand}
 use Rattle.flat_code.specs.declared.operands.Operand.TheVariants as operand
 use Rattle.flat_code.specs.declared.programs.Param.{Param}
-use Rattle.flat_code.specs.Instr.{Instr, Passing}
+use Rattle.flat_code.specs.Instr.{Passing}
 use Rattle.machine.specs.Code.{Code, Fetched}
 use Rattle.frames.specs.Bound.{set_at}
 use Rattle.machine.specs.Parts.{Own, then_ok}
 use Rattle.machine.specs.Bindings.{bound_params, bound_for}
 use Rattle.machine.specs.Flat.{Run, run_at, run_with, with_op, most_ops, passings_of, use_db_of, with_passing, fetched_of, statement_at, instr_of}
-use Rattle.machine.specs.Statement.{World, fetched, Goes}
-use Rattle.machine.specs.Walking.{Walk, walk_with, bound_from, bound_by, bound_next, passings_at, passings_from, passings_with, fetched_at}
+use Rattle.machine.specs.Statement.{World, fetched, performed, Goes}
+use Rattle.machine.specs.Walking.{Walk, walk_with, bound_from, bound_by, bound_next, passings_from, passings_with, fetched_at}
 
 -- a pass over the bindings that fails or goes on
 then_same :
@@ -186,12 +185,13 @@ no_walk None h some = cc
 no_walk (Some r) h some = none_some (walk_with None r) (sym h)
 
 pub found_there :
-    (b : CodeBlock) (at : ℕ) (walk : Walk) → is_some (statement_at b at) ≡ true
+    (b : CodeBlock) (at : ℕ) (walk there : Walk) → there ≡ walk → is_some (statement_at b at) ≡ true
     → Some walk ≡ option_map (walk_with None) (run_at most_ops b.code at)
-    → statement_at b at ≡ Some (fetched_at b at walk)
+    → statement_at b at ≡ Some (fetched_at b at there)
 unfolding statement_at
-found_there b at walk there h =
-    found_at b at walk (has_line (line_placed 0 true b.code b.lines at) (run_at most_ops b.code at) b.code there) h
+found_there b at walk there same is h =
+    rw same
+    (found_at b at walk (has_line (line_placed 0 true b.code b.lines at) (run_at most_ops b.code at) b.code is) h)
 
 pub found_nowhere :
     (b : CodeBlock) (at : ℕ) → None ≡ option_map (walk_with None) (run_at most_ops b.code at)
@@ -206,9 +206,35 @@ pub goes_there : (c : Code) (f : Option Fetched) (a : Activation) (w : World) �
 goes_there c None a w there = absurd there
 goes_there c (Some f) a w there = refl
 
--- what holds of the instruction of the ops that were found holds of that of the statement
-pub as_fetched :
-    (b : CodeBlock) (at : ℕ) (walk : Walk) (f : Fetched) (what : Operation) (operand : Operand)
-    (Fact : Instr → ℕ → Type 0) → fetched_at b at walk ≡ f → what ≡ operation_of walk.last.code → operand ≡ walk.last.operand
-    → Fact (instr_of what operand walk.opens (passings_at b.code at) walk.next b.code) walk.next → Fact f.instr f.next
-as_fetched b at walk f what operand Fact is words operands h = rw (sym is, sym words, sym operands) h
+-- and comes to what its instruction comes to
+pub found_is :
+    (b : CodeBlock) (at : ℕ) (walk there : Walk) (c : Code) (a : Activation) (w : World) → there ≡ walk
+    → Some walk ≡ option_map (walk_with None) (run_at most_ops b.code at) → Goes (fetched c (statement_at b at) a w)
+    → fetched c (statement_at b at) a w ≡ performed c (fetched_at b at there).instr (fetched_at b at there).next a w
+found_is b at walk there c a w same h goes =
+    ap (λ (f : Option Fetched). fetched c f a w)
+    (found_there b at walk there same (goes_there c (statement_at b at) a w goes) h)
+
+-- where no line or no run begins, none is
+by_line :
+    (line : Option ℕ) (found : Option Run) (ops : List OpData) → is_some line ≡ false
+    → option_and_then (λ line. option_map (fetched_of ops line) found) line ≡ None
+by_line None found ops h = refl
+by_line (Some line) found ops h = cc
+
+pub no_line :
+    (b : CodeBlock) (at : ℕ) → is_some (line_placed 0 true b.code b.lines at) ≡ false → statement_at b at ≡ None
+unfolding statement_at
+no_line b at h = by_line (line_placed 0 true b.code b.lines at) (run_at most_ops b.code at) b.code h
+
+by_run :
+    (line : Option ℕ) (found : Option Run) (ops : List OpData) → None ≡ option_map (walk_with None) found
+    → option_and_then (λ line. option_map (fetched_of ops line) found) line ≡ None
+by_run None found ops h = refl
+by_run (Some line) None ops h = refl
+by_run (Some line) (Some r) ops h = absurd (none_some (walk_with None r) (sym h))
+
+pub no_run :
+    (b : CodeBlock) (at : ℕ) → None ≡ option_map (walk_with None) (run_at most_ops b.code at) → statement_at b at ≡ None
+unfolding statement_at
+no_run b at h = by_run (line_placed 0 true b.code b.lines at) (run_at most_ops b.code at) b.code h

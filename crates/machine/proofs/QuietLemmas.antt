@@ -10,16 +10,8 @@ use Rattle.frames.specs.declared.bindings.Binding.{Binding}
 use Rattle.frames.specs.declared.frame.Frame.{Frame}
 use Rattle.frames.specs.declared.FrameFault.{FrameFault}
 use Rattle.flat_code.specs.Instr.{Instr, Does, Jumps, JumpsByList, Calls, Returns, Passing}
-use Rattle.flat_code.specs.Ops.{OpData}
-use Rattle.flat_code.specs.Placed.{op_placed}
 use Rattle.flat_code.specs.Programs.{CodeBlock, Program}
-use Rattle.flat_code.specs.declared.kinds.JumpOperation.{JumpOperation}
-use Rattle.flat_code.specs.declared.operands.Operand.{Operand}
-use Rattle.flat_code.specs.declared.operands.Operand.TheVariants as operand
-use Rattle.flat_code.specs.declared.operations.CallOperation.{CallOperation}
-use Rattle.flat_code.specs.declared.operations.Operation.TheVariants as operation
 use Rattle.flat_code.specs.declared.programs.Param.{Param}
-use Rattle.flat_code.specs.Kinds.{jump_of}
 use Rattle.image_file.specs.Readers.{block_of}
 use Rattle.machine.specs.declared.outcomes.Outcome.{Outcome}
 use Rattle.machine.specs.declared.outcomes.Outcome.TheVariants as outcome
@@ -27,14 +19,14 @@ use Rattle.machine.specs.Code.{Code, Fetched, Head}
 use Rattle.machine.specs.Does.{does_with}
 use Rattle.machine.specs.Entering.{Call, Fails, Stops, Enters, Callee, call, called_with, entered_if, supplied}
 use Rattle.machine.specs.Bindings.{bindings_of}
-use Rattle.machine.specs.Flat.{code_of, instr_of, is_jl, most_ops, run_at, statement_at}
+use Rattle.machine.specs.Flat.{code_of, most_ops, run_at, statement_at}
 use Rattle.machine.specs.Lasting.{IsReady}
 use Rattle.machine.specs.Parts.{Parts, own_of, parts_of, scene_of}
-use Rattle.machine.specs.Quiet.{GoesQuietly, GoesOrStays, RunsQuietly, StaysReady, goes_as, goes_on, has_caller as has_caller_of, is_next, is_quiet, keeps_outputs, stays_in_block}
+use Rattle.machine.specs.Quiet.{GoesQuietly, GoesOrStays, RunsQuietly, StaysReady, goes_as, goes_on, has_caller as has_caller_of, is_next, is_quiet, keeps_outputs}
 use Rattle.machine.specs.Returning.{Return, GoesOn, Ends, given_back, left, returning}
 use Rattle.machine.specs.Statement.{Comes, Goes, Performs, Step, Went, Ended, SyncError, SysCall, Stop, Stuck, World, after_call, after_return, block_called, called, callee_of, fetched, is_called, is_ended, performed, returned, statement, went_on}
 use Rattle.machine.specs.Walking.{Walk, fetched_at, walk_with}
-use Rattle.machine.proofs.FetchLemmas.{found_there, found_nowhere, goes_there}
+use Rattle.machine.proofs.FetchLemmas.{found_there, goes_there}
 use Rattle.machine.proofs.Keeping.{IfDone}
 use Rattle.machine.proofs.Outputs.{PartsStay, Stay, does_with_stays, params_in_stay}
 
@@ -207,83 +199,6 @@ performed_quietly c f a b w v answer passed other quiet there h same =
     (by_step (performed c f.instr f.next a w) f.next a b w v answer other there
     (quiet_stays c f.instr f.next a w quiet) h)
 
--- the running block is the same after an instruction that stays in it
-abbrev StepIn : BlockId → Step → Type 0
-StepIn block (Went a after) = a.running.frame.block ≡ block
-StepIn block _ = Unit {0}
-
-plain_in : (e : Result Parts ℕ) (next : ℕ) (a : Activation) → StepIn a.running.frame.block (went_on e next a)
-plain_in (Ok q) next a = refl
-plain_in (Err code) next a = tt
-
-step_in :
-    (c : Code) (i : Instr) (next : ℕ) (a : Activation) (w : World) → stays_in_block i ≡ true
-    → StepIn a.running.frame.block (performed c i next a w)
-step_in c (Does use_db operation operand) next a w h =
-    plain_in (does_with use_db operation operand (parts_of a.running w.memory w.timers w.counters)) next a
-step_in c (Jumps operation target) next a w h = refl
-step_in c (JumpsByList targets otherwise) next a w h = refl
-step_in c (Calls how block instance passings) next a w h = absurd cc
-step_in c (Returns how) next a w h = absurd cc
-
-block_by :
-    (step : Step) (next : ℕ) (a b : Activation) (w v : World) (other : Outcome) → Goes step → StepIn a.running.frame.block step
-    → Performs step next a b w v true other → b.running.frame.block ≡ a.running.frame.block
-block_by (Went x after) next a b w v other there inside h =
-    ap (λ (z : Activation). z.running.frame.block) h.0 ∙ inside
-block_by (Ended regs after) next a b w v other there inside h = absurd h
-block_by (SyncError code x) next a b w v other there inside h = absurd h
-block_by (SysCall number given x) next a b w v other there inside h = absurd h
-block_by (Stop cause) next a b w v other there inside h = absurd h
-block_by Stuck next a b w v other there inside h = absurd there
-
-pub block_stays :
-    (c : Code) (f : Fetched) (a b : Activation) (w v : World) (answer : Bool) (other : Outcome) → answer ≡ true
-    → stays_in_block f.instr ≡ true → Goes (performed c f.instr f.next a w)
-    → Performs (performed c f.instr f.next a w) f.next a b w v answer other
-    → b.running.frame.block ≡ a.running.frame.block
-block_stays c f a b w v true other is inside there h =
-    block_by (performed c f.instr f.next a w) f.next a b w v other there (step_in c f.instr f.next a w inside) h
-block_stays c f a b w v false other is inside there h = absurd cc
-
--- ---- the kinds of ops
-
-by_list :
-    (b : Bool) (list : List ℕ) (target otherwise : ℕ) (jumps : JumpOperation) (a : Activation)
-    → not b ≡ is_quiet (if b then JumpsByList list otherwise else Jumps jumps target) a
-by_list true list target otherwise jumps a = refl
-by_list false list target otherwise jumps a = refl
-
-pub jump_is_quiet :
-    (kind target : ℕ) (opens : Option ℕ) (passings : List Passing) (next : ℕ) (ops : List OpData) (a : Activation)
-    → not (is_jl (jump_of kind)) ≡ is_quiet (instr_of operation.Jump (operand.Jump kind target) opens passings next ops) a
-jump_is_quiet kind target opens passings next ops a = by_list (is_jl (jump_of kind)) _ target target (jump_of kind) a
-
-jump_in :
-    (b : Bool) (list : List ℕ) (target otherwise : ℕ) (jumps : JumpOperation)
-    → stays_in_block (if b then JumpsByList list otherwise else Jumps jumps target) ≡ true
-jump_in true list target otherwise jumps = refl
-jump_in false list target otherwise jumps = refl
-
-pub jump_stays :
-    (o : Operand) (opens : Option ℕ) (passings : List Passing) (next : ℕ) (ops : List OpData)
-    → stays_in_block (instr_of operation.Jump o opens passings next ops) ≡ true
-jump_stays (operand.Jump kind target) opens passings next ops = jump_in (is_jl (jump_of kind)) _ target target (jump_of kind)
-jump_stays operand.Nothing opens passings next ops = refl
-jump_stays (operand.Literal value) opens passings next ops = refl
-jump_stays (operand.Direct area width byte bit) opens passings next ops = refl
-jump_stays (operand.ByMemory area width from byte) opens passings next ops = refl
-jump_stays (operand.ByRegister area width register bits) opens passings next ops = refl
-jump_stays (operand.Parameter index width) opens passings next ops = refl
-jump_stays (operand.Numbered kind number) opens passings next ops = refl
-jump_stays (operand.NumberedBy kind from byte) opens passings next ops = refl
-jump_stays (operand.OfStatus condition) opens passings next ops = refl
-jump_stays (operand.UseDb number) opens passings next ops = refl
-jump_stays (operand.Silent index actual) opens passings next ops = refl
-jump_stays (operand.Called kind number instance) opens passings next ops = refl
-jump_stays (operand.OpenBlock register number) opens passings next ops = refl
-jump_stays (operand.OpenBy register from byte) opens passings next ops = refl
-
 -- ---- a statement that was found
 
 statement_is :
@@ -312,6 +227,15 @@ pub performs_there :
     → Goes (performed (code_of p) f.instr f.next a w)
 performs_there p b f a w is found ready =
     subst Goes (statement_is p b f a w is found) (ready.there w)
+
+-- by what was found along its ops
+pub found_passes :
+    (p : Program) (b : CodeBlock) (a : Activation) (w : World) (walk there : Walk) → there ≡ walk
+    → Some walk ≡ option_map (walk_with None) (run_at most_ops b.code a.running.frame.at)
+    → block_of a.running.frame.block p.code_blocks ≡ Some b → IsReady p a
+    → statement_at b a.running.frame.at ≡ Some (fetched_at b a.running.frame.at there)
+found_passes p b a w walk there same h is ready =
+    found_there b a.running.frame.at walk there same (there_of p b a w is ready) h
 
 -- and what came of its instruction came of it
 pub statement_passed :
@@ -369,23 +293,3 @@ pub stops_nowhere :
     (p : Program) (kind : Instr → Activation → Bool) (a : Activation) (w : World)
     → block_of a.running.frame.block p.code_blocks ≡ None → goes_as kind (code_of p) a w ≡ false
 stops_nowhere p kind a w none = rw none refl
-
--- how many frames there are, and whether the innermost has a caller
-pub some_below :
-    (a : Activation) (depth : ℕ) → a.left ≡ false → depth ≡ length (frames_of a) → 2 ≤ depth → has_caller_of a.below ≡ true
-some_below a depth stands is two = by a.below (has_below a depth stands is two)
-  where
-    by : (below : List Frame) → 1 ≤ length below → has_caller_of below ≡ true
-    by [] some = absurd (omega arith)
-    by (caller ∷ rest) some = refl
-
-pub has_none :
-    (a : Activation) (depth : ℕ) → a.left ≡ false → depth ≡ length (frames_of a) → depth < 2 → has_caller_of a.below ≡ false
-has_none a depth stands is few = by a.below refl
-  where
-    by : (below : List Frame) → a.below ≡ below → has_caller_of below ≡ false
-    by [] same = refl
-    by (caller ∷ rest) same =
-        let frames : length (frames_of a) ≡ suc (length a.below) = rw stands refl in
-        let some : length a.below ≡ suc (length rest) = ap (λ (l : List Frame). length l) same in
-        absurd (omega (arith, is, frames, few, some))
