@@ -159,12 +159,13 @@ with_line b at (Some line) (Some r) walk is placed there h =
     })) (run_passes most_ops b.code at r is))
 
 pub found_at :
-    (b : CodeBlock) (at : ℕ) (walk : Walk) → is_some (line_placed 0 true b.code b.lines at) ≡ true
+    (b : CodeBlock) (at : ℕ) (walk there : Walk) → there ≡ walk → is_some (line_placed 0 true b.code b.lines at) ≡ true
     → Some walk ≡ option_map (walk_with None) (run_at most_ops b.code at)
-    → statement_at b at ≡ Some (fetched_at b at walk)
+    → statement_at b at ≡ Some (fetched_at b at there)
 unfolding statement_at
-found_at b at walk there h =
-    with_line b at (line_placed 0 true b.code b.lines at) (run_at most_ops b.code at) walk refl refl there h
+found_at b at walk there same line h =
+    rw same
+    (with_line b at (line_placed 0 true b.code b.lines at) (run_at most_ops b.code at) walk refl refl line h)
 
 -- where a statement is, so are its line and its run
 has_line :
@@ -190,8 +191,8 @@ pub found_there :
     → statement_at b at ≡ Some (fetched_at b at there)
 unfolding statement_at
 found_there b at walk there same is h =
-    rw same
-    (found_at b at walk (has_line (line_placed 0 true b.code b.lines at) (run_at most_ops b.code at) b.code is) h)
+    found_at b at walk there same
+    (has_line (line_placed 0 true b.code b.lines at) (run_at most_ops b.code at) b.code is) h
 
 pub found_nowhere :
     (b : CodeBlock) (at : ℕ) → None ≡ option_map (walk_with None) (run_at most_ops b.code at)
