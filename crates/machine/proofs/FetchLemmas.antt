@@ -15,10 +15,10 @@ use Rattle.flat_code.specs.declared.programs.Param.{Param}
 use Rattle.flat_code.specs.Instr.{Passing}
 use Rattle.machine.specs.Code.{Code, Fetched}
 use Rattle.frames.specs.Bound.{set_at}
-use Rattle.machine.specs.Parts.{Own, then_ok}
+use Rattle.machine.specs.ExecState.{Local, then_ok}
 use Rattle.machine.specs.Bindings.{bound_params, bound_for}
 use Rattle.machine.specs.Flat.{Run, run_at, run_with, with_op, most_ops, passings_of, use_db_of, with_passing, fetched_of, statement_at, instr_of}
-use Rattle.machine.specs.Statement.{World, fetched, performed, Goes}
+use Rattle.machine.specs.Statement.{World, step_found, step_of, IsNotStuck}
 use Rattle.machine.specs.Walking.{Walk, walk_with, bound_from, bound_by, bound_next, passings_from, passings_with, fetched_at}
 
 -- a pass over the bindings that fails or goes on
@@ -36,7 +36,7 @@ then_twice (Err e) g f = refl
 
 -- ops that pass bind as their passings do
 passes_op :
-    (params : List Param) (o : Operand) (rest : List Passing) (bindings : List Binding) (s : Own) (m : Areas)
+    (params : List Param) (o : Operand) (rest : List Passing) (bindings : List Binding) (s : Local) (m : Areas)
     → then_ok (bound_by o params bindings s m) (λ bound. bound_params params rest bound s m)
     ≡ bound_params params (with_passing o rest) bindings s m
 passes_op params (operand.Pass index actual) rest bindings s m =
@@ -68,7 +68,7 @@ none_some x h = cc
 
 -- the ops of a statement bind what they pass
 after_op :
-    (most : ℕ) (ops : List OpData) (p : OpData × ℕ) (params : List Param) (bindings : List Binding) (s : Own) (m : Areas)
+    (most : ℕ) (ops : List OpData) (p : OpData × ℕ) (params : List Param) (bindings : List Binding) (s : Local) (m : Areas)
     → ((bound : List Binding)
     → bound_from most ops p.1 params bound s m ≡ bound_params params (passings_from most ops p.1) bound s m)
     → then_ok (bound_by p.0.operand params bindings s m) (λ next. bound_from most ops p.1 params next s m)
@@ -79,7 +79,7 @@ after_op most ops p params bindings s m along =
     ∙ passes_op params p.0.operand (passings_from most ops p.1) bindings s m
 
 by_last :
-    (most : ℕ) (ops : List OpData) (last : Bool) (p : OpData × ℕ) (params : List Param) (bindings : List Binding) (s : Own)
+    (most : ℕ) (ops : List OpData) (last : Bool) (p : OpData × ℕ) (params : List Param) (bindings : List Binding) (s : Local)
     (m : Areas)
     → ((bound : List Binding)
     → bound_from most ops p.1 params bound s m ≡ bound_params params (passings_from most ops p.1) bound s m)
@@ -89,7 +89,7 @@ by_last most ops true p params bindings s m along = refl
 by_last most ops false p params bindings s m along = after_op most ops p params bindings s m along
 
 at_op :
-    (most : ℕ) (ops : List OpData) (p : Option (OpData × ℕ)) (params : List Param) (bindings : List Binding) (s : Own)
+    (most : ℕ) (ops : List OpData) (p : Option (OpData × ℕ)) (params : List Param) (bindings : List Binding) (s : Local)
     (m : Areas)
     → ((at : ℕ) (bound : List Binding)
     → bound_from most ops at params bound s m ≡ bound_params params (passings_from most ops at) bound s m)
@@ -100,7 +100,7 @@ at_op most ops (Some p) params bindings s m along =
     by_last most ops p.0.last p params bindings s m (λ bound. along p.1 bound)
 
 pub binds_along :
-    (most : ℕ) (ops : List OpData) (at : ℕ) (params : List Param) (bindings : List Binding) (s : Own) (m : Areas)
+    (most : ℕ) (ops : List OpData) (at : ℕ) (params : List Param) (bindings : List Binding) (s : Local) (m : Areas)
     → bound_from most ops at params bindings s m ≡ bound_params params (passings_from most ops at) bindings s m
 unfolding bound_from passings_from
 binds_along zero ops at params bindings s m = refl
@@ -203,17 +203,17 @@ found_nowhere b at h there =
     (has_run (line_placed 0 true b.code b.lines at) (run_at most_ops b.code at) b.code there)
 
 -- a statement that isn't stuck is there
-pub goes_there : (c : Code) (f : Option Fetched) (a : Activation) (w : World) → Goes (fetched c f a w) → is_some f ≡ true
+pub goes_there : (c : Code) (f : Option Fetched) (a : Activation) (w : World) → IsNotStuck (step_found c f a w) → is_some f ≡ true
 goes_there c None a w there = absurd there
 goes_there c (Some f) a w there = refl
 
 -- and comes to what its instruction comes to
 pub found_is :
     (b : CodeBlock) (at : ℕ) (walk there : Walk) (c : Code) (a : Activation) (w : World) → there ≡ walk
-    → Some walk ≡ option_map (walk_with None) (run_at most_ops b.code at) → Goes (fetched c (statement_at b at) a w)
-    → fetched c (statement_at b at) a w ≡ performed c (fetched_at b at there).instr (fetched_at b at there).next a w
+    → Some walk ≡ option_map (walk_with None) (run_at most_ops b.code at) → IsNotStuck (step_found c (statement_at b at) a w)
+    → step_found c (statement_at b at) a w ≡ step_of c (fetched_at b at there).instr (fetched_at b at there).next a w
 found_is b at walk there c a w same h goes =
-    ap (λ (f : Option Fetched). fetched c f a w)
+    ap (λ (f : Option Fetched). step_found c f a w)
     (found_there b at walk there same (goes_there c (statement_at b at) a w goes) h)
 
 -- where no line or no run begins, none is

@@ -23,5 +23,5 @@ pub mod Errors
 pub mod Beginning
 pub mod Lasting
 pub mod Outputs
-pub mod QuietLemmas
+pub mod SilentLemmas
 mod MovedLemmas

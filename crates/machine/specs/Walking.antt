@@ -12,7 +12,7 @@ use Rattle.flat_code.specs.declared.programs.Param.{Param}
 use Rattle.flat_code.specs.Instr.{Passing}
 use Rattle.flat_code.specs.Operations.{operation_of}
 use Rattle.machine.specs.Code.{Fetched}
-use Rattle.machine.specs.Parts.{Own, then_ok}
+use Rattle.machine.specs.ExecState.{Local, then_ok}
 use Rattle.machine.specs.Bindings.{bound_for, unsupplied}
 use Rattle.machine.specs.Flat.{Run, use_db_of, use_db_first, list_of, most_ops, with_passing, instr_of}
 
@@ -49,14 +49,14 @@ picked most ops target at number =
     unwrap_or (slice_get (list_of most ops target at) number) target
 
 -- an op that passes a parameter sets what it stands for
-abbrev pub bound_by : Operand → List Param → List Binding → Own → Areas → Result (List Binding) ℕ
+abbrev pub bound_by : Operand → List Param → List Binding → Local → Areas → Result (List Binding) ℕ
 bound_by (operand.Pass index actual) params bindings s m =
     then_ok (bound_for (slice_get params index) actual s m) (λ b. Ok (set_at bindings index b))
 bound_by _ params bindings s m = Ok bindings
 
 -- so do all ops of a statement
 abbrev pub bound_next :
-    Option (OpData × ℕ) → List Param → List Binding → Own → Areas
+    Option (OpData × ℕ) → List Param → List Binding → Local → Areas
     → (ℕ → List Binding → Result (List Binding) ℕ) → Result (List Binding) ℕ
 bound_next None params bindings s m more = Ok bindings
 bound_next (Some r) params bindings s m more =
@@ -65,7 +65,7 @@ bound_next (Some r) params bindings s m more =
 
 -- at most so many ops from an offset on; it ends at the last op of the statement, which passes none
 unfoldable pub bound_from :
-    (most : ℕ) → List OpData → ℕ → List Param → List Binding → Own → Areas
+    (most : ℕ) → List OpData → ℕ → List Param → List Binding → Local → Areas
     → Result (List Binding) ℕ
 bound_from zero ops at params bindings s m = Ok bindings
 bound_from (suc most) ops at params bindings s m =
@@ -73,7 +73,7 @@ bound_from (suc most) ops at params bindings s m =
     bound_from most ops next params bound s m)
 
 -- what all parameters stand for, by the ops of the statement at an offset
-abbrev pub bound_all : List OpData → ℕ → List Param → Own → Areas → Result (List Binding) ℕ
+abbrev pub bound_all : List OpData → ℕ → List Param → Local → Areas → Result (List Binding) ℕ
 bound_all ops at params s m = bound_from most_ops ops at params (unsupplied params) s m
 
 -- what a further op passes, and those behind it; the last op of a statement passes nothing

@@ -29,7 +29,7 @@ mod walking;
 mod whole;
 
 pub use outcomes::Outcome;
-pub use places::{Access, Bound};
+pub use places::{Access, Location};
 pub use readiness::is_ready;
 pub use results::give_result;
 pub use running::run;

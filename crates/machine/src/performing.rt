@@ -9,13 +9,13 @@ ghost use Rattle.timers_counters.specs.Counter.{Counter};
 ghost use Rattle.frames.specs.Activations.{frames_of};
 ghost use Rattle.flat_code.specs.Instr.{Calls, Returns};
 ghost use Rattle.machine.specs.Code.{Code};
-ghost use Rattle.machine.specs.Does.{does_with as does_with_of};
+ghost use Rattle.machine.specs.Effect.{effect_with as does_with_of};
 ghost use Rattle.machine.specs.Entering.{call as call_of, called_with, going_on};
 ghost use Rattle.machine.specs.Flat.{code_of, jump_instr, is_jl as is_jl_of, instance_named as instance_named_of, instr_of, head_of};
 ghost use Rattle.machine.specs.Jumps.{after_jump, goes_to as goes_to_of, is_taken as is_taken_of, rlo_tested};
-ghost use Rattle.machine.specs.Parts.{own_of, parts_of};
+ghost use Rattle.machine.specs.ExecState.{local_of, exec_state_of};
 ghost use Rattle.machine.specs.Returning.{returning};
-ghost use Rattle.machine.specs.Statement.{World, world, went_on, returned, after_call, after_return, after_system_call, callee_of, cause_of as cause_of_fault, performed, called, block_called, system_called, is_called as is_called_of, is_ended as is_ended_of, not_called, Comes, Performs};
+ghost use Rattle.machine.specs.Statement.{World, world, continue_with, returned, after_call, after_return, after_system_call, callee_of, cause_of as cause_of_fault, step_of, called, block_called, system_called, is_called as is_called_of, is_ended as is_ended_of, not_called, IsOutcomeOf, IsPerformed};
 ghost use Rattle.machine.specs.SystemCalls.{system_function as system_function_of, system_call, count_inputs, given_now};
 ghost use Rattle.machine.specs.Walking.{passings_at};
 ghost use Rattle.machine.specs.declared.outcomes.Outcome.{Outcome as OutcomeOf};
@@ -27,7 +27,7 @@ use crate::outcomes::Outcome;
 use crate::returning::return_from_block;
 use crate::system_calls::{inputs_of, result_of, system_function};
 use crate::walking::{bind_all, jump_of, pick};
-use crate::whole::does_with;
+use crate::whole::effect_with;
 use flat_code::{
     CallOperation, EndOperation, JumpOperation, Operand, Operation, Param, kind_of_code,
 };
@@ -51,11 +51,11 @@ fn perform_plain(
     n: &mut Counters,
     other: &mut Outcome,
 ) -> bool
-    ensures { Performs (went_on (does_with_of opens operation operand.now
-        (parts_of a.old.running m.old t.old n.old)) next a.old) next a.old a.new
+    ensures { IsPerformed (continue_with (does_with_of opens operation operand.now
+        (exec_state_of a.old.running m.old t.old n.old)) next a.old) next a.old a.new
         (world m.old t.old n.old) (world m.new t.new n.new) result other.new }
 {
-    match does_with(opens, operation, operand, &mut a.running, m, t, n) {
+    match effect_with(opens, operation, operand, &mut a.running, m, t, n) {
         Ok(()) => {
             a.running.frame.at = next;
             true
@@ -80,8 +80,8 @@ fn perform_other(
     n: &mut Counters,
     other: &mut Outcome,
 ) -> bool
-    ensures { Performs (went_on (does_with_of opens operation operand.now
-        (parts_of a.old.running m.old t.old n.old)) next a.old) next a.old a.new
+    ensures { IsPerformed (continue_with (does_with_of opens operation operand.now
+        (exec_state_of a.old.running m.old t.old n.old)) next a.old) next a.old a.new
         (world m.old t.old n.old) (world m.new t.new n.new) result other.new }
 {
     perform_plain(opens, operation, operand, next, a, m, t, n, other)
@@ -105,15 +105,9 @@ fn jump_to(operation: JumpOperation, target: u32, next: u32, a: &mut Activation)
 
 // A jump, JL among them. The activation goes on.
 #[inline(never)]
-fn jump(
-    code: &LoadedCode<'_>,
-    operation: JumpOperation,
-    target: u32,
-    next: u32,
-    a: &mut Activation,
-)
+fn jump(code: &LoadedCode<'_>, operation: JumpOperation, target: u32, next: u32, a: &mut Activation)
     ensures { (c : Code) (w : World) (other : OutcomeOf) →
-        Performs (performed c (jump_instr operation target next code.now.code) next a.old w) next
+        IsPerformed (step_of c (jump_instr operation target next code.now.code) next a.old w) next
         a.old a.new w w true other }
 {
     if is_jl(operation) {
@@ -187,7 +181,7 @@ fn call_block(
     requires depth { length a.old.running.locals.starts ≡ length (frames_of a.old) }
     requires params { length called.now.params ≤ 60 }
     ensures { (t : List Timer) (n : List Counter) →
-        Performs (after_call (called_with (Ok bindings.now) called.now next a.old m.old) next a.old
+        IsPerformed (after_call (called_with (Ok bindings.now) called.now next a.old m.old) next a.old
         (world m.old t n)) next a.old a.new (world m.old t n) (world m.new t n) result other.new }
 {
     match enter_if_room(called, bindings, next, a, m) {
@@ -215,7 +209,7 @@ fn call_with(
     requires depth { length a.old.running.locals.starts ≡ length (frames_of a.old) }
     requires params { length called.now.params ≤ 60 }
     ensures { (t : List Timer) (n : List Counter) →
-        Performs (after_call (call_of called.now (passings_at code.now.code at) next a.old m.old) next
+        IsPerformed (after_call (call_of called.now (passings_at code.now.code at) next a.old m.old) next
         a.old (world m.old t n)) next a.old a.new (world m.old t n) (world m.new t n) result other.new }
 {
     match bind_all(code, at, called.params, &a.running, m, spare) {
@@ -242,7 +236,7 @@ fn call_loaded(
 ) -> bool
     requires depth { length a.old.running.locals.starts ≡ length (frames_of a.old) }
     ensures { (t : List Timer) (n : List Counter) →
-        Performs (after_call (call_of (callee_of block instance (head_of callee.now))
+        IsPerformed (after_call (call_of (callee_of block instance (head_of callee.now))
         (passings_at code.now.code at) next a.old m.old) next a.old (world m.old t n)) next
         a.old a.new (world m.old t n) (world m.new t n) result other.new }
 {
@@ -270,23 +264,12 @@ fn call_code(
 ) -> bool
     requires depth { length a.old.running.locals.starts ≡ length (frames_of a.old) }
     ensures { (t : List Timer) (n : List Counter) →
-        Performs (block_called ((code_of c.now.program).head block) block instance
+        IsPerformed (block_called ((code_of c.now.program).head block) block instance
         (passings_at code.now.code at) next a.old (world m.old t n)) next
         a.old a.new (world m.old t n) (world m.new t n) result other.new }
 {
     match c.block(block) {
-        Some(callee) => call_loaded(
-            &callee,
-            code,
-            at,
-            block,
-            instance,
-            next,
-            a,
-            m,
-            spare,
-            other,
-        ),
+        Some(callee) => call_loaded(&callee, code, at, block, instance, next, a, m, spare, other),
         None => false,
     }
 }
@@ -303,7 +286,7 @@ fn call_system(
     requires few { length params.now ≤ 4 }
     requires inputs { count_inputs params.now ≤ 3 }
     ensures { (w : World) →
-        Comes (after_system_call (Ok (given_now params.now bindings.now a.old m.now)) number next
+        IsOutcomeOf (after_system_call (Ok (given_now params.now bindings.now a.old m.now)) number next
         a.old) a.old a.new w w result }
 {
     let inputs = inputs_of(params, bindings, &a.running, m);
@@ -332,8 +315,8 @@ fn call_system_with(
     requires few { length params.now ≤ 4 }
     requires inputs { count_inputs params.now ≤ 3 }
     ensures { (w : World) →
-        Performs (after_system_call (system_call params.now (passings_at code.now.code at)
-        (own_of a.old.running) m.now) number next a.old) next a.old a.new w w false other.new }
+        IsPerformed (after_system_call (system_call params.now (passings_at code.now.code at)
+        (local_of a.old.running) m.now) number next a.old) next a.old a.new w w false other.new }
 {
     match bind_all(code, at, params, &a.running, m, spare) {
         Err(error) => *other = Outcome::SyncError { code: error },
@@ -353,7 +336,7 @@ fn call_function(
     other: &mut Outcome,
 )
     ensures { (t : List Timer) (n : List Counter) →
-        Performs (system_called (system_function_of number) number (passings_at code.now.code at)
+        IsPerformed (system_called (system_function_of number) number (passings_at code.now.code at)
         next a.old (world m.now t n)) next a.old a.new (world m.now t n) (world m.now t n)
         false other.new }
 {
@@ -388,7 +371,7 @@ fn call_any(
 ) -> bool
     requires depth { length a.old.running.locals.starts ≡ length (frames_of a.old) }
     ensures { (t : List Timer) (n : List Counter) →
-        Performs (called (code_of c.now.program) block instance (passings_at code.now.code at) next
+        IsPerformed (called (code_of c.now.program) block instance (passings_at code.now.code at) next
         a.old (world m.old t n)) next a.old a.new (world m.old t n) (world m.new t n)
         result other.new }
 {
@@ -417,7 +400,7 @@ fn call(
 ) -> bool
     requires depth { length a.old.running.locals.starts ≡ length (frames_of a.old) }
     ensures { (t : List Timer) (n : List Counter) →
-        Performs (performed (code_of c.now.program)
+        IsPerformed (step_of (code_of c.now.program)
         (Calls how block instance (passings_at code.now.code at)) next a.old (world m.old t n)) next
         a.old a.new (world m.old t n) (world m.new t n) result other.new }
 {
@@ -439,7 +422,7 @@ fn end_loaded(
 ) -> bool
     requires stands { a.old.left ≡ false }
     ensures { (next : ℕ) (t : List Timer) (n : List Counter) →
-        Performs (returned (Some (head_of code.now)) a.old (world m.old t n)) next
+        IsPerformed (returned (Some (head_of code.now)) a.old (world m.old t n)) next
         a.old a.new (world m.old t n) (world m.new t n) result other.new }
 {
     if return_from_block(code.params(), a, m) {
@@ -454,7 +437,7 @@ fn end_loaded(
 fn end_any(c: &Loaded, a: &mut Activation, m: &mut Memory, other: &mut Outcome) -> bool
     requires stands { a.old.left ≡ false }
     ensures { (next : ℕ) (t : List Timer) (n : List Counter) →
-        Performs (returned ((code_of c.now.program).head a.old.running.frame.block) a.old
+        IsPerformed (returned ((code_of c.now.program).head a.old.running.frame.block) a.old
         (world m.old t n)) next a.old a.new (world m.old t n) (world m.new t n) result other.new }
 {
     match c.block(a.running.frame.block) {
@@ -475,7 +458,7 @@ fn end(
 ) -> bool
     requires stands { a.old.left ≡ false }
     ensures { (t : List Timer) (n : List Counter) →
-        Performs (performed (code_of c.now.program) (Returns how) next a.old (world m.old t n)) next
+        IsPerformed (step_of (code_of c.now.program) (Returns how) next a.old (world m.old t n)) next
         a.old a.new (world m.old t n) (world m.new t n) result other.new }
 {
     if is_ended(how, a.running.regs.status.rlo) {
@@ -505,7 +488,7 @@ fn perform_op(
 ) -> bool
     requires stands { a.old.left ≡ false }
     requires depth { length a.old.running.locals.starts ≡ length (frames_of a.old) }
-    ensures { Performs (performed (code_of c.now.program)
+    ensures { IsPerformed (step_of (code_of c.now.program)
         (instr_of operation operand.now opens (passings_at code.now.code at) next code.now.code) next
         a.old (world m.old t.old n.old)) next a.old a.new (world m.old t.old n.old)
         (world m.new t.new n.new) result other.new }
@@ -557,25 +540,13 @@ fn perform_op_apart(
 ) -> bool
     requires stands { a.old.left ≡ false }
     requires depth { length a.old.running.locals.starts ≡ length (frames_of a.old) }
-    ensures { Performs (performed (code_of c.now.program)
+    ensures { IsPerformed (step_of (code_of c.now.program)
         (instr_of operation operand.now opens (passings_at code.now.code at) next code.now.code) next
         a.old (world m.old t.old n.old)) next a.old a.new (world m.old t.old n.old)
         (world m.new t.new n.new) result other.new }
 {
     perform_op(
-        c,
-        code,
-        at,
-        opens,
-        operation,
-        operand,
-        next,
-        a,
-        m,
-        t,
-        n,
-        spare,
-        other,
+        c, code, at, opens, operation, operand, next, a, m, t, n, spare, other,
     )
 }
 
@@ -593,7 +564,7 @@ pub(crate) fn perform(
 ) -> bool
     requires stands { a.old.left ≡ false }
     requires depth { length a.old.running.locals.starts ≡ length (frames_of a.old) }
-    ensures { Performs (performed (code_of c.now.program) f.now.instr f.now.next a.old
+    ensures { IsPerformed (step_of (code_of c.now.program) f.now.instr f.now.next a.old
         (world m.old t.old n.old)) f.now.next a.old a.new (world m.old t.old n.old)
         (world m.new t.new n.new) result other.new }
 {
@@ -629,7 +600,7 @@ pub(crate) fn perform_apart(
 ) -> bool
     requires stands { a.old.left ≡ false }
     requires depth { length a.old.running.locals.starts ≡ length (frames_of a.old) }
-    ensures { Performs (performed (code_of c.now.program) f.now.instr f.now.next a.old
+    ensures { IsPerformed (step_of (code_of c.now.program) f.now.instr f.now.next a.old
         (world m.old t.old n.old)) f.now.next a.old a.new (world m.old t.old n.old)
         (world m.new t.new n.new) result other.new }
 {

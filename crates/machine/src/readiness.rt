@@ -4,7 +4,7 @@ ghost use Rattle.frames.specs.Activations.{frames_of};
 ghost use Rattle.flat_code.specs.Instr.{Passing};
 ghost use Rattle.flat_code.specs.Ops.{OpData};
 ghost use Rattle.machine.specs.Flat.{code_of, head_of, instr_of, statement_at};
-ghost use Rattle.machine.specs.Statement.{World, statement as statement_of, Goes};
+ghost use Rattle.machine.specs.Statement.{World, statement as statement_of, IsNotStuck};
 ghost use Rattle.machine.specs.There.{is_callee as is_callee_of, is_there, is_complete, is_ready as is_ready_of};
 ghost use Rattle.flat_code.specs.Placed.{line_placed};
 
@@ -92,7 +92,7 @@ pub fn is_ready(c: &Loaded, a: &Activation) -> bool
     ensures depth { result ≡ true →
         (length a.now.running.locals.starts ≡ length (frames_of a.now)) }
     ensures there { result ≡ true →
-        ((w : World) → Goes (statement_of (code_of c.now.program) a.now w)) }
+        ((w : World) → IsNotStuck (statement_of (code_of c.now.program) a.now w)) }
 {
     if a.left || a.running.locals.depth() != a.depth() {
         return false;

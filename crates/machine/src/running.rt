@@ -8,8 +8,8 @@ ghost use Rattle.frames.specs.declared.Activation.{Activation as ActivationOf};
 ghost use Rattle.image_file.specs.Readers.{block_of};
 ghost use Rattle.machine.specs.Flat.{code_of, instr_of, most_ops, run_at};
 ghost use Rattle.machine.specs.Lasting.{IsReady};
-ghost use Rattle.machine.specs.Quiet.{GoesOrStays, RunsQuietly, StaysReady, goes_as, has_caller as has_caller_of, shows_nothing, has_place_inside as has_place_inside_of, is_bound_inside as is_bound_inside_of, is_inside as is_inside_of, is_named_inside as is_named_inside_of, is_next, is_quiet, is_still_inside, keeps_outputs as keeps_outputs_of, may_write as may_write_of, stays_in_block};
-ghost use Rattle.machine.specs.Statement.{Goes, performed, statement, world};
+ghost use Rattle.machine.specs.Silent.{GoesOrStays, RunsSilently, StaysReady, goes_as, has_caller as has_caller_of, shows_nothing, has_place_inside as has_place_inside_of, is_bound_inside as is_bound_inside_of, is_inside as is_inside_of, is_named_inside as is_named_inside_of, is_next, is_silent, is_still_inside, keeps_outputs as keeps_outputs_of, may_write as may_write_of, stays_in_block};
+ghost use Rattle.machine.specs.Statement.{IsNotStuck, step_of, statement, world};
 ghost use Rattle.machine.specs.Walking.{walk_with};
 
 use crate::fetching::Fetched;
@@ -95,7 +95,7 @@ fn keeps_outputs(operation: Operation, operand: &Operand, s: &Running) -> bool
 fn is_silent_jump(operand: &Operand) -> bool
     ensures { (opens : Option ℕ) (passings : List Passing) (next : ℕ) (ops : List OpData)
         (a : ActivationOf)
-        → result ≡ is_quiet (instr_of operation.Jump operand.now opens passings next ops) a }
+        → result ≡ is_silent (instr_of operation.Jump operand.now opens passings next ops) a }
 {
     match *operand {
         Operand::Jump { kind, .. } => !is_jl(jump_of(kind)),
@@ -107,7 +107,7 @@ fn is_silent_jump(operand: &Operand) -> bool
 fn is_silent_call(how: CallOperation, operand: &Operand, a: &Activation) -> bool
     ensures { (opens : Option ℕ) (passings : List Passing) (next : ℕ) (ops : List OpData)
         → result
-        ≡ is_quiet (instr_of (operation.Call how) operand.now opens passings next ops) a.now }
+        ≡ is_silent (instr_of (operation.Call how) operand.now opens passings next ops) a.now }
 {
     match *operand {
         Operand::Called { kind, .. } => match kind_of_code(kind) {
@@ -133,11 +133,9 @@ fn has_caller(a: &Activation) -> bool
 // BE, BEU and BEC, where they return from a block without an instance to its caller.
 fn is_silent_end(how: EndOperation, a: &Activation) -> bool
     requires { a.now.left ≡ false }
-    ensures { result ≡ is_quiet (Returns how) a.now }
+    ensures { result ≡ is_silent (Returns how) a.now }
 {
-    is_ended(how, a.running.regs.status.rlo)
-        && !a.running.frame.instance.is_some()
-        && has_caller(a)
+    is_ended(how, a.running.regs.status.rlo) && !a.running.frame.instance.is_some() && has_caller(a)
 }
 
 #[inline(always)]
@@ -161,7 +159,7 @@ fn kind_of_op(operation: Operation, operand: &Operand, a: &Activation) -> Silent
     requires { a.now.left ≡ false }
     ensures silent { (opens : Option ℕ) (passings : List Passing) (next : ℕ) (ops : List OpData)
         → shows_nothing result
-        ≡ is_quiet (instr_of operation operand.now opens passings next ops) a.now }
+        ≡ is_silent (instr_of operation operand.now opens passings next ops) a.now }
     ensures inside { (opens : Option ℕ) (passings : List Passing) (next : ℕ) (ops : List OpData)
         → is_still_inside result ≡ true
         → stays_in_block (instr_of operation operand.now opens passings next ops) ≡ true }
@@ -178,7 +176,7 @@ fn kind_of_op(operation: Operation, operand: &Operand, a: &Activation) -> Silent
 #[inline(always)]
 fn kind_of(f: &Fetched<'_>, a: &Activation) -> Silent
     requires { a.now.left ≡ false }
-    ensures silent { shows_nothing result ≡ is_quiet f.now.instr a.now }
+    ensures silent { shows_nothing result ≡ is_silent f.now.instr a.now }
     ensures inside { is_still_inside result ≡ true → stays_in_block f.now.instr ≡ true }
 {
     let last = f.last;
@@ -199,10 +197,10 @@ fn pass(
     other: &mut Outcome,
 ) -> Silent
     requires ready { IsReady c.now.program a.old }
-    requires there { Goes (performed (code_of c.now.program) f.now.instr f.now.next a.old
+    requires there { IsNotStuck (step_of (code_of c.now.program) f.now.instr f.now.next a.old
         (world m.old t.old n.old)) }
-    ensures goes { GoesOrStays (performed (code_of c.now.program) f.now.instr f.now.next a.old
-        (world m.old t.old n.old)) (is_quiet f.now.instr a.old) a.old a.new
+    ensures goes { GoesOrStays (step_of (code_of c.now.program) f.now.instr f.now.next a.old
+        (world m.old t.old n.old)) (is_silent f.now.instr a.old) a.old a.new
         (world m.old t.old n.old) (world m.new t.new n.new) (shows_nothing result) }
     ensures block { is_still_inside result ≡ true
         → a.new.running.frame.block ≡ a.old.running.frame.block }
@@ -235,7 +233,7 @@ fn pass_further(
         (run_at most_ops code.now.code a.old.running.frame.at)
         ≡ option_map (walk_with opens) (run_at 63 code.now.code second) }
     ensures goes { GoesOrStays (statement (code_of c.now.program) a.old (world m.old t.old n.old))
-        (is_next is_quiet (code_of c.now.program) a.old) a.old a.new
+        (is_next is_silent (code_of c.now.program) a.old) a.old a.new
         (world m.old t.old n.old) (world m.new t.new n.new) (shows_nothing result) }
     ensures block { is_still_inside result ≡ true
         → a.new.running.frame.block ≡ a.old.running.frame.block }
@@ -271,7 +269,7 @@ fn pass_statement(
     requires ready { IsReady c.now.program a.old }
     requires block { block_of a.old.running.frame.block c.now.program.code_blocks ≡ Some code.now }
     ensures goes { GoesOrStays (statement (code_of c.now.program) a.old (world m.old t.old n.old))
-        (is_next is_quiet (code_of c.now.program) a.old) a.old a.new
+        (is_next is_silent (code_of c.now.program) a.old) a.old a.new
         (world m.old t.old n.old) (world m.new t.new n.new) (shows_nothing result) }
     ensures block { is_still_inside result ≡ true
         → a.new.running.frame.block ≡ a.old.running.frame.block }
@@ -311,10 +309,10 @@ fn run_inside(
     requires { StaysReady c.now.program a.old (world m.old t.old n.old) }
     ensures few { result.0 ≤ most }
     ensures more { result.1 ≡ true → 1 ≤ result.0 }
-    ensures runs { RunsQuietly (code_of c.now.program) result.0 a.old a.new
+    ensures runs { RunsSilently (code_of c.now.program) result.0 a.old a.new
         (world m.old t.old n.old) (world m.new t.new n.new) }
     ensures stops { result.1 ≡ false → result.0 < most
-        → goes_as is_quiet (code_of c.now.program) a.new (world m.new t.new n.new)
+        → goes_as is_silent (code_of c.now.program) a.new (world m.new t.new n.new)
         ≡ false }
 {
     let Some(code) = c.block(a.running.frame.block) else {
@@ -350,10 +348,10 @@ pub fn run(
 ) -> u64
     requires { StaysReady c.now.program a.old (world m.old t.old n.old) }
     ensures few { result ≤ most }
-    ensures runs { RunsQuietly (code_of c.now.program) result a.old a.new
+    ensures runs { RunsSilently (code_of c.now.program) result a.old a.new
         (world m.old t.old n.old) (world m.new t.new n.new) }
     ensures stops { result < most
-        → goes_as is_quiet (code_of c.now.program) a.new (world m.new t.new n.new) ≡ false }
+        → goes_as is_silent (code_of c.now.program) a.new (world m.new t.new n.new) ≡ false }
 {
     let mut done = 0;
     while done < most {

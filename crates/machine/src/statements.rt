@@ -2,7 +2,7 @@
 ghost use Rattle.std.specs.Prelude.{◌≡◌, length, false, Some, is_some, true};
 ghost use Rattle.frames.specs.Activations.{frames_of};
 ghost use Rattle.machine.specs.Flat.{code_of, statement_at};
-ghost use Rattle.machine.specs.Statement.{world, is_error as is_error_of, statement as statement_of, fetched, performed, Goes, Comes};
+ghost use Rattle.machine.specs.Statement.{world, is_error as is_error_of, statement as statement_of, step_found, step_of, IsNotStuck, IsOutcomeOf};
 
 use crate::fetching::Fetched;
 use crate::outcomes::Outcome;
@@ -33,9 +33,9 @@ fn execute(
 ) -> Outcome
     requires stands { a.old.left ≡ false }
     requires depth { length a.old.running.locals.starts ≡ length (frames_of a.old) }
-    requires there { Goes (performed (code_of c.now.program) f.now.instr f.now.next a.old
+    requires there { IsNotStuck (step_of (code_of c.now.program) f.now.instr f.now.next a.old
         (world m.old t.old n.old)) }
-    ensures { Comes (performed (code_of c.now.program) f.now.instr f.now.next a.old
+    ensures { IsOutcomeOf (step_of (code_of c.now.program) f.now.instr f.now.next a.old
         (world m.old t.old n.old)) a.old a.new (world m.old t.old n.old) (world m.new t.new n.new)
         result }
 {
@@ -63,9 +63,9 @@ fn execute_at(
 ) -> Outcome
     requires stands { a.old.left ≡ false }
     requires depth { length a.old.running.locals.starts ≡ length (frames_of a.old) }
-    requires there { Goes (fetched (code_of c.now.program)
+    requires there { IsNotStuck (step_found (code_of c.now.program)
         (statement_at code.now a.old.running.frame.at) a.old (world m.old t.old n.old)) }
-    ensures { Comes (fetched (code_of c.now.program)
+    ensures { IsOutcomeOf (step_found (code_of c.now.program)
         (statement_at code.now a.old.running.frame.at) a.old (world m.old t.old n.old))
         a.old a.new (world m.old t.old n.old) (world m.new t.new n.new) result }
 {
@@ -100,9 +100,9 @@ pub fn statement(
 ) -> Outcome
     requires stands { a.old.left ≡ false }
     requires depth { length a.old.running.locals.starts ≡ length (frames_of a.old) }
-    requires there { Goes (statement_of (code_of c.now.program) a.old
+    requires there { IsNotStuck (statement_of (code_of c.now.program) a.old
         (world m.old t.old n.old)) }
-    ensures { Comes (statement_of (code_of c.now.program) a.old (world m.old t.old n.old))
+    ensures { IsOutcomeOf (statement_of (code_of c.now.program) a.old (world m.old t.old n.old))
         a.old a.new (world m.old t.old n.old) (world m.new t.new n.new) result }
 {
     match c.block(a.running.frame.block) {

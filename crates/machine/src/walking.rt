@@ -3,7 +3,7 @@ ghost use Rattle.std.specs.Prelude.{◌≡◌, ◌≤◌, length, MatchResult, O
 ghost use Rattle.std.specs.Option.{option_map};
 ghost use Rattle.flat_code.specs.Kinds.{jump_of as jump_of_kind};
 ghost use Rattle.flat_code.specs.Placed.{op_placed};
-ghost use Rattle.machine.specs.Parts.{own_of};
+ghost use Rattle.machine.specs.ExecState.{local_of};
 ghost use Rattle.machine.specs.Flat.{run_at, most_ops, list_of, most_listed};
 ghost use Rattle.machine.specs.Jumps.{listed};
 ghost use Rattle.machine.specs.Walking.{walk_with, walk_by, opens_after as opens_after_op, bound_all, bound_by};
@@ -161,8 +161,8 @@ fn bind(
     m: &Memory,
 ) -> Result<(), u8>
     ensures { MatchResult result
-        (λ _. bound_by operand.now params.now bindings.old (own_of s.now) m.now ≡ Ok bindings.new)
-        (λ code. bound_by operand.now params.now bindings.old (own_of s.now) m.now ≡ Err code) }
+        (λ _. bound_by operand.now params.now bindings.old (local_of s.now) m.now ≡ Ok bindings.new)
+        (λ code. bound_by operand.now params.now bindings.old (local_of s.now) m.now ≡ Err code) }
 {
     match *operand {
         Operand::Pass { index, actual } => {
@@ -186,8 +186,8 @@ pub(crate) fn bind_all(
 ) -> Result<(), u8>
     requires { length params.now ≤ 60 }
     ensures { MatchResult result
-        (λ _. bound_all code.now.code at params.now (own_of s.now) m.now ≡ Ok bindings.new)
-        (λ error. bound_all code.now.code at params.now (own_of s.now) m.now ≡ Err error) }
+        (λ _. bound_all code.now.code at params.now (local_of s.now) m.now ≡ Ok bindings.new)
+        (λ error. bound_all code.now.code at params.now (local_of s.now) m.now ≡ Err error) }
 {
     bind_none(params, bindings);
     let mut at = at;

@@ -1,8 +1,8 @@
 use Rattle.std.proofs.Common.{◌∙◌, sym}
-use Rattle.machine.specs.Quiet.{shows_nothing}
+use Rattle.machine.specs.Silent.{shows_nothing}
 use Rattle.machine.specs.Statement.{world}
 use Rattle.machine.proofs.FetchLemmas.{found_nowhere}
-use Rattle.machine.proofs.QuietLemmas.{found_passes, performs_there, statement_passed, there_of}
+use Rattle.machine.proofs.SilentLemmas.{found_passes, performs_there, statement_passed, there_of}
 use Rattle.machine.proofs.running.pass_further.Goals as goal
 
 pub pass-requires-clause-there : goal.pass-requires-clause-there

@@ -1,10 +1,10 @@
 use Rattle.std.proofs.Common.{◌∙◌, None, ap, refl, sym}
 use Rattle.flat_code.specs.Ops.{OpData}
-use Rattle.machine.specs.Quiet.{shows_nothing}
+use Rattle.machine.specs.Silent.{shows_nothing}
 use Rattle.machine.specs.Statement.{world}
 use Rattle.machine.specs.Walking.{opens_after}
 use Rattle.machine.proofs.FetchLemmas.{found_nowhere}
-use Rattle.machine.proofs.QuietLemmas.{found_passes, performs_there, statement_passed, there_of}
+use Rattle.machine.proofs.SilentLemmas.{found_passes, performs_there, statement_passed, there_of}
 use Rattle.machine.proofs.Walks.{first_ends, first_leads_on, walk_nowhere}
 use Rattle.machine.proofs.running.pass_statement.Goals as goal
 

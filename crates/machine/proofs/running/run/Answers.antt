@@ -1,7 +1,7 @@
 use Rattle.std.proofs.Common.{rules}
 use Rattle.machine.specs.Flat.{code_of}
 use Rattle.machine.specs.Statement.{world}
-use Rattle.machine.proofs.QuietLemmas.{runs_on, stays_ready}
+use Rattle.machine.proofs.SilentLemmas.{runs_on, stays_ready}
 use Rattle.machine.proofs.running.run.Goals as goal
 
 pub run_inside-more-requires : goal.run_inside-more-requires

@@ -22,22 +22,22 @@ use Rattle.machine.specs.Places.{is_peripheral}
 use Rattle.machine.specs.Statement.{World, Step, Went, is_called, is_ended, statement}
 
 -- the activation goes on, with no change of the peripheral outputs
-pub record GoesQuietly (step : Step) (w : World) (next : Activation) (after : World) : Type 0 where
+pub record GoesSilently (step : Step) (w : World) (next : Activation) (after : World) : Type 0 where
   pub goes : step ≡ Went next after
   pub outputs : after.memory.peripheral_outputs ≡ w.memory.peripheral_outputs
 
 -- so many statements of this kind, one after another
-abbrev pub RunsQuietly : Code → (count : ℕ) → (a b : Activation) (w after : World) → Type 0
-RunsQuietly code zero a b w after = (b ≡ a) × (after ≡ w)
-RunsQuietly code (suc count) a b w after =
-    (next : Activation) × (mid : World) × GoesQuietly (statement code a w) w next mid
-    × RunsQuietly code count next b mid after
+abbrev pub RunsSilently : Code → (count : ℕ) → (a b : Activation) (w after : World) → Type 0
+RunsSilently code zero a b w after = (b ≡ a) × (after ≡ w)
+RunsSilently code (suc count) a b w after =
+    (next : Activation) × (mid : World) × GoesSilently (statement code a w) w next mid
+    × RunsSilently code count next b mid after
 
 -- after however many of them `statement` may be called
 abbrev pub StaysReady : Program → Activation → World → Type 0
 StaysReady p a w =
     (count : ℕ) (b : Activation) (after : World)
-    → RunsQuietly (code_of p) count a b w after → IsReady p b
+    → RunsSilently (code_of p) count a b w after → IsReady p b
 
 -- the instructions that write to the place of their operand
 abbrev pub may_write : Operation → Bool
@@ -99,15 +99,15 @@ has_caller (caller ∷ rest) = true
 -- the peripheral outputs surely stay as they are: an instruction that stays in its block and writes no
 -- peripheral place; a jump but JL; a call that is made of a function or function block; a return that
 -- is made from a block without an instance to its caller
-abbrev pub is_quiet : Instr → Activation → Bool
-is_quiet (Does use_db w o) a = not (moves w) && keeps_outputs w o a.running.frame.bindings
-is_quiet (Jumps w target) a = true
-is_quiet (Calls how block instance passings) a =
+abbrev pub is_silent : Instr → Activation → Bool
+is_silent (Does use_db w o) a = not (moves w) && keeps_outputs w o a.running.frame.bindings
+is_silent (Jumps w target) a = true
+is_silent (Calls how block instance passings) a =
     is_called how a.running.regs.status.rlo && not (is_system_function block.kind)
-is_quiet (Returns how) a =
+is_silent (Returns how) a =
     is_ended how a.running.regs.status.rlo && not (is_some a.running.frame.instance)
     && has_caller a.below
-is_quiet _ a = false
+is_silent _ a = false
 
 -- after an instruction with which the activation goes on its block is surely the running one still
 abbrev pub stays_in_block : Instr → Bool
@@ -130,7 +130,7 @@ goes_as kind code a w = is_next kind code a && goes_on (statement code a w)
 
 -- one such statement was executed, or nothing was done, since it isn't of the kind or doesn't go on
 abbrev pub GoesOrStays : Step → (kind : Bool) → (old new : Activation) (w after : World) → Bool → Type 0
-GoesOrStays step kind old new w after true = GoesQuietly step w new after
+GoesOrStays step kind old new w after true = GoesSilently step w new after
 GoesOrStays step kind old new w after false =
     (new ≡ old) × (after ≡ w) × ((kind && goes_on step) ≡ false)
 

@@ -16,19 +16,19 @@ use Rattle.image_file.specs.Readers.{block_of}
 use Rattle.machine.specs.declared.outcomes.Outcome.{Outcome}
 use Rattle.machine.specs.declared.outcomes.Outcome.TheVariants as outcome
 use Rattle.machine.specs.Code.{Code, Fetched, Head}
-use Rattle.machine.specs.Does.{does_with}
+use Rattle.machine.specs.Effect.{effect_with}
 use Rattle.machine.specs.Entering.{Call, Fails, Stops, Enters, Callee, call, called_with, entered_if, supplied}
 use Rattle.machine.specs.Bindings.{bindings_of}
 use Rattle.machine.specs.Flat.{code_of, most_ops, run_at, statement_at}
 use Rattle.machine.specs.Lasting.{IsReady}
-use Rattle.machine.specs.Parts.{Parts, own_of, parts_of, scene_of}
-use Rattle.machine.specs.Quiet.{GoesQuietly, GoesOrStays, RunsQuietly, StaysReady, goes_as, goes_on, has_caller as has_caller_of, is_next, is_quiet, keeps_outputs}
+use Rattle.machine.specs.ExecState.{ExecState, local_of, exec_state_of, local_memory_of}
+use Rattle.machine.specs.Silent.{GoesSilently, GoesOrStays, RunsSilently, StaysReady, goes_as, goes_on, has_caller as has_caller_of, is_next, is_silent, keeps_outputs}
 use Rattle.machine.specs.Returning.{Return, GoesOn, Ends, given_back, left, returning}
-use Rattle.machine.specs.Statement.{Comes, Goes, Performs, Step, Went, Ended, SyncError, SysCall, Stop, Stuck, World, after_call, after_return, block_called, called, callee_of, fetched, is_called, is_ended, performed, returned, statement, went_on}
+use Rattle.machine.specs.Statement.{IsOutcomeOf, IsNotStuck, IsPerformed, Step, Went, Ended, SyncError, SysCall, Stop, Stuck, World, after_call, after_return, block_called, called, callee_of, step_found, is_called, is_ended, step_of, returned, statement, continue_with}
 use Rattle.machine.specs.Walking.{Walk, fetched_at, walk_with}
 use Rattle.machine.proofs.FetchLemmas.{found_there, goes_there}
 use Rattle.machine.proofs.Keeping.{IfDone}
-use Rattle.machine.proofs.Outputs.{PartsStay, Stay, does_with_stays, params_in_stay}
+use Rattle.machine.proofs.Outputs.{StateStays, Stay, effect_with_stays, params_in_stay}
 
 both_true : (p q : Bool) → (p && q) ≡ true → (p ≡ true) × (q ≡ true)
 both_true true true h = (refl, refl)
@@ -50,8 +50,8 @@ StepStays m (SysCall number given a) = ⊥
 StepStays m _ = Unit {0}
 
 plain_stays :
-    (e : Result Parts ℕ) (next : ℕ) (a : Activation) (p : Parts) → IfDone (PartsStay p) e
-    → StepStays p.memory (went_on e next a)
+    (e : Result ExecState ℕ) (next : ℕ) (a : Activation) (p : ExecState) → IfDone (StateStays p) e
+    → StepStays p.memory (continue_with e next a)
 plain_stays (Ok q) next a p stays = stays
 plain_stays (Err code) next a p stays = tt
 
@@ -63,7 +63,7 @@ supplied_stays :
     (instance : Option ℕ) (params : List Param) (a : Activation) (m : Areas) → EnterStays m (supplied instance params a m)
 supplied_stays None params a m = refl
 supplied_stays (Some instance) params a m =
-    params_in_stay params 0 a.running.frame.bindings instance (scene_of a.running m)
+    params_in_stay params 0 a.running.frame.bindings instance (local_memory_of a.running m)
 
 entered_stays :
     (fault : Option FrameFault) (called : Callee) (bindings : List Binding) (next : ℕ) (a : Activation) (m : Areas)
@@ -83,7 +83,7 @@ call_stays :
     → EnterStays m (call called passings next a m)
 unfolding call
 call_stays called passings next a m =
-    call_bound_stays (bindings_of called.params passings (own_of a.running) m) called next a m
+    call_bound_stays (bindings_of called.params passings (local_of a.running) m) called next a m
 
 after_call_stays :
     (c : Call) (next : ℕ) (a : Activation) (w : World) → EnterStays w.memory c → StepStays w.memory (after_call c next a w)
@@ -141,21 +141,21 @@ no_instance None h = refl
 no_instance (Some number) h = absurd cc
 
 -- an instruction of the kind
-quiet_stays :
-    (c : Code) (i : Instr) (next : ℕ) (a : Activation) (w : World) → is_quiet i a ≡ true
-    → StepStays w.memory (performed c i next a w)
-quiet_stays c (Does use_db operation operand) next a w h =
-    plain_stays (does_with use_db operation operand (parts_of a.running w.memory w.timers w.counters)) next a
-    (parts_of a.running w.memory w.timers w.counters)
-    (does_with_stays use_db operation operand (parts_of a.running w.memory w.timers w.counters)
+silent_stays :
+    (c : Code) (i : Instr) (next : ℕ) (a : Activation) (w : World) → is_silent i a ≡ true
+    → StepStays w.memory (step_of c i next a w)
+silent_stays c (Does use_db operation operand) next a w h =
+    plain_stays (effect_with use_db operation operand (exec_state_of a.running w.memory w.timers w.counters)) next a
+    (exec_state_of a.running w.memory w.timers w.counters)
+    (effect_with_stays use_db operation operand (exec_state_of a.running w.memory w.timers w.counters)
     (both_true _ (keeps_outputs operation operand a.running.frame.bindings) h).1)
-quiet_stays c (Jumps operation target) next a w h = refl
-quiet_stays c (JumpsByList targets otherwise) next a w h = absurd cc
-quiet_stays c (Calls how block instance passings) next a w h =
+silent_stays c (Jumps operation target) next a w h = refl
+silent_stays c (JumpsByList targets otherwise) next a w h = absurd cc
+silent_stays c (Calls how block instance passings) next a w h =
     let made = both_true (is_called how a.running.regs.status.rlo) (not (is_system_function block.kind)) h in
     rw (made.0, is_not (is_system_function block.kind) made.1)
     (block_called_stays (c.head block) block instance passings next a w)
-quiet_stays c (Returns how) next a w h =
+silent_stays c (Returns how) next a w h =
     let made = both_true (is_ended how a.running.regs.status.rlo && not (is_some a.running.frame.instance)) (has_caller_of a.below) h in
     let ends = both_true (is_ended how a.running.regs.status.rlo) (not (is_some a.running.frame.instance)) made.0 in
     rw ends.0
@@ -166,8 +166,8 @@ quiet_stays c (Returns how) next a w h =
 
 -- an instruction that was performed went, or left all as it was
 by_step :
-    (step : Step) (next : ℕ) (a b : Activation) (w v : World) (answer : Bool) (other : Outcome) → Goes step
-    → StepStays w.memory step → Performs step next a b w v answer other → GoesOrStays step true a b w v answer
+    (step : Step) (next : ℕ) (a b : Activation) (w v : World) (answer : Bool) (other : Outcome) → IsNotStuck step
+    → StepStays w.memory step → IsPerformed step next a b w v answer other → GoesOrStays step true a b w v answer
 by_step (Went x after) next a b w v true other there stays h = record {
   goes = let first : b ≡ x = h.0 in let second : v ≡ after = h.1 in cc;
   outputs = ap (λ (z : World). z.memory.peripheral_outputs) h.1 ∙ stays;
@@ -189,28 +189,28 @@ by_step (Stop cause) next a b w v false (outcome.SyncError code) there stays h =
 by_step (Stop cause) next a b w v true other there stays h = absurd h
 by_step Stuck next a b w v answer other there stays h = absurd there
 
-pub performed_quietly :
+pub performed_silently :
     (c : Code) (f : Fetched) (a b : Activation) (w v : World) (answer passed : Bool) (other : Outcome)
-    → is_quiet f.instr a ≡ true → Goes (performed c f.instr f.next a w)
-    → Performs (performed c f.instr f.next a w) f.next a b w v answer other → passed ≡ answer
-    → GoesOrStays (performed c f.instr f.next a w) (is_quiet f.instr a) a b w v passed
-performed_quietly c f a b w v answer passed other quiet there h same =
+    → is_silent f.instr a ≡ true → IsNotStuck (step_of c f.instr f.next a w)
+    → IsPerformed (step_of c f.instr f.next a w) f.next a b w v answer other → passed ≡ answer
+    → GoesOrStays (step_of c f.instr f.next a w) (is_silent f.instr a) a b w v passed
+performed_silently c f a b w v answer passed other quiet there h same =
     rw (same, quiet)
-    (by_step (performed c f.instr f.next a w) f.next a b w v answer other there
-    (quiet_stays c f.instr f.next a w quiet) h)
+    (by_step (step_of c f.instr f.next a w) f.next a b w v answer other there
+    (silent_stays c f.instr f.next a w quiet) h)
 
 -- ---- a statement that was found
 
 statement_is :
     (p : Program) (b : CodeBlock) (f : Fetched) (a : Activation) (w : World)
     → block_of a.running.frame.block p.code_blocks ≡ Some b → statement_at b a.running.frame.at ≡ Some f
-    → statement (code_of p) a w ≡ performed (code_of p) f.instr f.next a w
+    → statement (code_of p) a w ≡ step_of (code_of p) f.instr f.next a w
 unfolding statement
 statement_is p b f a w is found = rw (is, found) refl
 
 statement_in :
     (p : Program) (b : CodeBlock) (a : Activation) (w : World) → block_of a.running.frame.block p.code_blocks ≡ Some b
-    → statement (code_of p) a w ≡ fetched (code_of p) (statement_at b a.running.frame.at) a w
+    → statement (code_of p) a w ≡ step_found (code_of p) (statement_at b a.running.frame.at) a w
 unfolding statement
 statement_in p b a w is = rw is refl
 
@@ -218,15 +218,15 @@ pub there_of :
     (p : Program) (b : CodeBlock) (a : Activation) (w : World) → block_of a.running.frame.block p.code_blocks ≡ Some b
     → IsReady p a → is_some (statement_at b a.running.frame.at) ≡ true
 there_of p b a w is ready =
-    goes_there (code_of p) (statement_at b a.running.frame.at) a w (subst Goes (statement_in p b a w is) (ready.there w))
+    goes_there (code_of p) (statement_at b a.running.frame.at) a w (subst IsNotStuck (statement_in p b a w is) (ready.there w))
 
 -- so it has what it needs
 pub performs_there :
     (p : Program) (b : CodeBlock) (f : Fetched) (a : Activation) (w : World)
     → block_of a.running.frame.block p.code_blocks ≡ Some b → statement_at b a.running.frame.at ≡ Some f → IsReady p a
-    → Goes (performed (code_of p) f.instr f.next a w)
+    → IsNotStuck (step_of (code_of p) f.instr f.next a w)
 performs_there p b f a w is found ready =
-    subst Goes (statement_is p b f a w is found) (ready.there w)
+    subst IsNotStuck (statement_is p b f a w is found) (ready.there w)
 
 -- by what was found along its ops
 pub found_passes :
@@ -241,42 +241,42 @@ found_passes p b a w walk there same h is ready =
 pub statement_passed :
     (p : Program) (b : CodeBlock) (f : Fetched) (a c : Activation) (w v : World) (answer : Bool)
     → block_of a.running.frame.block p.code_blocks ≡ Some b → statement_at b a.running.frame.at ≡ Some f
-    → GoesOrStays (performed (code_of p) f.instr f.next a w) (is_quiet f.instr a) a c w v answer
-    → GoesOrStays (statement (code_of p) a w) (is_next is_quiet (code_of p) a) a c w v answer
+    → GoesOrStays (step_of (code_of p) f.instr f.next a w) (is_silent f.instr a) a c w v answer
+    → GoesOrStays (statement (code_of p) a w) (is_next is_silent (code_of p) a) a c w v answer
 unfolding statement
 statement_passed p b f a c w v answer is found h = rw (is, found) h
 
 -- ---- one after another
 
 pub runs_on :
-    (code : Code) (i j : ℕ) (a b c : Activation) (w v u : World) → RunsQuietly code i a b w v → RunsQuietly code j b c v u
-    → RunsQuietly code (i + j) a c w u
+    (code : Code) (i j : ℕ) (a b c : Activation) (w v u : World) → RunsSilently code i a b w v → RunsSilently code j b c v u
+    → RunsSilently code (i + j) a c w u
 runs_on code zero j a b c w v u first more =
     let count : j ≡ zero + j = omega arith in
-    subst (λ (k : ℕ). RunsQuietly code k a c w u) count (rw (sym first.0, sym first.1) more)
+    subst (λ (k : ℕ). RunsSilently code k a c w u) count (rw (sym first.0, sym first.1) more)
 runs_on code (suc i) j a b c w v u (next, mid, goes, rest) more =
     let count : suc (i + j) ≡ suc i + j = omega arith in
-    subst (λ (k : ℕ). RunsQuietly code k a c w u) count (next, mid, goes, runs_on code i j next b c mid v u rest more)
+    subst (λ (k : ℕ). RunsSilently code k a c w u) count (next, mid, goes, runs_on code i j next b c mid v u rest more)
 
 pub runs_one :
-    (code : Code) (a b : Activation) (w v : World) → GoesQuietly (statement code a w) w b v → RunsQuietly code 1 a b w v
+    (code : Code) (a b : Activation) (w v : World) → GoesSilently (statement code a w) w b v → RunsSilently code 1 a b w v
 runs_one code a b w v goes = (b, v, goes, (refl, refl))
 
 pub stays_ready :
-    (p : Program) (i : ℕ) (a b : Activation) (w v : World) → StaysReady p a w → RunsQuietly (code_of p) i a b w v
+    (p : Program) (i : ℕ) (a b : Activation) (w v : World) → StaysReady p a w → RunsSilently (code_of p) i a b w v
     → StaysReady p b v
 stays_ready p i a b w v ready runs =
     λ j c u more. ready (i + j) c u (runs_on (code_of p) i j a b c w v u runs more)
 
 pub runs_next :
     (code : Code) (i : ℕ) (a c d : Activation) (w v u : World) (kind answer : Bool) → answer ≡ true
-    → GoesOrStays (statement code c v) kind c d v u answer → RunsQuietly code i a c w v → RunsQuietly code (i + 1) a d w u
+    → GoesOrStays (statement code c v) kind c d v u answer → RunsSilently code i a c w v → RunsSilently code (i + 1) a d w u
 runs_next code i a c d w v u kind true is goes runs = runs_on code i 1 a c d w v u runs (runs_one code c d v u goes)
 runs_next code i a c d w v u kind false is goes runs = absurd cc
 
 pub runs_still :
     (code : Code) (i : ℕ) (a c d : Activation) (w v u : World) (kind answer : Bool) → answer ≡ false
-    → GoesOrStays (statement code c v) kind c d v u answer → RunsQuietly code i a c w v → RunsQuietly code i a d w u
+    → GoesOrStays (statement code c v) kind c d v u answer → RunsSilently code i a c w v → RunsSilently code i a d w u
 runs_still code i a c d w v u kind true is goes runs = absurd cc
 runs_still code i a c d w v u kind false is goes runs = rw (goes.0, goes.1) runs
 

@@ -10,38 +10,38 @@ use Rattle.frames.specs.declared.running.Running.{Running}
 
 -- what an activation has of its own: registers, the innermost frame but for its block, position and
 -- length, and the local bytes of all frames
-pub record Own : Type 0 where
+pub record Local : Type 0 where
   pub regs : Regs
   pub inner : FrameData
   pub locals : LocalData
 
 -- that, and memory
-pub record Scene : Type 0 where
-  pub own : Own
+pub record LocalMemory : Type 0 where
+  pub local : Local
   pub memory : Areas
 
 -- that, and timers and counters
-pub record Parts : Type 0 where
-  pub own : Own
+pub record ExecState : Type 0 where
+  pub local : Local
   pub memory : Areas
   pub timers : List Timer
   pub counters : List Counter
 
 -- of the running block, all but which block it is, its position and how many local bytes it has
-abbrev pub own_of : Running → Own
-own_of s = record { regs = s.regs; inner = inner_of s.frame; locals = s.locals }
+abbrev pub local_of : Running → Local
+local_of s = record { regs = s.regs; inner = inner_of s.frame; locals = s.locals }
 
 -- a running block and the memory that its instructions read and write
-abbrev pub scene_of : Running → Areas → Scene
-scene_of s m = record { own = own_of s; memory = m }
+abbrev pub local_memory_of : Running → Areas → LocalMemory
+local_memory_of s m = record { local = local_of s; memory = m }
 
 -- a running block, memory, timers and counters: all that an instruction may work on
-abbrev pub parts_of : Running → Areas → List Timer → List Counter → Parts
-parts_of s m t n = record { own = own_of s; memory = m; timers = t; counters = n }
+abbrev pub exec_state_of : Running → Areas → List Timer → List Counter → ExecState
+exec_state_of s m t n = record { local = local_of s; memory = m; timers = t; counters = n }
 
 -- the running block with these parts; its block and position stay
-abbrev pub with_own : Running → Own → Running
-with_own s o = record s { regs = o.regs; frame = with_inner s.frame o.inner; locals = o.locals }
+abbrev pub with_local : Running → Local → Running
+with_local s o = record s { regs = o.regs; frame = with_inner s.frame o.inner; locals = o.locals }
 
 -- what comes of a first result, or its error
 abbrev pub then_ok : {A B : Type 0} → Result A ℕ → (A → Result B ℕ) → Result B ℕ
