@@ -191,7 +191,7 @@ pub record Statement (p : Program) (block : BlockId) (at : ℕ) (held : OpenAt) 
   pub stood : Stood p block at held
   pub line : ℕ
   pub run : Run
-  pub step_found : (code_of p).fetch block at ≡ Some (fetched_of stood.b.code line run)
+  pub fetched : (code_of p).fetch block at ≡ Some (fetched_of stood.b.code line run)
   pub ran : Ran p stood.b stood.q run
 
 run_found : (o : Option Run) → IsSome o → (r : Run) × (o ≡ Some r)
@@ -217,7 +217,7 @@ statement_there l p block at held s =
       stood = s;
       line = line.line;
       run = r.0;
-      step_found = rw s.found there;
+      fetched = rw s.found there;
       ran = run_is l p s.b most_ops s.q r.0 s.op r.1;
     }
 

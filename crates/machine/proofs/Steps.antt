@@ -58,7 +58,7 @@ pub call_stops :
     → IsPerformed (after_call c next a (world m t n)) next a after (world m t n) (world m' t n) false (outcome.Stop cause)
 call_stops (Fails code) next a after m m' t n fault cause is h = absurd h
 call_stops (Stops why) next a after m m' t n fault cause is h =
-    (is ∙ ap cause_of (sym h.0), h.1, ap (λ z. world z t n) h.2)
+    (is ∙ ap cause_of h.0, h.1, ap (λ z. world z t n) h.2)
 call_stops (Enters to memory) next a after m m' t n fault cause is h = absurd h
 
 pub return_performs :

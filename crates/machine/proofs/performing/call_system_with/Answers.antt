@@ -12,5 +12,5 @@ returns-in-Err c = λ w.
 pub returns-in-Ok : goal.returns-in-Ok
 returns-in-Ok c = λ w.
     rw (system_bound c.args.params.now (local_of c.args.a.now.running) c.args.m.now c.args.code.now.code c.args.at
-    c.bind_all.new.spare c.in-Ok.ensures)
+    c.bind_all.new.bindings c.in-Ok.ensures)
     (c.call_system.ensures w)

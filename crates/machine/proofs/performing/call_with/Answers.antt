@@ -12,5 +12,5 @@ returns-in-Err c = λ t n.
 pub returns-in-Ok : goal.returns-in-Ok
 returns-in-Ok c = λ t n.
     rw (call_bound c.args.called.now c.called.inside.params.now c.args.next c.args.a.now c.args.m.now c.args.code.now.code c.args.at
-    c.bind_all.new.spare (ap (λ (z : Callee). z.params) (sym c.called.view_is)) c.in-Ok.ensures)
+    c.bind_all.new.bindings (ap (λ (z : Callee). z.params) (sym c.called.view_is)) c.in-Ok.ensures)
     (c.call_block.ensures t n)
