@@ -18,7 +18,7 @@ ShowNothing code s (what ∷ rest) =
     ((happens code s what).seen ≡ nothing_shown)
     × ShowNothing code (happens code s what).state rest
 
--- the running activation, if one runs, stays ready through quiet statements
+-- the running activation, if one runs, stays ready through silent statements
 abbrev pub GoesOnReady : Program → List Activation → World → Type 0
 GoesOnReady p [] w = Unit {0}
 GoesOnReady p (a ∷ below) w = StaysReady p a w
@@ -32,7 +32,7 @@ GoesOnQuietly code count (a ∷ below) new w w' =
 
 -- ---- before which steps it stops
 
--- the running activation goes on with a statement of the quiet kind
+-- the running activation goes on with a statement of the silent kind
 abbrev pub goes_on_quietly : Code → List Activation → World → Bool
 goes_on_quietly code [] w = false
 goes_on_quietly code (a ∷ below) w = goes_as is_silent code a w

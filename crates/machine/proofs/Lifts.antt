@@ -14,7 +14,7 @@ pub checks_meet :
     (e : Result Regs ℕ) (old new : Running) (m : Areas) (t : List Timer) (n : List Counter) (r : Answer)
     → Checks e old new r → Meets (on_regs (exec_state_of old m t n) e) old new m m t t n n r
 checks_meet (Ok x) old new m t n (Ok answer) h = (h, refl, refl, refl)
-checks_meet (Err e) old new m t n (Err code) h = (h.0, h.1, refl, refl, refl)
+checks_meet (Err e) old new m t n (Err code) h = (h.0, (h.1, refl, refl, refl))
 checks_meet (Ok x) old new m t n (Err code) h = absurd h
 checks_meet (Err e) old new m t n (Ok answer) h = absurd h
 
@@ -25,7 +25,7 @@ pub changes_meet :
 changes_meet (Ok x) old regs m t n (Ok answer) h =
     (ap (λ (z : Regs). record old { regs = z }) h, refl, refl, refl)
 changes_meet (Err e) old regs m t n (Err code) h =
-    (h.0, ap (λ (z : Regs). record old { regs = z }) h.1, refl, refl, refl)
+    (h.0, (ap (λ (z : Regs). record old { regs = z }) h.1, refl, refl, refl))
 changes_meet (Ok x) old regs m t n (Err code) h = absurd h
 changes_meet (Err e) old regs m t n (Ok answer) h = absurd h
 
@@ -33,7 +33,7 @@ pub turns_meet :
     (e : Result Local ℕ) (old new : Running) (m : Areas) (t : List Timer) (n : List Counter) (r : Answer)
     → Turns e old new r → Meets (on_local (exec_state_of old m t n) e) old new m m t t n n r
 turns_meet (Ok x) old new m t n (Ok answer) h = (h, refl, refl, refl)
-turns_meet (Err e) old new m t n (Err code) h = (h.0, h.1, refl, refl, refl)
+turns_meet (Err e) old new m t n (Err code) h = (h.0, (h.1, refl, refl, refl))
 turns_meet (Ok x) old new m t n (Err code) h = absurd h
 turns_meet (Err e) old new m t n (Ok answer) h = absurd h
 
@@ -41,7 +41,7 @@ pub acts_meet :
     (e : Result LocalMemory ℕ) (old new : Running) (m m' : Areas) (t : List Timer) (n : List Counter) (r : Answer)
     → Acts e old new m m' r → Meets (on_local_memory (exec_state_of old m t n) e) old new m m' t t n n r
 acts_meet (Ok x) old new m m' t n (Ok answer) h = (h.0, h.1, refl, refl)
-acts_meet (Err e) old new m m' t n (Err code) h = (h.0, h.1, h.2, refl, refl)
+acts_meet (Err e) old new m m' t n (Err code) h = (h.0, (h.1.0, h.1.1, refl, refl))
 acts_meet (Ok x) old new m m' t n (Err code) h = absurd h
 acts_meet (Err e) old new m m' t n (Ok answer) h = absurd h
 
@@ -49,7 +49,7 @@ pub times_meet :
     (e : Result (List Timer) ℕ) (old new : Running) (m : Areas) (t t' : List Timer) (n : List Counter) (r : Answer)
     → Times e old new t t' r → Meets (on_timers (exec_state_of old m t n) e) old new m m t t' n n r
 times_meet (Ok x) old new m t t' n (Ok answer) h = (h.0, refl, h.1, refl)
-times_meet (Err e) old new m t t' n (Err code) h = (h.0, h.1, refl, h.2, refl)
+times_meet (Err e) old new m t t' n (Err code) h = (h.0, (h.1.0, refl, h.1.1, refl))
 times_meet (Ok x) old new m t t' n (Err code) h = absurd h
 times_meet (Err e) old new m t t' n (Ok answer) h = absurd h
 
@@ -57,6 +57,6 @@ pub counts_meet :
     (e : Result (List Counter) ℕ) (old new : Running) (m : Areas) (t : List Timer) (n n' : List Counter) (r : Answer)
     → Times e old new n n' r → Meets (on_counters (exec_state_of old m t n) e) old new m m t t n n' r
 counts_meet (Ok x) old new m t n n' (Ok answer) h = (h.0, refl, refl, h.1)
-counts_meet (Err e) old new m t n n' (Err code) h = (h.0, h.1, refl, refl, h.2)
+counts_meet (Err e) old new m t n n' (Err code) h = (h.0, (h.1.0, refl, refl, h.1.1))
 counts_meet (Ok x) old new m t n n' (Err code) h = absurd h
 counts_meet (Err e) old new m t n n' (Ok answer) h = absurd h

@@ -39,7 +39,7 @@ pub failed_performs :
     → IsPerformed (continue_with e next a) next a (record a { running = s }) (world m t n) (world m' t' n') false (outcome.SyncError code)
 failed_performs (Ok p) next a s m m' t t' n n' code h = absurd h
 failed_performs (Err e) next a s m m' t t' n n' code h =
-    (h.0, refl, ap (λ (z : Running). let r : Activation = record a { running = z } in r) h.1, worlds h.2 h.3 h.4)
+    (h.0, refl, ap (λ (z : Running). let r : Activation = record a { running = z } in r) h.1.0, worlds h.1.1 h.1.2 h.1.3)
 
 -- ---- calls and returns
 

@@ -11,7 +11,7 @@ use Rattle.timers_counters.specs.Counter.{Counter, counted_up, counted_down, set
 use Rattle.frames.specs.declared.running.Running.{Running}
 use Rattle.flat_code.specs.declared.operands.Operand.{Operand}
 use Rattle.machine.specs.ExecState.{Local, then_ok}
-use Rattle.machine.specs.Outcomes.{Answer}
+use Rattle.machine.specs.Outcomes.{Answer, IsDone}
 use Rattle.machine.specs.Values.{faulty, number_named}
 
 -- the instructions on timers and counters end the logic string: OR 0, /FC 0
@@ -73,7 +73,6 @@ counter_freed o s m n =
 -- an effect on timers or counters: the logic string ends; after an error all is as it was
 abbrev pub Times :
     {A : Type 0} → Result (List A) ℕ → (old new : Running) (all all' : List A) → Answer → Type 0
-Times (Ok next) old new all all' (Ok answer) =
-    (new ≡ record old { regs = string_ended old.regs }) × (all' ≡ next)
-Times (Err e) old new all all' (Err code) = (code ≡ e) × (new ≡ old) × (all' ≡ all)
-Times effect old new all all' answer = ⊥
+Times effect old new all all' answer =
+    IsDone effect (λ next. (new ≡ record old { regs = string_ended old.regs }) × (all' ≡ next))
+    ((new ≡ old) × (all' ≡ all)) answer

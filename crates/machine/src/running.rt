@@ -332,7 +332,7 @@ fn run_inside(
 
 /// Executes statements one after another as long as each lets the activation go on and leaves the
 /// peripheral outputs as they are, `most` at most; the answer is how many. It stops only before one
-/// that isn't of the quiet kind or doesn't go on: what it leaves is for `statement`. Quiet are the
+/// that isn't of the silent kind or doesn't go on: what it leaves is for `statement`. Silent are the
 /// instructions inside a block that don't write to a peripheral place, by their operand or what a
 /// parameter stands for; jumps but JL; a call that is made, but of a system function; and a return
 /// to a caller from a block without an instance. `spare` is room for what the parameters of a call stand
