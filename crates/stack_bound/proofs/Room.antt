@@ -194,7 +194,7 @@ block_room z p c None block instance passings next a w holds fits room is user c
 block_room z p c (Some d) block instance passings next a w holds fits room is user counts =
     after_call_room z c (call (callee_of block instance d) passings next a w.memory) next a w room
     (call_room z c (callee_of block instance d) passings next a w.memory stands
-    (not_refused z (bound_of block c) d.local_len (stack_of a) a room.0 more (holds.local block d is) depth bytes)
+    (not_refused z (bound_of block c) d.local_len (stack_of a) a room.0 more (holds.own block d is) depth bytes)
     more room)
   where
     stands : a.left ≡ false
