@@ -1,8 +1,9 @@
 pub mod Calling
-pub mod FetchLemmas
+pub mod Fetching
 pub mod Going
 pub mod Ready
 pub mod Lifts
+pub mod Completing
 pub mod Steps
 pub mod Walks
 pub mod Sizes
@@ -23,5 +24,5 @@ pub mod Errors
 pub mod Beginning
 pub mod Lasting
 pub mod Outputs
-pub mod SilentLemmas
+pub mod QuietLemmas
 mod MovedLemmas
