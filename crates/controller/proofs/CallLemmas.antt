@@ -14,7 +14,7 @@ use Rattle.frames.specs.declared.bindings.Binding.{Binding}
 use Rattle.frames.specs.declared.bindings.Binding.TheVariants as binding
 use Rattle.machine.specs.Code.{Code}
 use Rattle.machine.specs.Copies.{scene_or}
-use Rattle.machine.specs.Parts.{Scene, scene_of}
+use Rattle.machine.specs.ExecState.{LocalMemory, local_memory_of}
 use Rattle.machine.specs.Places.{is_local}
 use Rattle.machine.specs.Results.{with_result}
 use Rattle.machine.specs.Statement.{with_memory}
@@ -209,24 +209,24 @@ regs_of activations regs =
 
 -- a write changes none of them
 put_regs : (is_in_locals : Bool) (locals : Option LocalData) (memory : Option Areas) (error : ℕ)
-    (c : Scene)
+    (c : LocalMemory)
     → (scene_or c
     (ok_or
     (if is_in_locals
-    then option_map (λ (l : LocalData). record { own = with_locals c.own l; memory = c.memory }) locals
-    else option_map (λ (m : Areas). record { own = c.own; memory = m }) memory)
-    error)).own.regs
-    ≡ c.own.regs
+    then option_map (λ (l : LocalData). record { local = with_locals c.local l; memory = c.memory }) locals
+    else option_map (λ (m : Areas). record { local = c.local; memory = m }) memory)
+    error)).local.regs
+    ≡ c.local.regs
 put_regs true None memory error c = refl
 put_regs true (Some l) memory error c = refl
 put_regs false locals None error c = refl
 put_regs false locals (Some m) error c = refl
 
-bound_regs : (to : Binding) (value : ℕ) (c : Scene) → (with_result to value c).own.regs ≡ c.own.regs
+bound_regs : (to : Binding) (value : ℕ) (c : LocalMemory) → (with_result to value c).local.regs ≡ c.local.regs
 unfolding write
 bound_regs (binding.Bound place width frame) value c =
     put_regs (is_local place.area)
-    (local_written c.own.locals frame place.byte place.bit width (value % 2 ^ bit_count width))
+    (local_written c.local.locals frame place.byte place.bit width (value % 2 ^ bit_count width))
     (written c.memory place width (value % 2 ^ bit_count width)) _ c
 bound_regs (binding.Constant n) value c = refl
 bound_regs binding.Unsupplied value c = refl
@@ -234,7 +234,7 @@ bound_regs binding.Unsupplied value c = refl
 given_regs : (to : Option Binding) (value : ℕ) (a : Activation) (m : Areas)
     → (result_given to value a m).activation.running.regs ≡ a.running.regs
 given_regs None value a m = refl
-given_regs (Some to) value a m = bound_regs to value (scene_of a.running m)
+given_regs (Some to) value a m = bound_regs to value (local_memory_of a.running m)
 
 regs_to : (sv : Served) (to : Option Binding) (below new : List Activation) (m m' : Areas)
     (s s' : Scheduler) (answer : Option ℕ) (regs : Regs) → ServesTo sv to below new m m' s s' answer

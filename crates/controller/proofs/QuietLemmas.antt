@@ -10,7 +10,7 @@ use Rattle.flat_code.specs.Programs.{Program}
 use Rattle.machine.specs.Code.{Code}
 use Rattle.machine.specs.Flat.{code_of}
 use Rattle.machine.specs.Lasting.{FitsProgram, IsReady, Lasts}
-use Rattle.machine.specs.Quiet.{GoesQuietly, RunsQuietly, StaysReady}
+use Rattle.machine.specs.Silent.{GoesSilently, RunsSilently, StaysReady}
 use Rattle.machine.specs.Statement.{World, Step, Went, statement}
 use Rattle.ob_sched.specs.Request.{best_of}
 use Rattle.var_access.specs.declared.What.TheVariants as what
@@ -41,7 +41,7 @@ went_fits p w then step next goes lasts =
     on.fits
 
 still_fits : LastsLaw → (p : Program) → Verifies p → (count : ℕ) (a b : Activation) (w after : World)
-    → FitsProgram p w.memory a → RunsQuietly (code_of p) count a b w after
+    → FitsProgram p w.memory a → RunsSilently (code_of p) count a b w after
     → FitsProgram p after.memory b
 still_fits lasts p verifies zero a b w after fit runs =
     subst (λ (v : World). FitsProgram p v.memory b) (sym runs.1)
@@ -116,14 +116,14 @@ shown_nothing code s after unwatched outputs mode =
 
 -- the entry of a step
 step_state : (code : Code) (s : State) (a next : Activation) (below : List Activation) (then : World)
-    → IsQuiet s → s.activations ≡ a ∷ below → GoesQuietly (statement code a s.world) s.world next then
+    → IsQuiet s → s.activations ≡ a ∷ below → GoesSilently (statement code a s.world) s.world next then
     → (happens code s what.Step).state ≡ gone_on s then (next ∷ below) 1
 unfolding happens
 step_state code s a next below then quiet were goes =
     step_after code s a next below then quiet were goes.goes
 
 step_seen : (code : Code) (s : State) (a next : Activation) (below : List Activation) (then : World)
-    → IsQuiet s → s.activations ≡ a ∷ below → GoesQuietly (statement code a s.world) s.world next then
+    → IsQuiet s → s.activations ≡ a ∷ below → GoesSilently (statement code a s.world) s.world next then
     → (happens code s what.Step).seen ≡ nothing_shown
 unfolding happens
 step_seen code s a next below then quiet were goes =
@@ -156,7 +156,7 @@ nothing_done code s w activations are is =
 
 one_more_step : (code : Code) (s : State) (a next : Activation) (below activations : List Activation)
     (then w : World) (count : ℕ) → IsQuiet s → s.activations ≡ a ∷ below
-    → GoesQuietly (statement code a s.world) s.world next then
+    → GoesSilently (statement code a s.world) s.world next then
     → StepQuietly code (gone_on s then (next ∷ below) 1) w activations count
     → StepQuietly code s w activations (suc count)
 one_more_step code s a next below activations then w count quiet were goes rest =
@@ -178,7 +178,7 @@ one_more_step code s a next below activations then w count quiet were goes rest 
 
 runs_on : (code : Code) (count : ℕ) (s : State) (a b : Activation) (below activations : List Activation)
     (w : World) → IsQuiet s → s.activations ≡ a ∷ below → activations ≡ b ∷ below
-    → RunsQuietly code count a b s.world w → StepQuietly code s w activations count
+    → RunsSilently code count a b s.world w → StepQuietly code s w activations count
 runs_on code zero s a b below activations w quiet were are runs =
     nothing_done code s w activations
     (are ∙ ap (λ (c : Activation). c ∷ below) runs.0 ∙ sym were) runs.1

@@ -10,17 +10,17 @@ use Rattle.flat_code.specs.Programs.{CodeBlock, Program}
 use Rattle.image_file.specs.Readers.{block_of, line_of}
 use Rattle.machine.specs.Code.{Code, Fetched}
 use Rattle.machine.specs.Flat.{code_of, statement_at, run_at, most_ops, Run, fetched_of}
-use Rattle.machine.specs.Statement.{World, Goes, fetched, statement}
+use Rattle.machine.specs.Statement.{World, IsNotStuck, step_found, statement}
 use Rattle.controller.specs.Ready.{HasStatement, CanGo}
 use Rattle.controller.specs.Start.{world_at_rest}
 use Rattle.controller.specs.Stopping.{spot_at}
 
 fetched_there : (code : Code) (f : Option Fetched) (a : Activation) (w : World)
-    → Goes (fetched code f a w) → IsSome f
+    → IsNotStuck (step_found code f a w) → IsSome f
 fetched_there code None a w goes = absurd goes
 fetched_there code (Some f) a w goes = refl
 
-pub statement_there : (code : Code) (a : Activation) (w : World) → Goes (statement code a w)
+pub statement_there : (code : Code) (a : Activation) (w : World) → IsNotStuck (statement code a w)
     → HasStatement code a.running.frame.block a.running.frame.at
 unfolding statement HasStatement
 statement_there code a w goes =

@@ -15,12 +15,12 @@ use Rattle.flat_code.specs.Instr.{Instr, Does, Jumps, JumpsByList, Calls, Return
 use Rattle.flat_code.specs.declared.programs.Param.{Param}
 use Rattle.machine.specs.Bindings.{bindings_of}
 use Rattle.machine.specs.Code.{Code, Fetched, Head}
-use Rattle.machine.specs.Does.{does_with}
+use Rattle.machine.specs.Effect.{effect_with}
 use Rattle.machine.specs.Entering.{Call, Fails, Stops, Enters, Callee, supplied, entered_if, called_with, call, fresh, caller_at, going_on}
 use Rattle.frames.specs.Activations.{entered}
-use Rattle.machine.specs.Parts.{Parts, own_of, parts_of}
+use Rattle.machine.specs.ExecState.{ExecState, local_of, exec_state_of}
 use Rattle.machine.specs.Returning.{Return, GoesOn, Ends, left, given_back, returning}
-use Rattle.machine.specs.Statement.{World, Step, Went, Ended, SyncError, SysCall, Stop, Stuck, went_on, after_call, callee_of, block_called, after_system_call, system_called, called, is_called, not_called, after_return, returned, is_ended, performed, fetched, statement}
+use Rattle.machine.specs.Statement.{World, Step, Went, Ended, SyncError, SysCall, Stop, Stuck, continue_with, after_call, callee_of, block_called, after_system_call, system_called, called, is_called, not_called, after_return, returned, is_ended, step_of, step_found, statement}
 use Rattle.machine.specs.SystemCalls.{Given, system_function, system_call}
 use Rattle.machine.specs.Jumps.{rlo_tested}
 use Rattle.controller.specs.Beginning.{told_from}
@@ -46,7 +46,7 @@ if_same : (test : Bool) (a : Activation) (s t : Step) → SameStep a s → SameS
 if_same true a s t one other = one
 if_same false a s t one other = other
 
-went_same : (r : Result Parts ℕ) (next : ℕ) (a : Activation) → SameStep a (went_on r next a)
+went_same : (r : Result ExecState ℕ) (next : ℕ) (a : Activation) → SameStep a (continue_with r next a)
 went_same (Ok p) next a = (refl, refl)
 went_same (Err code) next a = (refl, refl)
 
@@ -71,7 +71,7 @@ call_same : (c : Callee) (passings : List Passing) (next : ℕ) (a : Activation)
     → SameCall a (call c passings next a m)
 unfolding call
 call_same c passings next a m =
-    called_same (bindings_of c.params passings (own_of a.running) m) c next a m
+    called_same (bindings_of c.params passings (local_of a.running) m) c next a m
 
 after_call_same : (c : Call) (next : ℕ) (a : Activation) (w : World) → SameCall a c
     → SameStep a (after_call c next a w)
@@ -96,7 +96,7 @@ system_same : (params : Option (List Param)) (number : ℕ) (passings : List Pas
     (a : Activation) (w : World) → SameStep a (system_called params number passings next a w)
 system_same None number passings next a w = tt
 system_same (Some params) number passings next a w =
-    after_system_same (system_call params passings (own_of a.running) w.memory) number next a
+    after_system_same (system_call params passings (local_of a.running) w.memory) number next a
 
 calls_same : (code : Code) (block : BlockId) (instance : Option ℕ) (passings : List Passing)
     (next : ℕ) (a : Activation) (w : World)
@@ -136,9 +136,9 @@ returned_same (Some h) a w =
     after_return_same (returning h.params a w.memory) a w (returning_same h.params a w.memory)
 
 performed_same : (code : Code) (i : Instr) (next : ℕ) (a : Activation) (w : World)
-    → SameStep a (performed code i next a w)
+    → SameStep a (step_of code i next a w)
 performed_same code (Does use_db operation operand) next a w =
-    went_same (does_with use_db operation operand (parts_of a.running w.memory w.timers w.counters)) next a
+    went_same (effect_with use_db operation operand (exec_state_of a.running w.memory w.timers w.counters)) next a
 performed_same code (Jumps operation target) next a w = (refl, refl)
 performed_same code (JumpsByList targets otherwise) next a w = (refl, refl)
 performed_same code (Calls how block instance passings) next a w =
@@ -153,7 +153,7 @@ performed_same code (Returns how) next a w =
     (returned_same (code.head a.running.frame.block) a w) (refl, refl)
 
 fetched_same : (code : Code) (f : Option Fetched) (a : Activation) (w : World)
-    → SameStep a (fetched code f a w)
+    → SameStep a (step_found code f a w)
 fetched_same code None a w = tt
 fetched_same code (Some f) a w = performed_same code f.instr f.next a w
 

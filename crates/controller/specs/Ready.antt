@@ -4,7 +4,7 @@ use Rattle.plc_base.specs.declared.BlockId.{BlockId}
 use Rattle.frames.specs.Activations.{frames_of}
 use Rattle.frames.specs.declared.Activation.{Activation}
 use Rattle.machine.specs.Code.{Code}
-use Rattle.machine.specs.Statement.{World, Goes, statement}
+use Rattle.machine.specs.Statement.{World, IsNotStuck, statement}
 
 -- a statement of a block stands at a position
 unfoldable pub HasStatement : Code → BlockId → (at : ℕ) → Type 0
@@ -14,7 +14,7 @@ HasStatement code block at = IsSome (code.fetch block at)
 pub record CanGo (code : Code) (a : Activation) : Type 0 where
   pub stands : a.left ≡ false
   pub depth : length a.running.locals.starts ≡ length (frames_of a)
-  pub there : (w : World) → Goes (statement code a w)
+  pub there : (w : World) → IsNotStuck (statement code a w)
 
 -- this is so of the running activation, if one runs
 abbrev pub IsReady : Code → List Activation → Type 0

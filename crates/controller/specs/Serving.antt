@@ -5,9 +5,9 @@ use Rattle.plc_base.specs.declared.Spot.{Spot}
 use Rattle.plc_mem.specs.Areas.{Areas}
 use Rattle.frames.specs.declared.Activation.{Activation}
 use Rattle.frames.specs.declared.bindings.Binding.{Binding}
-use Rattle.machine.specs.Parts.{scene_of}
+use Rattle.machine.specs.ExecState.{local_memory_of}
 use Rattle.machine.specs.Results.{with_result}
-use Rattle.machine.specs.Returning.{Stage, on_stage}
+use Rattle.machine.specs.Returning.{ReturnState, with_copied}
 use Rattle.machine.specs.Statement.{with_memory}
 use Rattle.machine.specs.SystemCalls.{Given}
 use Rattle.ob_sched.specs.Scheduler.{Scheduler, retriggered}
@@ -43,12 +43,12 @@ served number inputs s a =
     else Returns (time_tck s a)
 
 -- RET_VAL goes where it is bound; where it isn't, nothing changes
-abbrev pub result_given : Option Binding → (value : ℕ) → Activation → Areas → Stage
+abbrev pub result_given : Option Binding → (value : ℕ) → Activation → Areas → ReturnState
 result_given None value a m = record { activation = a; memory = m }
-result_given (Some to) value a m = on_stage a (with_result to value (scene_of a.running m))
+result_given (Some to) value a m = with_copied a (with_result to value (local_memory_of a.running m))
 
 -- the running activation goes on, with another scheduler and another memory
-abbrev pub goes_on : Stage → Scheduler → (below : List Activation) → State → State
+abbrev pub goes_on : ReturnState → Scheduler → (below : List Activation) → State → State
 goes_on stage sched below s =
     record s {
       world = with_memory stage.memory s.world;

@@ -22,7 +22,7 @@ use crate::spots::spot_at;
 use arrayvec::ArrayVec;
 use frames::{Activation, Binding, Bindings, Frame};
 use image_file::Loaded;
-use machine::{Inputs, Outcome, give_result, quiet_statements, statement};
+use machine::{Inputs, Outcome, give_result, run, statement};
 use ob_sched::{Sched, StartInfo};
 use plc_base::{BlockId, NoMemory, Profile, Spot};
 use plc_mem::Memory;
@@ -314,7 +314,7 @@ impl Activations {
         let running = &mut self.all.as_mut_slice()[place];
         let ob = running.ob;
         let (block, at) = (running.running.frame.block, running.running.frame.at);
-        let outcome = statement(program, m, t, n, running);
+        let outcome = statement(program, m, t, n, running, &mut self.spare);
         let regs = running.running.regs;
         if let Outcome::Ended = outcome {
             self.standing = place;
@@ -330,8 +330,8 @@ impl Activations {
         ))
     }
 
-    /// Executes statements of the running activation one after another, as `quiet_statements`; none
-    /// where nothing runs.
+    /// Executes statements of the running activation one after another, as `machine::run`; none where
+    /// nothing runs.
     pub(crate) fn run_quietly(
         &mut self,
         program: &Loaded,
@@ -351,7 +351,7 @@ impl Activations {
             return 0;
         };
         let running = &mut self.all.as_mut_slice()[place];
-        quiet_statements(program, m, t, n, running, most, &mut self.spare)
+        run(program, m, t, n, running, most, &mut self.spare)
     }
 
     /// The running activation calls a system function, whose result goes where it is bound. The

@@ -151,8 +151,8 @@ impl Controller {
     }
 
     /// Makes a step again and again as long as each time it shows nothing, `most` times at most; the
-    /// answer is how often. It stops only before a step that isn't a statement of the quiet kind
-    /// (`machine::quiet_statements`) with which the running activation goes on, in STOP, where a block
+    /// answer is how often. It stops only before a step that isn't a statement of the silent kind
+    /// (`machine::run`) with which the running activation goes on, in STOP, where a block
     /// is monitored, or where a request waits: what it leaves is for `enter`. Takes no memory.
     pub fn step_quietly(&mut self, step: &Entry, most: u64) -> u64
         requires step { step.now.what ≡ Step }

@@ -13,8 +13,8 @@ use image_file::Loaded;
 
 impl Cpu {
     /// Executes steps one after another as long as each shows nothing, `most` at most; the answer
-    /// is how many. It stops only before a step that isn't a statement of the quiet kind
-    /// (`machine::quiet_statements`) with which the running activation goes on, in STOP, where a block
+    /// is how many. It stops only before a step that isn't a statement of the silent kind
+    /// (`machine::run`) with which the running activation goes on, in STOP, where a block
     /// is monitored, or where a request waits: what it leaves is for `enter`.
     pub fn step_quietly(&mut self, program: &Loaded, most: u64) -> u64
         requires fit { IsFit program.now.program (state_of self.old) }

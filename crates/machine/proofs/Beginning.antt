@@ -27,7 +27,7 @@ use Rattle.machine.specs.Flat.{code_of, head_of}
 use Rattle.machine.specs.ImageLaws.{ImageLaws}
 use Rattle.machine.specs.Lasting.{FitsProgram, GoesOn, first_frame}
 use Rattle.machine.specs.OpenBrackets.{open_codes}
-use Rattle.machine.specs.Parts.{Scene, scene_of}
+use Rattle.machine.specs.ExecState.{LocalMemory, local_memory_of}
 use Rattle.machine.specs.Results.{GivesResult, with_result}
 use Rattle.machine.proofs.Called.{scene_fits}
 use Rattle.machine.proofs.FrameBytes.{mapped_there, locals_opened, locals_kept, lies_written}
@@ -148,16 +148,16 @@ delay_fits p m a n h =
 
 -- ---- the result of a system function
 
-result_kept : (to : Binding) (value : ℕ) (c : Scene) → KeepsScene c.own c.memory (with_result to value c)
+result_kept : (to : Binding) (value : ℕ) (c : LocalMemory) → KeepsScene c.local c.memory (with_result to value c)
 result_kept (binding.Bound place width frame) value c = put_kept (record { place = place; width = width; frame = frame }) value c
-result_kept (binding.Constant n) value c = same_scene c.own c.memory
-result_kept binding.Unsupplied value c = same_scene c.own c.memory
+result_kept (binding.Constant n) value c = same_scene c.local c.memory
+result_kept binding.Unsupplied value c = same_scene c.local c.memory
 
 pub result_fits :
     (l : ImageLaws) (p : Program) (m n : Areas) (a b : Activation) (to : Binding) (value : ℕ) → Verifies p
     → FitsProgram p m a → GivesResult to value a b m n → GoesOn p m n b
 result_fits l p m n a b to value verifies h gives =
-    let kept = result_kept to value (scene_of a.running m) in
+    let kept = result_kept to value (local_memory_of a.running m) in
     rw (gives.0, gives.1) (record { sizes = kept.memory; fits = scene_fits l p m a _ verifies h kept })
 
 -- ---- memory

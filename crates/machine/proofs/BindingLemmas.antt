@@ -23,11 +23,11 @@ use Rattle.flat_code.specs.declared.programs.Param.{Param}
 use Rattle.flat_code.specs.Instr.{Passing}
 use Rattle.flat_code.specs.Records.{section_in}
 use Rattle.machine.specs.declared.places.Access.{Access}
-use Rattle.machine.specs.declared.places.Bound.{Bound}
+use Rattle.machine.specs.declared.places.Location.{Location}
 use Rattle.machine.specs.Bindings.{access_of, bound_if, bound_place, bound_actual, bound_params, unsupplied, bindings_of}
 use Rattle.machine.specs.DataBlocks.{is_loaded}
 use Rattle.machine.specs.Fitting.{local_len_at, LiesIn, ExistsIn, IsBound, AreBound, LocalsFit}
-use Rattle.machine.specs.Parts.{Own}
+use Rattle.machine.specs.ExecState.{Local}
 use Rattle.machine.specs.Places.{bound_at, in_register, in_area, is_local, number_in, is_bit, is_peripheral, placed, error_of}
 use Rattle.machine.proofs.Errors.{IfTold, then_told, either_told, absent_told, placed_told}
 use Rattle.machine.proofs.FrameBytes.{local_lies}
@@ -37,7 +37,7 @@ use Rattle.machine.proofs.Keeping.{IfDone, done_then}
 
 -- a place that has a number exists
 pub place_exists :
-    (frames : List Frame) (l : LocalData) (m : Areas) (at : Bound) → LocalsFit frames l → IsSome (number_in at l m)
+    (frames : List Frame) (l : LocalData) (m : Areas) (at : Location) → LocalsFit frames l → IsSome (number_in at l m)
     → ExistsIn at.place.area at frames m
 place_exists frames l m at fits there = by at.place.area there
   where
@@ -72,7 +72,7 @@ lies_more g below k byte bit width lies = by (slice_get (reverse below) k) refl 
         rw more lies
 
 pub exists_more :
-    (area : Area) (at : Bound) (g : Frame) (below : List Frame) (m : Areas) → ExistsIn area at below m
+    (area : Area) (at : Location) (g : Frame) (below : List Frame) (m : Areas) → ExistsIn area at below m
     → ExistsIn area at (g ∷ below) m
 exists_more areas.L at g below m h = lies_more g below at.frame at.place.byte at.place.bit at.width h
 exists_more areas.I at g below m h = h
@@ -85,7 +85,7 @@ exists_more areas.Di at g below m h = h
 -- ---- what is passed
 
 place_bound :
-    (kind : BlockKind) (q : Param) (frames : List Frame) (access : Access) (at : Bound) (s : Own) (m : Areas)
+    (kind : BlockKind) (q : Param) (frames : List Frame) (access : Access) (at : Location) (s : Local) (m : Areas)
     → LocalsFit frames s.locals → at.width ≡ q.width
     → IfDone (IsBound kind q frames m) (bound_place access at s m)
 unfolding bound_place
@@ -97,13 +97,13 @@ place_bound kind q frames access at s m fits width = by (number_in at s.locals m
 
 in_register_width :
     (o : Option ℕ) (error byte bit : ℕ) (width : Width)
-    → IfDone (λ (at : Bound). at.width ≡ width) (in_register o error byte bit width)
+    → IfDone (λ (at : Location). at.width ≡ width) (in_register o error byte bit width)
 in_register_width None error byte bit width = tt
 in_register_width (Some number) error byte bit width = refl
 
 in_area_width :
-    (area : Area) (byte bit : ℕ) (width : Width) (s : Own)
-    → IfDone (λ (at : Bound). at.width ≡ width) (in_area area byte bit width s)
+    (area : Area) (byte bit : ℕ) (width : Width) (s : Local)
+    → IfDone (λ (at : Location). at.width ≡ width) (in_area area byte bit width s)
 unfolding in_area
 in_area_width areas.Db byte bit width s = in_register_width s.inner.db 0x32 byte bit width
 in_area_width areas.Di byte bit width s = in_register_width s.inner.di 0x33 byte bit width
@@ -114,12 +114,12 @@ in_area_width areas.M byte bit width s = refl
 in_area_width areas.P byte bit width s = refl
 
 placed_width :
-    (access : Access) (area : Area) (byte bit : ℕ) (width : Width) (s : Own)
-    → IfDone (λ (at : Bound). at.width ≡ width) (placed access area byte bit width s)
+    (access : Access) (area : Area) (byte bit : ℕ) (width : Width) (s : Local)
+    → IfDone (λ (at : Location). at.width ≡ width) (placed access area byte bit width s)
 placed_width access area byte bit width s = by (is_peripheral area && is_bit width)
   where
     by : (t : Bool)
-        → IfDone (λ (at : Bound). at.width ≡ width) (cond t (Err (error_of access 0x24)) (in_area area byte bit width s))
+        → IfDone (λ (at : Location). at.width ≡ width) (cond t (Err (error_of access 0x24)) (in_area area byte bit width s))
     by true = tt
     by false = in_area_width area byte bit width s
 
@@ -155,12 +155,12 @@ passed_bound p q g below m binding.Unsupplied wide input is = absurd is
 
 pub actual_bound :
     (kind : BlockKind) (own : List Param) (q : Param) (g : Frame) (below : List Frame) (access : Access) (actual : Passed)
-    (s : Own) (m : Areas) → LocalsFit (g ∷ below) s.locals → AreBound kind own below m s.inner.bindings
+    (s : Local) (m : Areas) → LocalsFit (g ∷ below) s.locals → AreBound kind own below m s.inner.bindings
     → FitsActual kind own q actual → IfDone (IsBound kinds.Fc q (g ∷ below) m) (bound_actual access actual s m)
 unfolding bound_actual
 actual_bound kind own q g below access (passed.Literal value) s m fits bound is = is
 actual_bound kind own q g below access (passed.Direct area width byte bit) s m fits bound is =
-    done_then (λ (at : Bound). at.width ≡ width) (IsBound kinds.Fc q (g ∷ below) m)
+    done_then (λ (at : Location). at.width ≡ width) (IsBound kinds.Fc q (g ∷ below) m)
     (placed access area byte bit width s) (λ at. bound_place access at s m)
     (placed_width access area byte bit width s)
     (λ at same. place_bound kinds.Fc q (g ∷ below) access at s m fits (same ∙ is))
@@ -269,7 +269,7 @@ one_more ps frames m before bs i q b h found is =
         (old.0, get_other bs i j b (eqb-false i j e) ∙ old.1, old.2)
 
 passed_all :
-    (kind : BlockKind) (own ps : List Param) (g : Frame) (below : List Frame) (s : Own) (m : Areas) (xs : List Passing)
+    (kind : BlockKind) (own ps : List Param) (g : Frame) (below : List Frame) (s : Local) (m : Areas) (xs : List Passing)
     (before : (ℕ → Bool)) (bs : List Binding) → LocalsFit (g ∷ below) s.locals → AreBound kind own below m s.inner.bindings
     → PassingsFit kind own ps xs → Passed_to ps (g ∷ below) m before bs
     → IfDone (λ (cs : List Binding). AreBound kinds.Fb ps (g ∷ below) m cs
@@ -312,7 +312,7 @@ pub record Bindings (ps : List Param) (frames : List Frame) (m : Areas) (xs : Li
   pub some : (i : ℕ) (q : Param) → slice_get ps i ≡ Some q → is_among i xs ≡ true → HasAt q frames m i bs
 
 pub call_binds :
-    (kind : BlockKind) (own ps : List Param) (g : Frame) (below : List Frame) (s : Own) (m : Areas) (xs : List Passing)
+    (kind : BlockKind) (own ps : List Param) (g : Frame) (below : List Frame) (s : Local) (m : Areas) (xs : List Passing)
     → LocalsFit (g ∷ below) s.locals → AreBound kind own below m s.inner.bindings → PassingsFit kind own ps xs
     → IfDone (Bindings ps (g ∷ below) m xs) (bindings_of ps xs s m)
 unfolding bindings_of
@@ -343,7 +343,7 @@ all_supplied (p ∷ ps) frames m [] all each = absurd all
 
 -- ---- errors
 
-place_told : (access : Access) (at : Bound) (s : Own) (m : Areas) → IfTold (bound_place access at s m)
+place_told : (access : Access) (at : Location) (s : Local) (m : Areas) → IfTold (bound_place access at s m)
 unfolding bound_place
 place_told access at s m = by (number_in at s.locals m)
   where
@@ -353,7 +353,7 @@ place_told access at s m = by (number_in at s.locals m)
 
 actual_told :
     (kind : BlockKind) (own : List Param) (q : Param) (below : List Frame) (access : Access) (actual : Passed)
-    (s : Own) (m : Areas) → AreBound kind own below m s.inner.bindings → FitsActual kind own q actual
+    (s : Local) (m : Areas) → AreBound kind own below m s.inner.bindings → FitsActual kind own q actual
     → IfTold (bound_actual access actual s m)
 unfolding bound_actual
 actual_told kind own q below access (passed.Literal value) s m bound is = tt
@@ -367,7 +367,7 @@ actual_told kind own q below access (passed.InBlock number area width byte bit) 
     (place_told access (bound_at areas.Db number byte bit width 0) s m) refl
 
 params_told :
-    (kind : BlockKind) (own ps : List Param) (below : List Frame) (s : Own) (m : Areas) (xs : List Passing) (bs : List Binding)
+    (kind : BlockKind) (own ps : List Param) (below : List Frame) (s : Local) (m : Areas) (xs : List Passing) (bs : List Binding)
     → AreBound kind own below m s.inner.bindings → PassingsFit kind own ps xs → IfTold (bound_params ps xs bs s m)
 params_told kind own ps below s m [] bs bound fits = tt
 params_told kind own ps below s m (x ∷ xs) bs bound fits =
@@ -377,7 +377,7 @@ params_told kind own ps below s m (x ∷ xs) bs bound fits =
     (λ b. params_told kind own ps below s m xs (bound_at_index bs x.index b) bound fits.1))
 
 pub call_told :
-    (kind : BlockKind) (own ps : List Param) (below : List Frame) (s : Own) (m : Areas) (xs : List Passing)
+    (kind : BlockKind) (own ps : List Param) (below : List Frame) (s : Local) (m : Areas) (xs : List Passing)
     → AreBound kind own below m s.inner.bindings → PassingsFit kind own ps xs → IfTold (bindings_of ps xs s m)
 unfolding bindings_of
 call_told kind own ps below s m xs bound fits = params_told kind own ps below s m xs (unsupplied ps) bound fits

@@ -26,7 +26,7 @@ use Rattle.machine.specs.Flat.{code_of, head_of}
 use Rattle.machine.specs.ImageLaws.{ImageLaws}
 use Rattle.machine.specs.Lasting.{FitsProgram, Lasts}
 use Rattle.machine.specs.OpenBrackets.{open_codes}
-use Rattle.machine.specs.Parts.{Scene, own_of, scene_of, with_own}
+use Rattle.machine.specs.ExecState.{LocalMemory, local_of, local_memory_of, with_local}
 use Rattle.machine.specs.Statement.{World, after_call, callee_of, block_called}
 use Rattle.machine.proofs.BindingLemmas.{Bindings, PassingsFit, is_among, all_supplied, call_binds, call_told}
 use Rattle.machine.proofs.Errors.{IfTold}
@@ -60,19 +60,19 @@ going_fits l p m a next r h stood =
 
 -- after bytes were written
 pub scene_fits :
-    (l : ImageLaws) (p : Program) (m : Areas) (a : Activation) (c : Scene) → Verifies p → FitsProgram p m a
-    → KeepsScene (own_of a.running) m c → FitsProgram p c.memory (record a { running = with_own a.running c.own })
+    (l : ImageLaws) (p : Program) (m : Areas) (a : Activation) (c : LocalMemory) → Verifies p → FitsProgram p m a
+    → KeepsScene (local_of a.running) m c → FitsProgram p c.memory (record a { running = with_local a.running c.local })
 scene_fits l p m a c verifies h kept =
     let f = a.running.frame in
     let was = stands_of (code_of p) (open_codes p) m a h.fits in
-    activation_follows l p m c.memory a (with_own a.running c.own) kept.memory h
+    activation_follows l p m c.memory a (with_local a.running c.local) kept.memory h
     (record {
       block = refl;
       local_len = refl;
       bindings = ap (λ (i : FrameData). i.bindings) kept.inner;
       instance = ap (λ (i : FrameData). i.instance) kept.inner;
-      db = open_after f.db c.own.inner.db m c.memory (ap (λ (i : FrameData). i.db) kept.inner) kept.memory was.frame.db;
-      di = open_after f.di c.own.inner.di m c.memory (ap (λ (i : FrameData). i.di) kept.inner) kept.memory was.frame.di;
+      db = open_after f.db c.local.inner.db m c.memory (ap (λ (i : FrameData). i.db) kept.inner) kept.memory was.frame.db;
+      di = open_after f.di c.local.inner.di m c.memory (ap (λ (i : FrameData). i.di) kept.inner) kept.memory was.frame.di;
       held = frame_open f;
       stood = stood_there p f.block f.at (frame_open f) verifies was.frame.open_brackets;
       same = ap (λ (i : FrameData). open_of i.brackets i.relay) kept.inner;
@@ -159,7 +159,7 @@ supplied_lasts :
     → Verifies p → FitsProgram p w.memory after → Lasts p w (after_call (supplied o ps after w.memory) next a w)
 supplied_lasts l p a after w next None ps verifies h = record { sizes = same_sizes w.memory; fits = h }
 supplied_lasts l p a after w next (Some number) ps verifies h =
-    let kept = params_in_kept ps 0 after.running.frame.bindings number (scene_of after.running w.memory) in
+    let kept = params_in_kept ps 0 after.running.frame.bindings number (local_memory_of after.running w.memory) in
     record { sizes = kept.memory; fits = scene_fits l p w.memory after _ verifies h kept }
 
 stops_told : (p : Program) (a : Activation) (w : World) (next : ℕ) (fault : FrameFault) → Lasts p w (after_call (Stops fault) next a w)
@@ -208,19 +208,19 @@ pub caller_binds :
     (p : Program) (m : Areas) (a : Activation) (own : CodeBlock) (ps : List Param) (next : ℕ) (xs : List Passing)
     → block_of a.running.frame.block p.code_blocks ≡ Some own → FitsProgram p m a
     → PassingsFit a.running.frame.block.kind own.params ps xs
-    → IfDone (Bindings ps (caller a next ∷ a.below) m xs) (bindings_of ps xs (own_of a.running) m)
+    → IfDone (Bindings ps (caller a next ∷ a.below) m xs) (bindings_of ps xs (local_of a.running) m)
 caller_binds p m a own ps next xs found h fits =
     let was = stands_of (code_of p) (open_codes p) m a h.fits in
-    call_binds a.running.frame.block.kind own.params ps (caller a next) a.below (own_of a.running) m xs
+    call_binds a.running.frame.block.kind own.params ps (caller a next) a.below (local_of a.running) m xs
     (locals_moved a.running.frame (caller a next) a.below a.running.locals refl was.locals)
     (own_bound p m a own found h) fits
 
 pub caller_told :
     (p : Program) (m : Areas) (a : Activation) (own : CodeBlock) (ps : List Param) (xs : List Passing)
     → block_of a.running.frame.block p.code_blocks ≡ Some own → FitsProgram p m a
-    → PassingsFit a.running.frame.block.kind own.params ps xs → IfTold (bindings_of ps xs (own_of a.running) m)
+    → PassingsFit a.running.frame.block.kind own.params ps xs → IfTold (bindings_of ps xs (local_of a.running) m)
 caller_told p m a own ps xs found h fits =
-    call_told a.running.frame.block.kind own.params ps a.below (own_of a.running) m xs (own_bound p m a own found h) fits
+    call_told a.running.frame.block.kind own.params ps a.below (local_of a.running) m xs (own_bound p m a own found h) fits
 
 pub function_lasts :
     (l : ImageLaws) (p : Program) (a : Activation) (w : World) (next number : ℕ) (own b : CodeBlock) (xs : List Passing)
@@ -233,8 +233,8 @@ unfolding call
 function_lasts l p a w next number own b xs h own_is found fits each =
     let bound = caller_binds p w.memory a own b.params next xs own_is h.fits fits in
     called_lasts l p a w next (record { kind = kinds.Fc; number = number }) b None
-    (bindings_of b.params xs (own_of a.running) w.memory) h found (caller_told p w.memory a own b.params xs own_is h.fits fits)
-    (function_bound b.params (caller a next ∷ a.below) w.memory xs (bindings_of b.params xs (own_of a.running) w.memory) each bound) tt
+    (bindings_of b.params xs (local_of a.running) w.memory) h found (caller_told p w.memory a own b.params xs own_is h.fits fits)
+    (function_bound b.params (caller a next ∷ a.below) w.memory xs (bindings_of b.params xs (local_of a.running) w.memory) each bound) tt
 
 pub function_block_lasts :
     (l : ImageLaws) (p : Program) (a : Activation) (w : World) (next number : ℕ) (own b : CodeBlock) (o : Option ℕ) (xs : List Passing)
@@ -246,5 +246,5 @@ unfolding call
 function_block_lasts l p a w next number own b o xs h own_is found fits instance =
     let bound = caller_binds p w.memory a own b.params next xs own_is h.fits fits in
     called_lasts l p a w next (record { kind = kinds.Fb; number = number }) b o
-    (bindings_of b.params xs (own_of a.running) w.memory) h found (caller_told p w.memory a own b.params xs own_is h.fits fits)
-    (block_bound b.params (caller a next ∷ a.below) w.memory xs (bindings_of b.params xs (own_of a.running) w.memory) bound) instance
+    (bindings_of b.params xs (local_of a.running) w.memory) h found (caller_told p w.memory a own b.params xs own_is h.fits fits)
+    (block_bound b.params (caller a next ∷ a.below) w.memory xs (bindings_of b.params xs (local_of a.running) w.memory) bound) instance

@@ -34,17 +34,17 @@ use Rattle.flat_code.specs.Placed.{is_empty, most_zones}
 use Rattle.flat_code.specs.Table.{admits, takes_of_operation, takes_timer, takes_counter}
 use Rattle.machine.specs.declared.places.Access.{Access}
 use Rattle.machine.specs.declared.places.Access.TheVariants.{Reading, Writing}
-use Rattle.machine.specs.declared.places.Bound.{Bound}
+use Rattle.machine.specs.declared.places.Location.{Location}
 use Rattle.machine.specs.BitLogic.{checking, put_bit, bit_number, with_regs, bit_before, assigned, assigned_at, bit_set, set_at, edge, edge_at}
 use Rattle.machine.specs.DataBlocks.{is_loaded, opened_if, opening, loading_open_block}
-use Rattle.machine.specs.Does.{on_regs, on_own, on_scene, on_timers, on_counters, kind_named, set_of, reset_of, free_of, does}
+use Rattle.machine.specs.Effect.{on_regs, on_local, on_local_memory, on_timers, on_counters, kind_named, set_of, reset_of, free_of, effect}
 use Rattle.machine.specs.Lasting.{is_error_code}
 use Rattle.machine.specs.Loads.{loading, loading_bcd, transferred}
 use Rattle.machine.specs.Nesting.{with_brackets, nesting, unnesting, unnested}
 use Rattle.machine.specs.Relay.{closed, opening_zone, ending_zone, relayed}
 use Rattle.status_word.specs.Brackets.{entry_of, begun}
 use Rattle.machine.specs.Numbers.{from_bcd, counted}
-use Rattle.machine.specs.Parts.{Own, Scene, Parts, then_ok}
+use Rattle.machine.specs.ExecState.{Local, LocalMemory, ExecState, then_ok}
 use Rattle.machine.specs.Places.{error_of, in_register, in_area, absent, number_in, read, direct, pointer, is_aligned, at_pointer, by_pointer, is_bit, is_peripheral, placed, in_named, by_crossing, address, by_register, of_binding, located, no_operand}
 use Rattle.machine.specs.Pointers.{pointed, address_loaded, address_transferred}
 use Rattle.machine.specs.Timing.{starting, timer_reset, timer_freed, counting_up, counting_down, counter_set, counter_reset, counter_freed}
@@ -84,44 +84,44 @@ register_told : (o : Option ℕ) (error byte bit : ℕ) (width : Width) → Told
 register_told (Some number) error byte bit width some = tt
 register_told None error byte bit width some = some
 
-area_told : (area : Area) (byte bit : ℕ) (width : Width) (s : Own) → IfTold (in_area area byte bit width s)
+area_told : (area : Area) (byte bit : ℕ) (width : Width) (s : Local) → IfTold (in_area area byte bit width s)
 unfolding in_area
 area_told areas.Db byte bit width s = register_told s.inner.db 0x32 byte bit width refl
 area_told areas.Di byte bit width s = register_told s.inner.di 0x33 byte bit width refl
 area_told areas.L byte bit width s = tt
 area_told _ byte bit width s = tt
 
-read_told : (at : Bound) (s : Own) (m : Areas) → IfTold (read at s m)
+read_told : (at : Location) (s : Local) (m : Areas) → IfTold (read at s m)
 unfolding read
 read_told at s m = or_told (number_in at s.locals m) (absent Reading at.place.area) (absent_told Reading at.place.area)
 
-pointer_told : (from : Area) (byte : ℕ) (width : Width) (s : Own) (m : Areas) → IfTold (pointer from byte width s m)
+pointer_told : (from : Area) (byte : ℕ) (width : Width) (s : Local) (m : Areas) → IfTold (pointer from byte width s m)
 unfolding direct
 pointer_told from byte width s m =
     then_told (in_area from byte 0 width s) (λ at. read at s m) (area_told from byte 0 width s) (λ at. read_told at s m)
 
-by_pointer_told : (access : Access) (area : Area) (width : Width) (n : ℕ) (s : Own) → IfTold (by_pointer access area width n s)
+by_pointer_told : (access : Access) (area : Area) (width : Width) (n : ℕ) (s : Local) → IfTold (by_pointer access area width n s)
 unfolding by_pointer
 by_pointer_told access area width n s =
     either_told (is_aligned width n) (at_pointer area width n s) (Err (error_of access 0x28))
     (area_told area (n / 2 ^ 3 % 2 ^ 16) (n % 2 ^ 3) width s) (error_told access 0x28 refl refl)
 
-pub placed_told : (access : Access) (area : Area) (byte bit : ℕ) (width : Width) (s : Own) → IfTold (placed access area byte bit width s)
+pub placed_told : (access : Access) (area : Area) (byte bit : ℕ) (width : Width) (s : Local) → IfTold (placed access area byte bit width s)
 placed_told access area byte bit width s =
     either_told (is_peripheral area && is_bit width) (Err (error_of access 0x24)) (in_area area byte bit width s)
     (error_told access 0x24 refl refl) (area_told area byte bit width s)
 
-named_told : (access : Access) (named : Option Place) (width : Width) (n : ℕ) (s : Own) → IfTold (in_named access named width n s)
+named_told : (access : Access) (named : Option Place) (width : Width) (n : ℕ) (s : Local) → IfTold (in_named access named width n s)
 named_told access None width n s = error_told access 0x24 refl refl
 named_told access (Some at) width n s = placed_told access at.area (n / 2 ^ 3 % 2 ^ 16) (n % 2 ^ 3) width s
 
-crossing_told : (access : Access) (width : Width) (address n : ℕ) (s : Own) → IfTold (by_crossing access width address n s)
+crossing_told : (access : Access) (width : Width) (address n : ℕ) (s : Local) → IfTold (by_crossing access width address n s)
 unfolding by_crossing
 crossing_told access width address n s =
     either_told (is_aligned width n) (in_named access (place_of address) width n s) (Err (error_of access 0x28))
     (named_told access (place_of address) width n s) (error_told access 0x28 refl refl)
 
-by_register_told : (access : Access) (area : Option Area) (width : Width) (address bits : ℕ) (s : Own) → IfTold (by_register access area width address bits s)
+by_register_told : (access : Access) (area : Option Area) (width : Width) (address bits : ℕ) (s : Local) → IfTold (by_register access area width address bits s)
 by_register_told access (Some area) width address bits s = by_pointer_told access area width _ s
 by_register_told access None width address bits s = crossing_told access width address _ s
 
@@ -136,13 +136,13 @@ IsPlace (binding.Bound at width frame) = Unit {0}
 IsPlace b = ⊥
 
 -- a parameter of the function stands for something, where it is written for a place
-abbrev pub ParamHas : Own → (written : Bool) → Operand → Type 0
+abbrev pub ParamHas : Local → (written : Bool) → Operand → Type 0
 ParamHas s written (operand.Parameter index width) =
     (b : Binding) × (slice_get s.inner.bindings index ≡ Some b) × IsSupplied b × (written ≡ true → IsPlace b)
 ParamHas s written o = Unit {0}
 
 -- an operand with a place
-abbrev HasPlace : Own → Operand → Type 0
+abbrev HasPlace : Local → Operand → Type 0
 HasPlace s (operand.Direct area width byte bit) = Unit {0}
 HasPlace s (operand.ByMemory area width from byte) = Unit {0}
 HasPlace s (operand.ByRegister area width register bits) = Unit {0}
@@ -155,7 +155,7 @@ binding_told (binding.Bound at width frame) is = tt
 binding_told (binding.Constant value) is = absurd is
 binding_told binding.Unsupplied is = absurd is
 
-located_told : (access : Access) (o : Operand) (s : Own) (m : Areas) → HasPlace s o → IfTold (located access o s m)
+located_told : (access : Access) (o : Operand) (s : Local) (m : Areas) → HasPlace s o → IfTold (located access o s m)
 unfolding located
 located_told access (operand.Direct area width byte bit) s m has = placed_told access area byte bit width s
 located_told access (operand.ByMemory area width from byte) s m has =
@@ -166,7 +166,7 @@ located_told access (operand.Parameter index width) s m has = rw has.1 (binding_
 located_told access _ s m has = absurd has
 
 -- an operand that is read
-abbrev IsRead : Own → Operand → Type 0
+abbrev IsRead : Local → Operand → Type 0
 IsRead s (operand.Literal value) = Unit {0}
 IsRead s (operand.Direct area width byte bit) = Unit {0}
 IsRead s (operand.ByMemory area width from byte) = Unit {0}
@@ -175,15 +175,15 @@ IsRead s (operand.Parameter index width) =
     (b : Binding) × (slice_get s.inner.bindings index ≡ Some b) × IsSupplied b
 IsRead s o = ⊥
 
-number_binding_told : (b : Binding) (s : Own) (m : Areas) → IsSupplied b → IfTold (number_of_binding (Some b) s m)
+number_binding_told : (b : Binding) (s : Local) (m : Areas) → IsSupplied b → IfTold (number_of_binding (Some b) s m)
 number_binding_told (binding.Bound at width frame) s m is = read_told (record { place = at; width = width; frame = frame }) s m
 number_binding_told (binding.Constant value) s m is = tt
 number_binding_told binding.Unsupplied s m is = absurd is
 
-located_read : (o : Operand) (s : Own) (m : Areas) → HasPlace s o → IfTold (then_ok (located Reading o s m) (λ at. read at s m))
+located_read : (o : Operand) (s : Local) (m : Areas) → HasPlace s o → IfTold (then_ok (located Reading o s m) (λ at. read at s m))
 located_read o s m has = then_told (located Reading o s m) (λ at. read at s m) (located_told Reading o s m has) (λ at. read_told at s m)
 
-number_told : (o : Operand) (s : Own) (m : Areas) → IsRead s o → IfTold (number o s m)
+number_told : (o : Operand) (s : Local) (m : Areas) → IsRead s o → IfTold (number o s m)
 unfolding number
 number_told (operand.Literal value) s m has = tt
 number_told (operand.Direct area width byte bit) s m has = located_read (operand.Direct area width byte bit) s m tt
@@ -216,7 +216,7 @@ IsNumbered (operand.Numbered kind number) = Unit {0}
 IsNumbered (operand.NumberedBy kind from byte) = Unit {0}
 IsNumbered o = ⊥
 
-named_number_told : (o : Operand) (s : Own) (m : Areas) → IsNumbered o → IfTold (number_named o s m)
+named_number_told : (o : Operand) (s : Local) (m : Areas) → IsNumbered o → IfTold (number_named o s m)
 unfolding number_named
 named_number_told (operand.Numbered kind number) s m has = tt
 named_number_told (operand.NumberedBy kind from byte) s m has = pointer_told from byte widths.Word s m
@@ -224,15 +224,15 @@ named_number_told _ s m has = absurd has
 
 -- ---- writing
 
-write_told : (at : Bound) (value : ℕ) (s : Own) (m : Areas) → IfTold (write at value s m)
+write_told : (at : Location) (value : ℕ) (s : Local) (m : Areas) → IfTold (write at value s m)
 unfolding write
 write_told at value s m = or_told (stored_at at value s m) (absent Writing at.place.area) (absent_told Writing at.place.area)
 
-put_told : (at : Bound) (bit : Bool) (r : Regs) (s : Own) (m : Areas) → IfTold (put_bit at bit r s m)
+put_told : (at : Location) (bit : Bool) (r : Regs) (s : Local) (m : Areas) → IfTold (put_bit at bit r s m)
 unfolding put_bit
 put_told at bit r s m = then_told (write at (bit_number bit) s m) (λ c. Ok (with_regs r c)) (write_told at (bit_number bit) s m) (λ c. tt)
 
-before_told : (at : Bound) (s : Own) (m : Areas) → IfTold (bit_before at s m)
+before_told : (at : Location) (s : Local) (m : Areas) → IfTold (bit_before at s m)
 unfolding bit_before
 before_told at s m =
     then_told (ok_or (number_in at s.locals m) (absent Writing at.place.area)) (λ n. Ok (n == 1))
@@ -244,7 +244,7 @@ one_told : (r : Result ℕ ℕ) → IfTold r → IfTold (is_one r)
 one_told (Ok n) told = tt
 one_told (Err code) told = told
 
-tested_told : (o : Operand) (s : Own) (m : Areas) (t : List Timer) (n : List Counter) → admits takes.Check o ≡ true → ParamHas s false o → IfTold (tested o s m t n)
+tested_told : (o : Operand) (s : Local) (m : Areas) (t : List Timer) (n : List Counter) → admits takes.Check o ≡ true → ParamHas s false o → IfTold (tested o s m t n)
 unfolding tested admits
 tested_told (operand.Numbered kind number) s m t n h has = bit_told kind number t n
 tested_told (operand.NumberedBy kind from byte) s m t n h has =
@@ -256,7 +256,7 @@ tested_told (operand.ByRegister area width register bits) s m t n h has = one_to
 tested_told (operand.Parameter index width) s m t n h has = one_told _ (number_told (operand.Parameter index width) s m (has.0, has.1, has.2))
 tested_told _ s m t n h has = absurd cc
 
-loaded_told : (o : Operand) (s : Own) (m : Areas) (t : List Timer) (n : List Counter) → admits takes.Load o ≡ true → ParamHas s false o → IfTold (loaded o s m t n)
+loaded_told : (o : Operand) (s : Local) (m : Areas) (t : List Timer) (n : List Counter) → admits takes.Load o ≡ true → ParamHas s false o → IfTold (loaded o s m t n)
 unfolding loaded admits
 loaded_told (operand.Numbered kind number) s m t n h has = value_told kind number t n
 loaded_told (operand.NumberedBy kind from byte) s m t n h has =
@@ -277,7 +277,7 @@ numbered_by _ t (inl e) h = absurd (let f : false ≡ true = rw e at h in cc)
 numbered_by _ t (inr (inl e)) h = absurd (let f : false ≡ true = rw e at h in cc)
 numbered_by _ t (inr (inr e)) h = absurd (let f : false ≡ true = rw e at h in cc)
 
-bcd_loaded_told : (o : Operand) (s : Own) (m : Areas) (t : List Timer) (n : List Counter) → IsNumbered o → IfTold (bcd_loaded o s m t n)
+bcd_loaded_told : (o : Operand) (s : Local) (m : Areas) (t : List Timer) (n : List Counter) → IsNumbered o → IfTold (bcd_loaded o s m t n)
 unfolding bcd_loaded
 bcd_loaded_told (operand.Numbered kind number) s m t n has = bcd_told kind number t n
 bcd_loaded_told (operand.NumberedBy kind from byte) s m t n has =
@@ -294,7 +294,7 @@ kind_none kind t a b h = none (kind == 1) (kind == 2) (rw (a, b) at h)
     none false false e = cc
 
 -- an operand that is written
-written_place : (o : Operand) (t : Takes) (s : Own) → (t ≡ takes.Transfer) ⊎ (t ≡ takes.Bit) → admits t o ≡ true → ParamHas s true o → HasPlace s o
+written_place : (o : Operand) (t : Takes) (s : Local) → (t ≡ takes.Transfer) ⊎ (t ≡ takes.Bit) → admits t o ≡ true → ParamHas s true o → HasPlace s o
 unfolding admits
 written_place (operand.Direct area width byte bit) t s is h has = tt
 written_place (operand.ByMemory area width from byte) t s is h has = tt
@@ -309,132 +309,132 @@ written_place _ t s (inr e) h has = absurd (let f : false ≡ true = rw e at h i
 
 -- ---- by word
 
-registers_told : (p : Parts) (r : Result Regs ℕ) → IfTold r → IfTold (on_regs p r)
+registers_told : (p : ExecState) (r : Result Regs ℕ) → IfTold r → IfTold (on_regs p r)
 registers_told p (Ok r) told = tt
 registers_told p (Err code) told = told
 
-own_told : (p : Parts) (r : Result Own ℕ) → IfTold r → IfTold (on_own p r)
+own_told : (p : ExecState) (r : Result Local ℕ) → IfTold r → IfTold (on_local p r)
 own_told p (Ok r) told = tt
 own_told p (Err code) told = told
 
-scene_told : (p : Parts) (r : Result Scene ℕ) → IfTold r → IfTold (on_scene p r)
+scene_told : (p : ExecState) (r : Result LocalMemory ℕ) → IfTold r → IfTold (on_local_memory p r)
 scene_told p (Ok r) told = tt
 scene_told p (Err code) told = told
 
-timers_told : (p : Parts) (r : Result (List Timer) ℕ) → IfTold r → IfTold (on_timers p r)
+timers_told : (p : ExecState) (r : Result (List Timer) ℕ) → IfTold r → IfTold (on_timers p r)
 timers_told p (Ok r) told = tt
 timers_told p (Err code) told = told
 
-counters_told : (p : Parts) (r : Result (List Counter) ℕ) → IfTold r → IfTold (on_counters p r)
+counters_told : (p : ExecState) (r : Result (List Counter) ℕ) → IfTold r → IfTold (on_counters p r)
 counters_told p (Ok r) told = tt
 counters_told p (Err code) told = told
 
-numbered_told : {A : Type 0} (code : ℕ) (o : Operand) (s : Own) (m : Areas) (f : ℕ → Result A TimerFault) → Told code → IsNumbered o → IfTold (then_ok (number_named o s m) (λ number. faulty code (f number)))
+numbered_told : {A : Type 0} (code : ℕ) (o : Operand) (s : Local) (m : Areas) (f : ℕ → Result A TimerFault) → Told code → IsNumbered o → IfTold (then_ok (number_named o s m) (λ number. faulty code (f number)))
 numbered_told code o s m f some has =
     then_told (number_named o s m) (λ number. faulty code (f number)) (named_number_told o s m has) (λ number. faulty_told code (f number) some)
 
-starting_told : (how : TimerKind) (o : Operand) (s : Own) (m : Areas) (t : List Timer) → IsNumbered o → IfTold (starting how o s m t)
+starting_told : (how : TimerKind) (o : Operand) (s : Local) (m : Areas) (t : List Timer) → IsNumbered o → IfTold (starting how o s m t)
 unfolding starting
 starting_told how o s m t has = numbered_told 0x26 o s m _ refl has
 
-timer_reset_told : (o : Operand) (s : Own) (m : Areas) (t : List Timer) → IsNumbered o → IfTold (timer_reset o s m t)
+timer_reset_told : (o : Operand) (s : Local) (m : Areas) (t : List Timer) → IsNumbered o → IfTold (timer_reset o s m t)
 unfolding timer_reset
 timer_reset_told o s m t has = numbered_told 0x26 o s m _ refl has
 
-timer_freed_told : (o : Operand) (s : Own) (m : Areas) (t : List Timer) → IsNumbered o → IfTold (timer_freed o s m t)
+timer_freed_told : (o : Operand) (s : Local) (m : Areas) (t : List Timer) → IsNumbered o → IfTold (timer_freed o s m t)
 unfolding timer_freed
 timer_freed_told o s m t has = numbered_told 0x26 o s m _ refl has
 
-up_told : (o : Operand) (s : Own) (m : Areas) (n : List Counter) → IsNumbered o → IfTold (counting_up o s m n)
+up_told : (o : Operand) (s : Local) (m : Areas) (n : List Counter) → IsNumbered o → IfTold (counting_up o s m n)
 unfolding counting_up
 up_told o s m n has = numbered_told 0x27 o s m _ refl has
 
-down_told : (o : Operand) (s : Own) (m : Areas) (n : List Counter) → IsNumbered o → IfTold (counting_down o s m n)
+down_told : (o : Operand) (s : Local) (m : Areas) (n : List Counter) → IsNumbered o → IfTold (counting_down o s m n)
 unfolding counting_down
 down_told o s m n has = numbered_told 0x27 o s m _ refl has
 
-set_counter_told : (o : Operand) (s : Own) (m : Areas) (n : List Counter) → IsNumbered o → IfTold (counter_set o s m n)
+set_counter_told : (o : Operand) (s : Local) (m : Areas) (n : List Counter) → IsNumbered o → IfTold (counter_set o s m n)
 unfolding counter_set
 set_counter_told o s m n has = numbered_told 0x27 o s m _ refl has
 
-reset_counter_told : (o : Operand) (s : Own) (m : Areas) (n : List Counter) → IsNumbered o → IfTold (counter_reset o s m n)
+reset_counter_told : (o : Operand) (s : Local) (m : Areas) (n : List Counter) → IsNumbered o → IfTold (counter_reset o s m n)
 unfolding counter_reset
 reset_counter_told o s m n has = numbered_told 0x27 o s m _ refl has
 
-counter_freed_told : (o : Operand) (s : Own) (m : Areas) (n : List Counter) → IsNumbered o → IfTold (counter_freed o s m n)
+counter_freed_told : (o : Operand) (s : Local) (m : Areas) (n : List Counter) → IsNumbered o → IfTold (counter_freed o s m n)
 unfolding counter_freed
 counter_freed_told o s m n has = numbered_told 0x27 o s m _ refl has
 
-checking_told : (o : Operand) (p : Parts) (with : _) → admits takes.Check o ≡ true → ParamHas p.own false o → IfTold (checking with o p.own p.memory p.timers p.counters)
+checking_told : (o : Operand) (p : ExecState) (with : _) → admits takes.Check o ≡ true → ParamHas p.local false o → IfTold (checking with o p.local p.memory p.timers p.counters)
 unfolding checking
-checking_told o p with h has = then_told (tested o p.own p.memory p.timers p.counters) _ (tested_told o p.own p.memory p.timers p.counters h has) (λ bit. tt)
+checking_told o p with h has = then_told (tested o p.local p.memory p.timers p.counters) _ (tested_told o p.local p.memory p.timers p.counters h has) (λ bit. tt)
 
-loading_told : (o : Operand) (p : Parts) → admits takes.Load o ≡ true → ParamHas p.own false o → IfTold (loading o p.own p.memory p.timers p.counters)
+loading_told : (o : Operand) (p : ExecState) → admits takes.Load o ≡ true → ParamHas p.local false o → IfTold (loading o p.local p.memory p.timers p.counters)
 unfolding loading
-loading_told o p h has = then_told (loaded o p.own p.memory p.timers p.counters) _ (loaded_told o p.own p.memory p.timers p.counters h has) (λ x. tt)
+loading_told o p h has = then_told (loaded o p.local p.memory p.timers p.counters) _ (loaded_told o p.local p.memory p.timers p.counters h has) (λ x. tt)
 
-loading_bcd_told : (o : Operand) (p : Parts) → IsNumbered o → IfTold (loading_bcd o p.own p.memory p.timers p.counters)
+loading_bcd_told : (o : Operand) (p : ExecState) → IsNumbered o → IfTold (loading_bcd o p.local p.memory p.timers p.counters)
 unfolding loading_bcd
-loading_bcd_told o p has = then_told (bcd_loaded o p.own p.memory p.timers p.counters) _ (bcd_loaded_told o p.own p.memory p.timers p.counters has) (λ x. tt)
+loading_bcd_told o p has = then_told (bcd_loaded o p.local p.memory p.timers p.counters) _ (bcd_loaded_told o p.local p.memory p.timers p.counters has) (λ x. tt)
 
-transferred_told : (n : ℕ) (o : Operand) (s : Own) (m : Areas) → HasPlace s o → IfTold (transferred n o s m)
+transferred_told : (n : ℕ) (o : Operand) (s : Local) (m : Areas) → HasPlace s o → IfTold (transferred n o s m)
 unfolding transferred
 transferred_told n o s m has = then_told (located Writing o s m) _ (located_told Writing o s m has) (λ at. write_told at _ s m)
 
-assigned_told : (o : Operand) (s : Own) (m : Areas) → HasPlace s o → IfTold (assigned o s m)
+assigned_told : (o : Operand) (s : Local) (m : Areas) → HasPlace s o → IfTold (assigned o s m)
 unfolding assigned
 assigned_told o s m has = then_told (located Writing o s m) (λ at. assigned_at at s m) (located_told Writing o s m has) (λ at. put_told at _ _ s m)
 
-bit_set_told : (value : Bool) (o : Operand) (s : Own) (m : Areas) → HasPlace s o → IfTold (bit_set value o s m)
+bit_set_told : (value : Bool) (o : Operand) (s : Local) (m : Areas) → HasPlace s o → IfTold (bit_set value o s m)
 unfolding bit_set
 bit_set_told value o s m has =
     then_told (located Writing o s m) (λ at. then_ok (bit_before at s m) (λ before. set_at value at before s m)) (located_told Writing o s m has)
     (λ at. then_told (bit_before at s m) (λ before. set_at value at before s m) (before_told at s m) (λ before. put_told at _ _ s m))
 
-edge_told : (rising : Bool) (o : Operand) (s : Own) (m : Areas) → HasPlace s o → IfTold (edge rising o s m)
+edge_told : (rising : Bool) (o : Operand) (s : Local) (m : Areas) → HasPlace s o → IfTold (edge rising o s m)
 unfolding edge
 edge_told rising o s m has =
     then_told (located Writing o s m) (λ at. then_ok (bit_before at s m) (λ before. edge_at rising at before s m)) (located_told Writing o s m has)
     (λ at. then_told (bit_before at s m) (λ before. edge_at rising at before s m) (before_told at s m) (λ before. put_told at _ _ s m))
 
 -- S and R of a bit, a timer or a counter; FR of a timer or a counter
-set_told : (o : Operand) (p : Parts) → admits takes.BitOrCounter o ≡ true → ParamHas p.own true o → IfTold (set_of (kind_named o) o p)
+set_told : (o : Operand) (p : ExecState) → admits takes.BitOrCounter o ≡ true → ParamHas p.local true o → IfTold (set_of (kind_named o) o p)
 unfolding admits
-set_told (operand.Direct area width byte bit) p h has = scene_told p _ (bit_set_told true (operand.Direct area width byte bit) p.own p.memory tt)
-set_told (operand.ByMemory area width from byte) p h has = scene_told p _ (bit_set_told true (operand.ByMemory area width from byte) p.own p.memory tt)
-set_told (operand.ByRegister area width register bits) p h has = scene_told p _ (bit_set_told true (operand.ByRegister area width register bits) p.own p.memory tt)
-set_told (operand.Parameter index width) p h has = scene_told p _ (bit_set_told true (operand.Parameter index width) p.own p.memory (has.0, has.1, has.3 refl))
-set_told (operand.Numbered kind number) p h has = counters_told p _ (set_counter_told (operand.Numbered kind number) p.own p.memory p.counters tt)
-set_told (operand.NumberedBy kind from byte) p h has = counters_told p _ (set_counter_told (operand.NumberedBy kind from byte) p.own p.memory p.counters tt)
+set_told (operand.Direct area width byte bit) p h has = scene_told p _ (bit_set_told true (operand.Direct area width byte bit) p.local p.memory tt)
+set_told (operand.ByMemory area width from byte) p h has = scene_told p _ (bit_set_told true (operand.ByMemory area width from byte) p.local p.memory tt)
+set_told (operand.ByRegister area width register bits) p h has = scene_told p _ (bit_set_told true (operand.ByRegister area width register bits) p.local p.memory tt)
+set_told (operand.Parameter index width) p h has = scene_told p _ (bit_set_told true (operand.Parameter index width) p.local p.memory (has.0, has.1, has.3 refl))
+set_told (operand.Numbered kind number) p h has = counters_told p _ (set_counter_told (operand.Numbered kind number) p.local p.memory p.counters tt)
+set_told (operand.NumberedBy kind from byte) p h has = counters_told p _ (set_counter_told (operand.NumberedBy kind from byte) p.local p.memory p.counters tt)
 set_told _ p h has = absurd cc
 
-reset_numbered_told : (kind : ℕ) (o : Operand) (p : Parts) → IsNumbered o → IfTold (reset_of (Some kind) o p)
+reset_numbered_told : (kind : ℕ) (o : Operand) (p : ExecState) → IsNumbered o → IfTold (reset_of (Some kind) o p)
 reset_numbered_told kind o p has =
-    either_told (is_timer kind) (on_timers p (timer_reset o p.own p.memory p.timers)) (on_counters p (counter_reset o p.own p.memory p.counters))
-    (timers_told p _ (timer_reset_told o p.own p.memory p.timers has)) (counters_told p _ (reset_counter_told o p.own p.memory p.counters has))
+    either_told (is_timer kind) (on_timers p (timer_reset o p.local p.memory p.timers)) (on_counters p (counter_reset o p.local p.memory p.counters))
+    (timers_told p _ (timer_reset_told o p.local p.memory p.timers has)) (counters_told p _ (reset_counter_told o p.local p.memory p.counters has))
 
-reset_told : (o : Operand) (p : Parts) → admits takes.BitOrNumbered o ≡ true → ParamHas p.own true o → IfTold (reset_of (kind_named o) o p)
+reset_told : (o : Operand) (p : ExecState) → admits takes.BitOrNumbered o ≡ true → ParamHas p.local true o → IfTold (reset_of (kind_named o) o p)
 unfolding admits
-reset_told (operand.Direct area width byte bit) p h has = scene_told p _ (bit_set_told false (operand.Direct area width byte bit) p.own p.memory tt)
-reset_told (operand.ByMemory area width from byte) p h has = scene_told p _ (bit_set_told false (operand.ByMemory area width from byte) p.own p.memory tt)
-reset_told (operand.ByRegister area width register bits) p h has = scene_told p _ (bit_set_told false (operand.ByRegister area width register bits) p.own p.memory tt)
-reset_told (operand.Parameter index width) p h has = scene_told p _ (bit_set_told false (operand.Parameter index width) p.own p.memory (has.0, has.1, has.3 refl))
+reset_told (operand.Direct area width byte bit) p h has = scene_told p _ (bit_set_told false (operand.Direct area width byte bit) p.local p.memory tt)
+reset_told (operand.ByMemory area width from byte) p h has = scene_told p _ (bit_set_told false (operand.ByMemory area width from byte) p.local p.memory tt)
+reset_told (operand.ByRegister area width register bits) p h has = scene_told p _ (bit_set_told false (operand.ByRegister area width register bits) p.local p.memory tt)
+reset_told (operand.Parameter index width) p h has = scene_told p _ (bit_set_told false (operand.Parameter index width) p.local p.memory (has.0, has.1, has.3 refl))
 reset_told (operand.Numbered kind number) p h has = reset_numbered_told kind (operand.Numbered kind number) p tt
 reset_told (operand.NumberedBy kind from byte) p h has = reset_numbered_told kind (operand.NumberedBy kind from byte) p tt
 reset_told _ p h has = absurd cc
 
-free_numbered_told : (kind : ℕ) (o : Operand) (p : Parts) → IsNumbered o → IfTold (free_of (Some kind) o p)
+free_numbered_told : (kind : ℕ) (o : Operand) (p : ExecState) → IsNumbered o → IfTold (free_of (Some kind) o p)
 free_numbered_told kind o p has =
-    either_told (is_timer kind) (on_timers p (timer_freed o p.own p.memory p.timers)) (on_counters p (counter_freed o p.own p.memory p.counters))
-    (timers_told p _ (timer_freed_told o p.own p.memory p.timers has)) (counters_told p _ (counter_freed_told o p.own p.memory p.counters has))
+    either_told (is_timer kind) (on_timers p (timer_freed o p.local p.memory p.timers)) (on_counters p (counter_freed o p.local p.memory p.counters))
+    (timers_told p _ (timer_freed_told o p.local p.memory p.timers has)) (counters_told p _ (counter_freed_told o p.local p.memory p.counters has))
 
-free_told : (o : Operand) (p : Parts) → IsNumbered o → IfTold (free_of (kind_named o) o p)
+free_told : (o : Operand) (p : ExecState) → IsNumbered o → IfTold (free_of (kind_named o) o p)
 free_told (operand.Numbered kind number) p has = free_numbered_told kind (operand.Numbered kind number) p tt
 free_told (operand.NumberedBy kind from byte) p has = free_numbered_told kind (operand.NumberedBy kind from byte) p tt
 free_told _ p has = absurd has
 
 -- pointers
-address_told : (o : Operand) (s : Own) (m : Areas) → admits takes.Pointer o ≡ true → IfTold (address_loaded o s m)
+address_told : (o : Operand) (s : Local) (m : Areas) → admits takes.Pointer o ≡ true → IfTold (address_loaded o s m)
 unfolding admits
 address_told operand.Nothing s m h = tt
 address_told (operand.Literal value) s m h = number_told (operand.Literal value) s m tt
@@ -443,7 +443,7 @@ address_told (operand.Numbered kind number) s m h = absurd (kind_none kind takes
 address_told (operand.NumberedBy kind from byte) s m h = absurd (kind_none kind takes.Pointer refl refl h)
 address_told _ s m h = absurd cc
 
-address_transferred_told : (n : ℕ) (o : Operand) (s : Own) (m : Areas) → admits takes.PointerPlace o ≡ true → IfTold (address_transferred n o s m)
+address_transferred_told : (n : ℕ) (o : Operand) (s : Local) (m : Areas) → admits takes.PointerPlace o ≡ true → IfTold (address_transferred n o s m)
 unfolding admits
 address_transferred_told n operand.Nothing s m h = tt
 address_transferred_told n (operand.Direct area width byte bit) s m h = transferred_told n (operand.Direct area width byte bit) s m tt
@@ -451,7 +451,7 @@ address_transferred_told n (operand.Numbered kind number) s m h = absurd (kind_n
 address_transferred_told n (operand.NumberedBy kind from byte) s m h = absurd (kind_none kind takes.PointerPlace refl refl h)
 address_transferred_told n _ s m h = absurd cc
 
-pointed_told : (what : PointerOperation) (o : Operand) (s : Own) (m : Areas) → admits (takes_of_operation (operation.Pointer what)) o ≡ true → IfTold (pointed what o s m)
+pointed_told : (what : PointerOperation) (o : Operand) (s : Local) (m : Areas) → admits (takes_of_operation (operation.Pointer what)) o ≡ true → IfTold (pointed what o s m)
 unfolding pointed
 pointed_told pointers.Lar1 o s m h = then_told (address_loaded o s m) _ (address_told o s m h) (λ n. tt)
 pointed_told pointers.Lar2 o s m h = then_told (address_loaded o s m) _ (address_told o s m h) (λ n. tt)
@@ -470,11 +470,11 @@ counted_told number_word.Btd r = bcd_given _
 counted_told _ r = tt
 
 -- data blocks
-open_told : (loaded : Bool) (register number : ℕ) (s : Own) → IfTold (opened_if loaded register number s)
+open_told : (loaded : Bool) (register number : ℕ) (s : Local) → IfTold (opened_if loaded register number s)
 open_told true register number s = tt
 open_told false register number s = refl
 
-opening_told : (o : Operand) (s : Own) (m : Areas) → admits takes.Open o ≡ true → IfTold (opening o s m)
+opening_told : (o : Operand) (s : Local) (m : Areas) → admits takes.Open o ≡ true → IfTold (opening o s m)
 unfolding opening admits
 opening_told (operand.OpenBlock register number) s m h = open_told (is_loaded number m) register number s
 opening_told (operand.OpenBy register from byte) s m h =
@@ -484,7 +484,7 @@ opening_told (operand.Numbered kind number) s m h = absurd (kind_none kind takes
 opening_told (operand.NumberedBy kind from byte) s m h = absurd (kind_none kind takes.Open refl refl h)
 opening_told _ s m h = absurd cc
 
-open_fact_told : (o : Operand) (s : Own) (m : Areas) → admits (takes.Number 3) o ≡ true → IfTold (loading_open_block o s m)
+open_fact_told : (o : Operand) (s : Local) (m : Areas) → admits (takes.Number 3) o ≡ true → IfTold (loading_open_block o s m)
 unfolding loading_open_block admits
 open_fact_told (operand.Literal which) s m h = tt
 open_fact_told (operand.Numbered kind number) s m h = absurd (kind_none kind (takes.Number 3) refl refl h)
@@ -519,29 +519,29 @@ HasRoom operation.UseDb brackets r = ⊥
 HasRoom operation.Pass brackets r = ⊥
 HasRoom _ brackets r = Unit {0}
 
-pub record Suits (v : Operation) (o : Operand) (p : Parts) : Type 0 where
+pub record Suits (v : Operation) (o : Operand) (p : ExecState) : Type 0 where
   pub admitted : admits (takes_of_operation v) o ≡ true
-  pub has : ParamHas p.own (is_writing v) o
+  pub has : ParamHas p.local (is_writing v) o
   pub other : goes_by_statement v o ≡ false
-  pub room : HasRoom v p.own.inner.brackets p.own.inner.relay
+  pub room : HasRoom v p.local.inner.brackets p.local.inner.relay
 
-nest_done : (p : Parts) (with : _) → (length p.own.inner.brackets ≡ 7 → ⊥) → IfTold (nesting with p.own)
+nest_done : (p : ExecState) (with : _) → (length p.local.inner.brackets ≡ 7 → ⊥) → IfTold (nesting with p.local)
 unfolding nesting
-nest_done p with room = by (length p.own.inner.brackets == 7) refl
+nest_done p with room = by (length p.local.inner.brackets == 7) refl
   where
-    by : (t : Bool) → (length p.own.inner.brackets == 7) ≡ t → IfTold (cond t (Err no_operand) (Ok (with_brackets (entry_of with p.own.regs ∷ p.own.inner.brackets) (record p.own { regs = begun p.own.regs }))))
-    by true e = absurd (room (eqb-true (length p.own.inner.brackets) 7 e))
+    by : (t : Bool) → (length p.local.inner.brackets == 7) ≡ t → IfTold (cond t (Err no_operand) (Ok (with_brackets (entry_of with p.local.regs ∷ p.local.inner.brackets) (record p.local { regs = begun p.local.regs }))))
+    by true e = absurd (room (eqb-true (length p.local.inner.brackets) 7 e))
     by false e = tt
 
-unnest_done : (s : Own) (brackets : List Bracket) → (brackets ≡ [] → ⊥) → IfTold (unnested brackets s)
+unnest_done : (s : Local) (brackets : List Bracket) → (brackets ≡ [] → ⊥) → IfTold (unnested brackets s)
 unnest_done s [] room = absurd (room refl)
 unnest_done s (b ∷ rest) room = tt
 
-unnesting_done : (s : Own) → (s.inner.brackets ≡ [] → ⊥) → IfTold (unnesting s)
+unnesting_done : (s : Local) → (s.inner.brackets ≡ [] → ⊥) → IfTold (unnesting s)
 unfolding unnesting
 unnesting_done s room = unnest_done s s.inner.brackets room
 
-pub zone_room : (s : Own) → (length s.inner.relay.zones ≡ most_zones → ⊥) → (length s.inner.relay.zones == most_zones) ≡ false
+pub zone_room : (s : Local) → (length s.inner.relay.zones ≡ most_zones → ⊥) → (length s.inner.relay.zones == most_zones) ≡ false
 zone_room s room = by (length s.inner.relay.zones == most_zones) refl
   where
     by : (t : Bool) → (length s.inner.relay.zones == most_zones) ≡ t → t ≡ false
@@ -552,7 +552,7 @@ pub zone_there : (zones : List Bool) → (zones ≡ [] → ⊥) → is_empty zon
 zone_there [] room = absurd (room refl)
 zone_there (value ∷ around) room = refl
 
-relayed_done : (which : RelayOperation) (s : Own) → HasRoom (operation.Relay which) s.inner.brackets s.inner.relay → IfTold (relayed which s)
+relayed_done : (which : RelayOperation) (s : Local) → HasRoom (operation.Relay which) s.inner.brackets s.inner.relay → IfTold (relayed which s)
 unfolding opening_zone ending_zone
 relayed_done relay.Activate s room = tt
 relayed_done relay.Deactivate s room = tt
@@ -579,48 +579,48 @@ no_code (operand.Numbered kind number) h = kind_none kind takes.NoCode refl refl
 no_code (operand.NumberedBy kind from byte) h = kind_none kind takes.NoCode refl refl h
 no_code _ h = cc
 
-pub does_told : (v : Operation) (o : Operand) (p : Parts) → Suits v o p → IfTold (does v o p)
-unfolding does
-does_told operation.Nop o p s = tt
-does_told operation.Bld o p s = tt
-does_told (operation.Check with) o p s = registers_told p _ (checking_told o p with s.admitted s.has)
-does_told operation.OrBare o p s = tt
-does_told (operation.Nest with) o p s = own_told p _ (nest_done p with s.room)
-does_told operation.Unnest o p s = own_told p _ (unnesting_done p.own s.room)
-does_told (operation.Relay which) o p s = own_told p _ (relayed_done which p.own s.room)
-does_told operation.Load o p s = registers_told p _ (loading_told o p s.admitted s.has)
-does_told operation.Transfer o p s =
-    scene_told p _ (transferred_told (if closed p.own then 0 else p.own.regs.a1) o p.own p.memory (written_place o takes.Transfer p.own (inl refl) s.admitted s.has))
-does_told operation.Assign o p s =
-    scene_told p _ (assigned_told o p.own p.memory (written_place o takes.Bit p.own (inr refl) s.admitted s.has))
-does_told operation.Set o p s = set_told o p s.admitted s.has
-does_told operation.Reset o p s = reset_told o p s.admitted s.has
-does_told (operation.Edge rising) o p s =
-    scene_told p _ (edge_told rising o p.own p.memory (written_place o takes.Bit p.own (inr refl) s.admitted s.has))
-does_told operation.SetRlo o p s = tt
-does_told operation.ClearRlo o p s = tt
-does_told operation.NegateRlo o p s = tt
-does_told operation.SaveRlo o p s = tt
-does_told operation.LoadBcd o p s = registers_told p _ (loading_bcd_told o p (numbered_by o takes.Numbered (inl refl) s.admitted))
-does_told operation.LoadStatus o p s = tt
-does_told operation.TransferStatus o p s = tt
-does_told operation.LoadOpenBlock o p s = registers_told p _ (open_fact_told o p.own p.memory s.admitted)
-does_told (operation.Pointer what) o p s = scene_told p _ (pointed_told what o p.own p.memory s.admitted)
-does_told (operation.Number what) o p s = registers_told p _ (counted_told what p.own.regs)
-does_told (operation.Add what) o p s = tt
-does_told (operation.CompareInt how) o p s = tt
-does_told (operation.CompareDint how) o p s = tt
-does_told (operation.Logic what) o p s = tt
-does_told (operation.Shift what) o p s = tt
-does_told (operation.Start how) o p s = timers_told p _ (starting_told how o p.own p.memory p.timers (numbered_by o takes.Timer (inr (inl refl)) s.admitted))
-does_told operation.Free o p s = free_told o p (numbered_by o takes.Numbered (inl refl) s.admitted)
-does_told operation.CountUp o p s = counters_told p _ (up_told o p.own p.memory p.counters (numbered_by o takes.Counter (inr (inr refl)) s.admitted))
-does_told operation.CountDown o p s = counters_told p _ (down_told o p.own p.memory p.counters (numbered_by o takes.Counter (inr (inr refl)) s.admitted))
-does_told operation.OpenBlock o p s = own_told p _ (opening_told o p.own p.memory s.admitted)
-does_told operation.Exchange o p s = tt
-does_told operation.Jump o p s = absurd (no_jump o s.admitted s.other)
-does_told (operation.Call how) o p s = absurd (no_call how o s.admitted s.other)
-does_told (operation.End how) o p s = absurd (let e = s.other in cc)
-does_told operation.UseDb o p s = absurd s.room
-does_told operation.Pass o p s = absurd s.room
-does_told operation.NoOperation o p s = absurd (no_code o s.admitted)
+pub effect_told : (v : Operation) (o : Operand) (p : ExecState) → Suits v o p → IfTold (effect v o p)
+unfolding effect
+effect_told operation.Nop o p s = tt
+effect_told operation.Bld o p s = tt
+effect_told (operation.Check with) o p s = registers_told p _ (checking_told o p with s.admitted s.has)
+effect_told operation.OrBare o p s = tt
+effect_told (operation.Nest with) o p s = own_told p _ (nest_done p with s.room)
+effect_told operation.Unnest o p s = own_told p _ (unnesting_done p.local s.room)
+effect_told (operation.Relay which) o p s = own_told p _ (relayed_done which p.local s.room)
+effect_told operation.Load o p s = registers_told p _ (loading_told o p s.admitted s.has)
+effect_told operation.Transfer o p s =
+    scene_told p _ (transferred_told (if closed p.local then 0 else p.local.regs.a1) o p.local p.memory (written_place o takes.Transfer p.local (inl refl) s.admitted s.has))
+effect_told operation.Assign o p s =
+    scene_told p _ (assigned_told o p.local p.memory (written_place o takes.Bit p.local (inr refl) s.admitted s.has))
+effect_told operation.Set o p s = set_told o p s.admitted s.has
+effect_told operation.Reset o p s = reset_told o p s.admitted s.has
+effect_told (operation.Edge rising) o p s =
+    scene_told p _ (edge_told rising o p.local p.memory (written_place o takes.Bit p.local (inr refl) s.admitted s.has))
+effect_told operation.SetRlo o p s = tt
+effect_told operation.ClearRlo o p s = tt
+effect_told operation.NegateRlo o p s = tt
+effect_told operation.SaveRlo o p s = tt
+effect_told operation.LoadBcd o p s = registers_told p _ (loading_bcd_told o p (numbered_by o takes.Numbered (inl refl) s.admitted))
+effect_told operation.LoadStatus o p s = tt
+effect_told operation.TransferStatus o p s = tt
+effect_told operation.LoadOpenBlock o p s = registers_told p _ (open_fact_told o p.local p.memory s.admitted)
+effect_told (operation.Pointer what) o p s = scene_told p _ (pointed_told what o p.local p.memory s.admitted)
+effect_told (operation.Number what) o p s = registers_told p _ (counted_told what p.local.regs)
+effect_told (operation.Add what) o p s = tt
+effect_told (operation.CompareInt how) o p s = tt
+effect_told (operation.CompareDint how) o p s = tt
+effect_told (operation.Logic what) o p s = tt
+effect_told (operation.Shift what) o p s = tt
+effect_told (operation.Start how) o p s = timers_told p _ (starting_told how o p.local p.memory p.timers (numbered_by o takes.Timer (inr (inl refl)) s.admitted))
+effect_told operation.Free o p s = free_told o p (numbered_by o takes.Numbered (inl refl) s.admitted)
+effect_told operation.CountUp o p s = counters_told p _ (up_told o p.local p.memory p.counters (numbered_by o takes.Counter (inr (inr refl)) s.admitted))
+effect_told operation.CountDown o p s = counters_told p _ (down_told o p.local p.memory p.counters (numbered_by o takes.Counter (inr (inr refl)) s.admitted))
+effect_told operation.OpenBlock o p s = own_told p _ (opening_told o p.local p.memory s.admitted)
+effect_told operation.Exchange o p s = tt
+effect_told operation.Jump o p s = absurd (no_jump o s.admitted s.other)
+effect_told (operation.Call how) o p s = absurd (no_call how o s.admitted s.other)
+effect_told (operation.End how) o p s = absurd (let e = s.other in cc)
+effect_told operation.UseDb o p s = absurd s.room
+effect_told operation.Pass o p s = absurd s.room
+effect_told operation.NoOperation o p s = absurd (no_code o s.admitted)

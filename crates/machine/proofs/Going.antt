@@ -7,50 +7,53 @@ use Rattle.frames.specs.declared.Activation.{Activation}
 use Rattle.flat_code.specs.Instr.{Instr, Does, Jumps, JumpsByList, Calls, Returns, Passing}
 use Rattle.flat_code.specs.declared.programs.Param.{Param}
 use Rattle.machine.specs.Code.{Code, Fetched, Head}
-use Rattle.machine.specs.Parts.{Parts, own_of, parts_of}
-use Rattle.machine.specs.Does.{does_with}
+use Rattle.machine.specs.ExecState.{ExecState, local_of, exec_state_of}
+use Rattle.machine.specs.Effect.{effect_with}
 use Rattle.machine.specs.Entering.{Call, Fails, Stops, Enters, call}
 use Rattle.machine.specs.Returning.{Return, GoesOn, Ends, returning}
 use Rattle.machine.specs.SystemCalls.{Given, system_call, system_function}
-use Rattle.machine.specs.Statement.{World, Step, went_on, after_call, after_system_call, after_return, block_called, system_called, called, is_called, is_ended, returned, callee_of, performed, fetched, Goes}
+use Rattle.machine.specs.Statement.{World, Step, continue_with, after_call, after_system_call, after_return, block_called, system_called, called, is_called, is_ended, returned, callee_of, step_of, step_found, IsNotStuck}
+use Rattle.machine.specs.Flat.{is_jl, jump_instr, list_of, most_listed}
 use Rattle.machine.specs.There.{is_there, is_complete}
+use Rattle.flat_code.specs.Ops.{OpData}
+use Rattle.flat_code.specs.declared.kinds.JumpOperation.{JumpOperation}
 
-parts_go : (e : Result Parts ℕ) (next : ℕ) (a : Activation) → Goes (went_on e next a)
+parts_go : (e : Result ExecState ℕ) (next : ℕ) (a : Activation) → IsNotStuck (continue_with e next a)
 parts_go (Ok p) next a = tt
 parts_go (Err code) next a = tt
 
-call_goes : (c : Call) (next : ℕ) (a : Activation) (w : World) → Goes (after_call c next a w)
+call_goes : (c : Call) (next : ℕ) (a : Activation) (w : World) → IsNotStuck (after_call c next a w)
 call_goes (Fails code) next a w = tt
 call_goes (Stops fault) next a w = tt
 call_goes (Enters to m) next a w = tt
 
-system_goes : (g : Result Given ℕ) (number next : ℕ) (a : Activation) → Goes (after_system_call g number next a)
+system_goes : (g : Result Given ℕ) (number next : ℕ) (a : Activation) → IsNotStuck (after_system_call g number next a)
 system_goes (Ok given) number next a = tt
 system_goes (Err code) number next a = tt
 
-return_goes : (r : Return) (w : World) → Goes (after_return r w)
+return_goes : (r : Return) (w : World) → IsNotStuck (after_return r w)
 return_goes (GoesOn a m) w = tt
 return_goes (Ends regs m) w = tt
 
 block_goes :
     (h : Option Head) (block : BlockId) (instance : Option ℕ) (passings : List Passing) (next : ℕ) (a : Activation) (w : World)
-    → is_some h ≡ true → Goes (block_called h block instance passings next a w)
+    → is_some h ≡ true → IsNotStuck (block_called h block instance passings next a w)
 block_goes (Some h) block instance passings next a w there =
     call_goes (call (callee_of block instance h) passings next a w.memory) next a w
 block_goes None block instance passings next a w there = absurd (false≢true there)
 
 function_goes :
     (params : Option (List Param)) (number : ℕ) (passings : List Passing) (next : ℕ) (a : Activation) (w : World)
-    → is_some params ≡ true → Goes (system_called params number passings next a w)
+    → is_some params ≡ true → IsNotStuck (system_called params number passings next a w)
 function_goes (Some params) number passings next a w there =
-    system_goes (system_call params passings (own_of a.running) w.memory) number next a
+    system_goes (system_call params passings (local_of a.running) w.memory) number next a
 function_goes None number passings next a w there = absurd (false≢true there)
 
-returned_goes : (h : Option Head) (a : Activation) (w : World) → is_some h ≡ true → Goes (returned h a w)
+returned_goes : (h : Option Head) (a : Activation) (w : World) → is_some h ≡ true → IsNotStuck (returned h a w)
 returned_goes (Some h) a w there = return_goes (returning h.params a w.memory) w
 returned_goes None a w there = absurd (false≢true there)
 
-either_goes : (b : Bool) (x y : Step) → (b ≡ true → Goes x) → (b ≡ false → Goes y) → Goes (if b then x else y)
+either_goes : (b : Bool) (x y : Step) → (b ≡ true → IsNotStuck x) → (b ≡ false → IsNotStuck y) → IsNotStuck (if b then x else y)
 either_goes true x y f g = f refl
 either_goes false x y f g = g refl
 
@@ -58,7 +61,7 @@ called_goes :
     (c : Code) (block : BlockId) (instance : Option ℕ) (passings : List Passing) (next : ℕ) (a : Activation) (w : World)
     (system : Bool) → system ≡ is_system_function block.kind
     → (if system then is_some (system_function block.number) else is_some (c.head block)) ≡ true
-    → Goes (called c block instance passings next a w)
+    → IsNotStuck (called c block instance passings next a w)
 called_goes c block instance passings next a w true is there =
     rw (sym is) (function_goes (system_function block.number) block.number passings next a w there)
 called_goes c block instance passings next a w false is there =
@@ -66,9 +69,9 @@ called_goes c block instance passings next a w false is there =
 
 pub performed_goes :
     (c : Code) (i : Instr) (next : ℕ) (a : Activation) (w : World)
-    → is_there c i a.running.frame.block ≡ true → Goes (performed c i next a w)
+    → is_there c i a.running.frame.block ≡ true → IsNotStuck (step_of c i next a w)
 performed_goes c (Does use_db operation operand) next a w there =
-    parts_go (does_with use_db operation operand (parts_of a.running w.memory w.timers w.counters)) next a
+    parts_go (effect_with use_db operation operand (exec_state_of a.running w.memory w.timers w.counters)) next a
 performed_goes c (Jumps operation target) next a w there = tt
 performed_goes c (JumpsByList targets otherwise) next a w there = tt
 performed_goes c (Calls how block instance passings) next a w there =
@@ -80,6 +83,18 @@ performed_goes c (Returns how) next a w there =
 
 pub fetched_goes :
     (c : Code) (f : Option Fetched) (a : Activation) (w : World)
-    → is_complete c f a.running.frame.block ≡ true → Goes (fetched c f a w)
+    → is_complete c f a.running.frame.block ≡ true → IsNotStuck (step_found c f a w)
 fetched_goes c (Some f) a w there = performed_goes c f.instr f.next a w there
 fetched_goes c None a w there = absurd (false≢true there)
+
+either_jump :
+    (b : Bool) (c : Code) (own : BlockId) (operation : JumpOperation) (list : List ℕ) (target : ℕ)
+    → is_there c (if b then JumpsByList list target else Jumps operation target) own ≡ true
+either_jump true c own operation list target = refl
+either_jump false c own operation list target = refl
+
+pub jump_is_there :
+    (c : Code) (own : BlockId) (operation : JumpOperation) (target next : ℕ) (ops : List OpData)
+    → is_there c (jump_instr operation target next ops) own ≡ true
+jump_is_there c own operation target next ops =
+    either_jump (is_jl operation) c own operation (list_of most_listed ops target next) target

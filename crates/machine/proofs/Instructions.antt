@@ -52,7 +52,7 @@ use Rattle.flat_code.specs.Operations.{operation_of}
 use Rattle.image_file.specs.Readers.{same_id, block_of}
 use Rattle.image_file.specs.Verified.{FitsCall, FitsOperand, FitsPrepared, signatures}
 use Rattle.machine.specs.DataBlocks.{is_loaded}
-use Rattle.machine.specs.Does.{on_own, does, with_db, does_with}
+use Rattle.machine.specs.Effect.{on_local, effect, with_db, effect_with}
 use Rattle.machine.specs.Entering.{going_on}
 use Rattle.machine.specs.Fitting.{HasInstance, IsBound, IsMemoryOf, OpenAt, codes_of}
 use Rattle.machine.specs.Flat.{call_instr, code_of, head_of, instance_named, instr_of, is_jl, jump_instr, list_of, listed_with, most_listed, passings_of, use_db_of, use_db_first}
@@ -62,14 +62,14 @@ use Rattle.machine.specs.Lasting.{FitsProgram, Lasts}
 use Rattle.machine.specs.Nesting.{with_brackets, nesting, unnesting, unnested}
 use Rattle.machine.specs.OpenBrackets.{check_named, checks_of, open_at, open_codes}
 use Rattle.machine.specs.Relay.{opening_zone, ending_zone}
-use Rattle.machine.specs.Parts.{Own, Parts, own_of, parts_of, with_own}
+use Rattle.machine.specs.ExecState.{Local, ExecState, local_of, exec_state_of, with_local}
 use Rattle.machine.specs.Places.{no_operand}
 use Rattle.machine.specs.SystemCalls.{system_function}
-use Rattle.machine.specs.Statement.{World, Went, statement, performed, went_on, jumped, is_ended, is_called, not_called, called, returned, with_parts}
+use Rattle.machine.specs.Statement.{World, Went, statement, step_of, continue_with, jumped, is_ended, is_called, not_called, called, returned, with_exec_state}
 use Rattle.machine.proofs.BindingLemmas.{PassingsFit, bound_of}
 use Rattle.machine.proofs.Called.{Caller, own_bound, function_lasts, function_block_lasts, going_fits, head_there}
 use Rattle.machine.proofs.Entered.{AreParams, of_blocks, of_functions, passings_fit, all_among, instance_long}
-use Rattle.machine.proofs.Errors.{Told, IfTold, IsSupplied, IsPlace, ParamHas, is_writing, goes_by_statement, HasRoom, Suits, does_told, either_told, kind_none, zone_room, zone_there}
+use Rattle.machine.proofs.Errors.{Told, IfTold, IsSupplied, IsPlace, ParamHas, is_writing, goes_by_statement, HasRoom, Suits, effect_told, either_told, kind_none, zone_room, zone_there}
 use Rattle.machine.proofs.Keeping.{IfDone, Keeps, Quiet, codes_after, left_open, does_with_keeps}
 use Rattle.machine.proofs.Moving.{stands_of, frame_open, activation_follows}
 use Rattle.machine.proofs.Ready.{IsCallable, callable_kind, kind_callable}
@@ -119,14 +119,14 @@ next_same l p a w at v is goes quiet =
 -- ---- instructions that touch no position
 
 went_fits :
-    (l : ImageLaws) (p : Program) (a : Activation) (w : World) (at : At p a w) (v : Operation) (q : Parts)
-    → operation_of at.here.run.last.code ≡ v → is_be v ≡ false → Keeps v (parts_of a.running w.memory w.timers w.counters) q
-    → FitsProgram p q.memory (going_on at.here.run.next q.own.regs (with_parts q a))
+    (l : ImageLaws) (p : Program) (a : Activation) (w : World) (at : At p a w) (v : Operation) (q : ExecState)
+    → operation_of at.here.run.last.code ≡ v → is_be v ≡ false → Keeps v (exec_state_of a.running w.memory w.timers w.counters) q
+    → FitsProgram p q.memory (going_on at.here.run.next q.local.regs (with_exec_state q a))
 went_fits l p a w at v q is goes kept =
     let f = a.running.frame in
     let was = stands_of (code_of p) (open_codes p) w.memory a at.fits.fits in
     activation_follows l p w.memory q.memory a
-    (record (with_own a.running q.own) { frame = record (with_own a.running q.own).frame { at = at.here.run.next } })
+    (record (with_local a.running q.local) { frame = record (with_local a.running q.local).frame { at = at.here.run.next } })
     kept.memory at.fits
     (record {
       block = refl;
@@ -146,15 +146,15 @@ pub record Erring (v : Operation) (code : ℕ) : Type 0 where
   pub quiet : Quiet v
   pub told : Told code
 
-abbrev pub IfErring : Operation → Result Parts ℕ → Type 0
+abbrev pub IfErring : Operation → Result ExecState ℕ → Type 0
 IfErring v (Ok q) = Unit {0}
 IfErring v (Err code) = Erring v code
 
 does_lasts :
-    (l : ImageLaws) (p : Program) (a : Activation) (w : World) (at : At p a w) (v : Operation) (r : Result Parts ℕ)
+    (l : ImageLaws) (p : Program) (a : Activation) (w : World) (at : At p a w) (v : Operation) (r : Result ExecState ℕ)
     → operation_of at.here.run.last.code ≡ v → is_be v ≡ false
-    → IfDone (Keeps v (parts_of a.running w.memory w.timers w.counters)) r → IfErring v r
-    → Lasts p w (went_on r at.here.run.next a)
+    → IfDone (Keeps v (exec_state_of a.running w.memory w.timers w.counters)) r → IfErring v r
+    → Lasts p w (continue_with r at.here.run.next a)
 does_lasts l p a w at v (Ok q) is goes kept erring = record { sizes = kept.memory; fits = went_fits l p a w at v q is goes kept }
 does_lasts l p a w at v (Err code) is goes kept erring =
     (erring.told, going_fits l p w.memory a at.here.run.next a.running.regs at.fits (next_same l p a w at v is goes erring.quiet))
@@ -310,7 +310,7 @@ list_stood l p block b held target (suc most) at (op ∷ ops) leading s =
 jump_list_lasts :
     (l : ImageLaws) (p : Program) (a : Activation) (w : World) (at : At p a w) (target : ℕ)
     → operation_of at.here.run.last.code ≡ operation.Jump → at.here.run.last.operand ≡ operand.Jump 1 target
-    → Lasts p w (performed (code_of p) (JumpsByList (list_of most_listed at.here.stood.b.code target at.here.run.next) target) at.here.run.next a w)
+    → Lasts p w (step_of (code_of p) (JumpsByList (list_of most_listed at.here.stood.b.code target at.here.run.next) target) at.here.run.next a w)
 unfolding listed
 jump_list_lasts l p a w at target is operand_is =
     let f = a.running.frame in
@@ -357,7 +357,7 @@ bec_alone ends.Beu rlo h = refl
 end_lasts :
     (l : ImageLaws) (p : Program) (a : Activation) (w : World) (at : At p a w) (how : EndOperation)
     → operation_of at.here.run.last.code ≡ operation.End how
-    → Lasts p w (performed (code_of p) (Returns how) at.here.run.next a w)
+    → Lasts p w (step_of (code_of p) (Returns how) at.here.run.next a w)
 end_lasts l p a w at how is = by (is_ended how a.running.regs.status.rlo) refl
   where
     by : (t : Bool) → is_ended how a.running.regs.status.rlo ≡ t
@@ -563,7 +563,7 @@ either_called :
     (l : ImageLaws) (p : Program) (a : Activation) (w : World) (at : At p a w) (how : CallOperation) (block : BlockId) (instance : Option ℕ)
     → operation_of at.here.run.last.code ≡ operation.Call how
     → Lasts p w (called (code_of p) block instance (passings_of at.here.run.before) at.here.run.next a w)
-    → Lasts p w (performed (code_of p) (Calls how block instance (passings_of at.here.run.before)) at.here.run.next a w)
+    → Lasts p w (step_of (code_of p) (Calls how block instance (passings_of at.here.run.before)) at.here.run.next a w)
 either_called l p a w at how block instance is lasts = by (is_called how a.running.regs.status.rlo)
   where
     by : (t : Bool)
@@ -579,7 +579,7 @@ either_called l p a w at how block instance is lasts = by (is_called how a.runni
 call_lasts :
     (l : ImageLaws) (p : Program) (a : Activation) (w : World) (at : At p a w) (how : CallOperation) (kind number instance : ℕ) (other : Instr)
     → operation_of at.here.run.last.code ≡ operation.Call how → at.here.run.last.operand ≡ operand.Called kind number instance
-    → Lasts p w (performed (code_of p) (call_instr (kind_of_code kind) how number instance (passings_of at.here.run.before) other) at.here.run.next a w)
+    → Lasts p w (step_of (code_of p) (call_instr (kind_of_code kind) how number instance (passings_of at.here.run.before) other) at.here.run.next a w)
 call_lasts l p a w at how kind number instance other is operand_is =
     by (callable_kind kind (kind_callable at.here.run.last.code kind number instance right))
   where
@@ -593,7 +593,7 @@ call_lasts l p a w at how kind number instance other is operand_is =
     with_kind k e = operand_is ∙ ap (λ (z : ℕ). operand.Called z number instance) e
 
     by : IsCallable kind
-        → Lasts p w (performed (code_of p) (call_instr (kind_of_code kind) how number instance (passings_of at.here.run.before) other) at.here.run.next a w)
+        → Lasts p w (step_of (code_of p) (call_instr (kind_of_code kind) how number instance (passings_of at.here.run.before) other) at.here.run.next a w)
     by (inl e) =
         rw e
         (either_called l p a w at how (record { kind = kinds.Fc; number = number }) (instance_named instance) is
@@ -657,7 +657,7 @@ bound_place_is q below m binding.Unsupplied other is = absurd is
 param_has :
     (l : ImageLaws) (p : Program) (a : Activation) (w : World) (at : At p a w) (v : Operation) (o : Operand)
     → operation_of at.here.run.last.code ≡ v → at.here.run.last.operand ≡ o
-    → ParamHas (own_of a.running) (is_writing v) o
+    → ParamHas (local_of a.running) (is_writing v) o
 param_has l p a w at v (operand.Parameter index width) is o_is =
     let b = at.here.stood.b in
     let last = at.here.ran.last in
@@ -806,7 +806,7 @@ has_room l p a w at _ o is o_is h = tt
 suits_here :
     (l : ImageLaws) (p : Program) (a : Activation) (w : World) (at : At p a w) (v : Operation) (o : Operand)
     → operation_of at.here.run.last.code ≡ v → at.here.run.last.operand ≡ o → goes_by_statement v o ≡ false
-    → Suits v o (parts_of a.running w.memory w.timers w.counters)
+    → Suits v o (exec_state_of a.running w.memory w.timers w.counters)
 suits_here l p a w at v o is o_is other =
     let right : is_op at.here.run.last.code o ≡ true = subst (λ (z : Operand). is_op at.here.run.last.code z ≡ true) o_is (last_right l p a w at) in
     let h = admitted at.here.run.last.code o v right is in
@@ -819,51 +819,51 @@ suits_here l p a w at v o is o_is other =
 
 -- ---- what errors leave
 
-param_moved : (s t : Own) (written : Bool) (o : Operand) → t.inner.bindings ≡ s.inner.bindings → ParamHas s written o → ParamHas t written o
+param_moved : (s t : Local) (written : Bool) (o : Operand) → t.inner.bindings ≡ s.inner.bindings → ParamHas s written o → ParamHas t written o
 param_moved s t written (operand.Parameter index width) same has = (has.0, ap (λ (z : List Binding). slice_get z index) same ∙ has.1, has.2, has.3)
 param_moved s t written _ same has = tt
 
-with_told : (u : Option ℕ) (v : Operation) (o : Operand) (q : Parts) → Suits v o q → IfTold (does_with u v o q)
-unfolding does_with
-with_told None v o q s = does_told v o q s
+with_told : (u : Option ℕ) (v : Operation) (o : Operand) (q : ExecState) → Suits v o q → IfTold (effect_with u v o q)
+unfolding effect_with
+with_told None v o q s = effect_told v o q s
 with_told (Some number) v o q s =
-    either_told (is_loaded number q.memory) (does v o (with_db number q)) (Err 0x3A)
-    (does_told v o (with_db number q) (record {
+    either_told (is_loaded number q.memory) (effect v o (with_db number q)) (Err 0x3A)
+    (effect_told v o (with_db number q) (record {
       admitted = s.admitted;
-      has = param_moved q.own (with_db number q).own (is_writing v) o refl s.has;
+      has = param_moved q.local (with_db number q).local (is_writing v) o refl s.has;
       other = s.other;
       room = s.room;
     })) refl
 
-quiet_erring : (v : Operation) (r : Result Parts ℕ) → Quiet v → IfTold r → IfErring v r
+quiet_erring : (v : Operation) (r : Result ExecState ℕ) → Quiet v → IfTold r → IfErring v r
 quiet_erring v (Ok q) quiet told = tt
 quiet_erring v (Err code) quiet told = record { quiet = quiet; told = told }
 
-nest_erring : (with : Check) (o : Operand) (q : Parts) → (length q.own.inner.brackets ≡ 7 → ⊥) → IfErring (operation.Nest with) (does (operation.Nest with) o q)
-unfolding does nesting
-nest_erring with o q room = by (eqb (length q.own.inner.brackets) 7) refl
+nest_erring : (with : Check) (o : Operand) (q : ExecState) → (length q.local.inner.brackets ≡ 7 → ⊥) → IfErring (operation.Nest with) (effect (operation.Nest with) o q)
+unfolding effect nesting
+nest_erring with o q room = by (eqb (length q.local.inner.brackets) 7) refl
   where
-    by : (t : Bool) → eqb (length q.own.inner.brackets) 7 ≡ t
-        → IfErring (operation.Nest with) (on_own q (cond t (Err no_operand) (Ok (with_brackets (entry_of with q.own.regs ∷ q.own.inner.brackets) (record q.own { regs = begun q.own.regs })))))
-    by true e = absurd (room (eqb-true (length q.own.inner.brackets) 7 e))
+    by : (t : Bool) → eqb (length q.local.inner.brackets) 7 ≡ t
+        → IfErring (operation.Nest with) (on_local q (cond t (Err no_operand) (Ok (with_brackets (entry_of with q.local.regs ∷ q.local.inner.brackets) (record q.local { regs = begun q.local.regs })))))
+    by true e = absurd (room (eqb-true (length q.local.inner.brackets) 7 e))
     by false e = tt
 
-unnest_erring : (o : Operand) (q : Parts) → (q.own.inner.brackets ≡ [] → ⊥) → IfErring operation.Unnest (does operation.Unnest o q)
-unfolding does unnesting
-unnest_erring o q room = by q.own.inner.brackets room
+unnest_erring : (o : Operand) (q : ExecState) → (q.local.inner.brackets ≡ [] → ⊥) → IfErring operation.Unnest (effect operation.Unnest o q)
+unfolding effect unnesting
+unnest_erring o q room = by q.local.inner.brackets room
   where
-    by : (brackets : List Bracket) → (brackets ≡ [] → ⊥) → IfErring operation.Unnest (on_own q (unnested brackets q.own))
+    by : (brackets : List Bracket) → (brackets ≡ [] → ⊥) → IfErring operation.Unnest (on_local q (unnested brackets q.local))
     by [] room = absurd (room refl)
     by (b ∷ rest) room = tt
 
 relay_erring :
-    (which : RelayOperation) (o : Operand) (q : Parts) → HasRoom (operation.Relay which) q.own.inner.brackets q.own.inner.relay
-    → IfErring (operation.Relay which) (does (operation.Relay which) o q)
-unfolding does opening_zone ending_zone
+    (which : RelayOperation) (o : Operand) (q : ExecState) → HasRoom (operation.Relay which) q.local.inner.brackets q.local.inner.relay
+    → IfErring (operation.Relay which) (effect (operation.Relay which) o q)
+unfolding effect opening_zone ending_zone
 relay_erring relay.Activate o q room = tt
 relay_erring relay.Deactivate o q room = tt
-relay_erring relay.Open o q room = rw (zone_room q.own room) tt
-relay_erring relay.Close o q room = rw (zone_there q.own.inner.relay.zones room) tt
+relay_erring relay.Open o q room = rw (zone_room q.local room) tt
+relay_erring relay.Close o q room = rw (zone_there q.local.inner.relay.zones room) tt
 
 -- it opens or ends a bracket or a zone
 abbrev is_opening : Operation → Bool
@@ -872,12 +872,12 @@ is_opening operation.Unnest = true
 is_opening (operation.Relay which) = true
 is_opening _ = false
 
-erring : (u : Option ℕ) (v : Operation) (o : Operand) (q : Parts) → Suits v o q → (is_opening v ≡ true → u ≡ None) → IfErring v (does_with u v o q)
-unfolding does_with
+erring : (u : Option ℕ) (v : Operation) (o : Operand) (q : ExecState) → Suits v o q → (is_opening v ≡ true → u ≡ None) → IfErring v (effect_with u v o q)
+unfolding effect_with
 erring u (operation.Nest with) o q s none = rw (none refl) (nest_erring with o q s.room)
 erring u operation.Unnest o q s none = rw (none refl) (unnest_erring o q s.room)
 erring u (operation.Relay which) o q s none = rw (none refl) (relay_erring which o q s.room)
-erring u v o q s none = quiet_erring v (does_with u v o q) (λ held. refl) (with_told u v o q s)
+erring u v o q s none = quiet_erring v (effect_with u v o q) (λ held. refl) (with_told u v o q s)
 
 nothing_in_db : (o : Operand) → admits takes.Nothing o ≡ true → is_in_db o ≡ false
 unfolding admits
@@ -904,12 +904,12 @@ opening_takes _ h = absurd cc
 plain_lasts :
     (l : ImageLaws) (p : Program) (a : Activation) (w : World) (at : At p a w) (v : Operation) (o : Operand)
     → operation_of at.here.run.last.code ≡ v → at.here.run.last.operand ≡ o → is_be v ≡ false → goes_by_statement v o ≡ false
-    → Lasts p w (performed (code_of p) (Does (use_db_of at.here.run.before) v o) at.here.run.next a w)
+    → Lasts p w (step_of (code_of p) (Does (use_db_of at.here.run.before) v o) at.here.run.next a w)
 plain_lasts l p a w at v o is o_is goes other =
     let u = use_db_of at.here.run.before in
-    let parts = parts_of a.running w.memory w.timers w.counters in
+    let parts = exec_state_of a.running w.memory w.timers w.counters in
     let s = suits_here l p a w at v o is o_is other in
-    does_lasts l p a w at v (does_with u v o parts) is goes (does_with_keeps u v o parts)
+    does_lasts l p a w at v (effect_with u v o parts) is goes (does_with_keeps u v o parts)
     (erring u v o parts s (λ opening.
     let none : is_in_db at.here.run.last.operand ≡ false =
     ap is_in_db o_is ∙ nothing_in_db o (ap (λ (t : Takes). admits t o) (sym (opening_takes v opening)) ∙ s.admitted) in
@@ -920,18 +920,18 @@ plain_lasts l p a w at v o is o_is goes other =
 jump_or_list_lasts :
     (l : ImageLaws) (p : Program) (a : Activation) (w : World) (at : At p a w) (kind target : ℕ)
     → operation_of at.here.run.last.code ≡ operation.Jump → at.here.run.last.operand ≡ operand.Jump kind target
-    → Lasts p w (performed (code_of p) (jump_instr (jump_of kind) target at.here.run.next at.here.stood.b.code) at.here.run.next a w)
+    → Lasts p w (step_of (code_of p) (jump_instr (jump_of kind) target at.here.run.next at.here.stood.b.code) at.here.run.next a w)
 jump_or_list_lasts l p a w at kind target is o_is = by (is_jl (jump_of kind)) refl
   where
     by : (t : Bool) → is_jl (jump_of kind) ≡ t
-        → Lasts p w (performed (code_of p) (cond t (JumpsByList (list_of most_listed at.here.stood.b.code target at.here.run.next) target) (Jumps (jump_of kind) target)) at.here.run.next a w)
+        → Lasts p w (step_of (code_of p) (cond t (JumpsByList (list_of most_listed at.here.stood.b.code target at.here.run.next) target) (Jumps (jump_of kind) target)) at.here.run.next a w)
     by true e = jump_list_lasts l p a w at target is (o_is ∙ ap (λ (k : ℕ). operand.Jump k target) (jl_kind kind e))
     by false e = jump_lasts l p a w at (jump_of kind) kind target is o_is
 
 instruction_lasts :
     (l : ImageLaws) (p : Program) (a : Activation) (w : World) (at : At p a w) (v : Operation) (o : Operand)
     → operation_of at.here.run.last.code ≡ v → at.here.run.last.operand ≡ o
-    → Lasts p w (performed (code_of p) (instr_of v o (use_db_of at.here.run.before) (passings_of at.here.run.before) at.here.run.next at.here.stood.b.code) at.here.run.next a w)
+    → Lasts p w (step_of (code_of p) (instr_of v o (use_db_of at.here.run.before) (passings_of at.here.run.before) at.here.run.next at.here.stood.b.code) at.here.run.next a w)
 instruction_lasts l p a w at operation.Jump (operand.Jump kind target) is o_is = jump_or_list_lasts l p a w at kind target is o_is
 instruction_lasts l p a w at (operation.Call how) (operand.Called kind number instance) is o_is = call_lasts l p a w at how kind number instance _ is o_is
 instruction_lasts l p a w at (operation.End how) o is o_is = end_lasts l p a w at how is

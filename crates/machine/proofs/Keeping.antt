@@ -28,8 +28,8 @@ use Rattle.flat_code.specs.declared.operations.RelayOperation.TheVariants as rel
 use Rattle.flat_code.specs.declared.operations.Operation.{Operation}
 use Rattle.flat_code.specs.declared.operations.Operation.TheVariants as operation
 use Rattle.machine.specs.declared.places.Access.TheVariants.{Writing}
-use Rattle.machine.specs.declared.places.Bound.{Bound}
-use Rattle.machine.specs.Parts.{Own, Scene, Parts, then_ok}
+use Rattle.machine.specs.declared.places.Location.{Location}
+use Rattle.machine.specs.ExecState.{Local, LocalMemory, ExecState, then_ok}
 use Rattle.machine.specs.Places.{located, absent, is_local, pointer, no_operand}
 use Rattle.machine.specs.Values.{is_timer, with_locals, stored_at, write}
 use Rattle.machine.specs.BitLogic.{put_bit, bit_number, with_regs, bit_before, assigned, assigned_at, bit_set, set_at, edge, edge_at}
@@ -39,7 +39,7 @@ use Rattle.machine.specs.Loads.{transferred, transferring}
 use Rattle.machine.specs.Timing.{timer_reset, counter_reset, timer_freed, counter_freed}
 use Rattle.machine.specs.Pointers.{pointed, address_loaded, address_transferred, regs_set}
 use Rattle.machine.specs.DataBlocks.{is_loaded, opened_if, opening, exchanged}
-use Rattle.machine.specs.Does.{on_regs, on_own, on_scene, on_timers, on_counters, kind_named, set_of, reset_of, free_of, does, with_db, does_with}
+use Rattle.machine.specs.Effect.{on_regs, on_local, on_local_memory, on_timers, on_counters, kind_named, set_of, reset_of, free_of, effect, with_db, effect_with}
 use Rattle.machine.specs.Fitting.{OpenAt, codes_of, open_of, IsOpen, SameSizes}
 use Rattle.machine.proofs.Sizes.{same_sizes, writing_sizes}
 use Rattle.machine.proofs.Staying.{open_still}
@@ -66,13 +66,13 @@ done_then P Q (Err e) f done h = tt
 -- ---- local bytes and memory
 
 -- a scene after writing: bytes changed, and no more
-pub record KeepsScene (s : Own) (m : Areas) (c : Scene) : Type 0 where
-  pub inner : c.own.inner ≡ s.inner
-  pub starts : c.own.locals.starts ≡ s.locals.starts
-  pub len : length c.own.locals.bytes ≡ length s.locals.bytes
+pub record KeepsScene (s : Local) (m : Areas) (c : LocalMemory) : Type 0 where
+  pub inner : c.local.inner ≡ s.inner
+  pub starts : c.local.locals.starts ≡ s.locals.starts
+  pub len : length c.local.locals.bytes ≡ length s.locals.bytes
   pub memory : SameSizes m c.memory
 
-pub same_scene : (s : Own) (m : Areas) → KeepsScene s m (record { own = s; memory = m })
+pub same_scene : (s : Local) (m : Areas) → KeepsScene s m (record { local = s; memory = m })
 same_scene s m = record { inner = refl; starts = refl; len = refl; memory = same_sizes m }
 
 pub record KeepsLocals (l k : LocalData) : Type 0 where
@@ -90,70 +90,70 @@ local_kept l k frame at bit width value done =
     rw (sym was.2) (record { starts = refl; len = length-put l.bytes was.0 found.0 bit width value was.1 })
 
 either_stored :
-    (at : Bound) (value : ℕ) (s : Own) (m : Areas) (c : Scene) (local : Bool)
+    (at : Location) (value : ℕ) (s : Local) (m : Areas) (c : LocalMemory) (local : Bool)
     → cond local
-    (option_map (λ (l : LocalData). let r : Scene = record { own = with_locals s l; memory = m } in r)
+    (option_map (λ (l : LocalData). let r : LocalMemory = record { local = with_locals s l; memory = m } in r)
     (local_written s.locals at.frame at.place.byte at.place.bit at.width value))
-    (option_map (λ (n : Areas). let r : Scene = record { own = s; memory = n } in r) (written m at.place at.width value))
+    (option_map (λ (n : Areas). let r : LocalMemory = record { local = s; memory = n } in r) (written m at.place at.width value))
     ≡ Some c
     → KeepsScene s m c
 either_stored at value s m c true done =
-    let was = mapped (λ (l : LocalData). let r : Scene = record { own = with_locals s l; memory = m } in r)
+    let was = mapped (λ (l : LocalData). let r : LocalMemory = record { local = with_locals s l; memory = m } in r)
     (local_written s.locals at.frame at.place.byte at.place.bit at.width value) c done in
     let kept = local_kept s.locals was.0 at.frame at.place.byte at.place.bit at.width value was.1 in
     rw (sym was.2) (record { inner = refl; starts = kept.starts; len = kept.len; memory = same_sizes m })
 either_stored at value s m c false done =
-    let was = mapped (λ (n : Areas). let r : Scene = record { own = s; memory = n } in r) (written m at.place at.width value) c done in
+    let was = mapped (λ (n : Areas). let r : LocalMemory = record { local = s; memory = n } in r) (written m at.place at.width value) c done in
     rw (sym was.2) (record { inner = refl; starts = refl; len = refl; memory = writing_sizes m was.0 at.place at.width value was.1 })
 
 stored_if :
-    (s : Own) (m : Areas) (o : Option Scene) (code : ℕ) → ((c : Scene) → o ≡ Some c → KeepsScene s m c)
+    (s : Local) (m : Areas) (o : Option LocalMemory) (code : ℕ) → ((c : LocalMemory) → o ≡ Some c → KeepsScene s m c)
     → IfDone (KeepsScene s m) (ok_or o code)
 stored_if s m (Some c) code h = h c refl
 stored_if s m None code h = tt
 
 pub write_keeps :
-    (at : Bound) (value : ℕ) (s : Own) (m : Areas) → IfDone (KeepsScene s m) (write at value s m)
+    (at : Location) (value : ℕ) (s : Local) (m : Areas) → IfDone (KeepsScene s m) (write at value s m)
 unfolding write
 write_keeps at value s m =
     stored_if s m (stored_at at value s m) (absent Writing at.place.area)
     (λ c is. either_stored at value s m c (is_local at.place.area) is)
 
 put_keeps :
-    (at : Bound) (bit : Bool) (r : Regs) (s : Own) (m : Areas) → IfDone (KeepsScene s m) (put_bit at bit r s m)
+    (at : Location) (bit : Bool) (r : Regs) (s : Local) (m : Areas) → IfDone (KeepsScene s m) (put_bit at bit r s m)
 unfolding put_bit
 put_keeps at bit r s m =
     done_then (KeepsScene s m) (KeepsScene s m) (write at (bit_number bit) s m) (λ c. Ok (with_regs r c))
     (write_keeps at (bit_number bit) s m)
     (λ c kept. record { inner = kept.inner; starts = kept.starts; len = kept.len; memory = kept.memory })
 
-assigned_keeps : (o : Operand) (s : Own) (m : Areas) → IfDone (KeepsScene s m) (assigned o s m)
+assigned_keeps : (o : Operand) (s : Local) (m : Areas) → IfDone (KeepsScene s m) (assigned o s m)
 unfolding assigned
 assigned_keeps o s m =
     then_done (KeepsScene s m) (located Writing o s m) (λ at. assigned_at at s m) (λ at. put_keeps at _ _ s m)
 
-set_keeps : (value : Bool) (o : Operand) (s : Own) (m : Areas) → IfDone (KeepsScene s m) (bit_set value o s m)
+set_keeps : (value : Bool) (o : Operand) (s : Local) (m : Areas) → IfDone (KeepsScene s m) (bit_set value o s m)
 unfolding bit_set
 set_keeps value o s m =
     then_done (KeepsScene s m) (located Writing o s m) (λ at. then_ok (bit_before at s m) (λ before. set_at value at before s m))
     (λ at. then_done (KeepsScene s m) (bit_before at s m) (λ before. set_at value at before s m) (λ before. put_keeps at _ _ s m))
 
-edge_keeps : (rising : Bool) (o : Operand) (s : Own) (m : Areas) → IfDone (KeepsScene s m) (edge rising o s m)
+edge_keeps : (rising : Bool) (o : Operand) (s : Local) (m : Areas) → IfDone (KeepsScene s m) (edge rising o s m)
 unfolding edge
 edge_keeps rising o s m =
     then_done (KeepsScene s m) (located Writing o s m) (λ at. then_ok (bit_before at s m) (λ before. edge_at rising at before s m))
     (λ at. then_done (KeepsScene s m) (bit_before at s m) (λ before. edge_at rising at before s m) (λ before. put_keeps at _ _ s m))
 
-transferred_keeps : (n : ℕ) (o : Operand) (s : Own) (m : Areas) → IfDone (KeepsScene s m) (transferred n o s m)
+transferred_keeps : (n : ℕ) (o : Operand) (s : Local) (m : Areas) → IfDone (KeepsScene s m) (transferred n o s m)
 unfolding transferred
 transferred_keeps n o s m =
     then_done (KeepsScene s m) (located Writing o s m) _ (λ at. write_keeps at _ s m)
 
-regs_keep : (r : Regs) (s : Own) (m : Areas) → KeepsScene s m (regs_set r s m)
+regs_keep : (r : Regs) (s : Local) (m : Areas) → KeepsScene s m (regs_set r s m)
 regs_keep r s m = record { inner = refl; starts = refl; len = refl; memory = same_sizes m }
 
 address_keeps :
-    (n : ℕ) (o : Operand) (s : Own) (m : Areas) → IfDone (KeepsScene s m) (address_transferred n o s m)
+    (n : ℕ) (o : Operand) (s : Local) (m : Areas) → IfDone (KeepsScene s m) (address_transferred n o s m)
 address_keeps n operand.Nothing s m = regs_keep _ s m
 address_keeps n (operand.Literal value) s m = transferred_keeps n (operand.Literal value) s m
 address_keeps n (operand.Direct area width byte bit) s m = transferred_keeps n (operand.Direct area width byte bit) s m
@@ -172,7 +172,7 @@ address_keeps n (operand.OpenBlock register number) s m = transferred_keeps n (o
 address_keeps n (operand.OpenBy register from byte) s m = transferred_keeps n (operand.OpenBy register from byte) s m
 
 pointed_keeps :
-    (what : PointerOperation) (o : Operand) (s : Own) (m : Areas) → IfDone (KeepsScene s m) (pointed what o s m)
+    (what : PointerOperation) (o : Operand) (s : Local) (m : Areas) → IfDone (KeepsScene s m) (pointed what o s m)
 unfolding pointed
 pointed_keeps pointers.Lar1 o s m = then_done (KeepsScene s m) (address_loaded o s m) _ (λ n. regs_keep _ s m)
 pointed_keeps pointers.Lar2 o s m = then_done (KeepsScene s m) (address_loaded o s m) _ (λ n. regs_keep _ s m)
@@ -203,21 +203,21 @@ zones_after _ zones = zones
 abbrev pub left_open : Operation → OpenAt → OpenAt
 left_open w held = record { codes = codes_after w held.codes; zones = zones_after w held.zones }
 
-pub record Keeps (w : Operation) (p q : Parts) : Type 0 where
+pub record Keeps (w : Operation) (p q : ExecState) : Type 0 where
   pub memory : SameSizes p.memory q.memory
-  pub starts : q.own.locals.starts ≡ p.own.locals.starts
-  pub len : length q.own.locals.bytes ≡ length p.own.locals.bytes
-  pub instance : q.own.inner.instance ≡ p.own.inner.instance
-  pub bindings : q.own.inner.bindings ≡ p.own.inner.bindings
-  pub db : IsOpen p.own.inner.db p.memory → IsOpen p.own.inner.di p.memory → IsOpen q.own.inner.db q.memory
-  pub di : IsOpen p.own.inner.db p.memory → IsOpen p.own.inner.di p.memory → IsOpen q.own.inner.di q.memory
-  pub held : open_of q.own.inner.brackets q.own.inner.relay ≡ left_open w (open_of p.own.inner.brackets p.own.inner.relay)
+  pub starts : q.local.locals.starts ≡ p.local.locals.starts
+  pub len : length q.local.locals.bytes ≡ length p.local.locals.bytes
+  pub instance : q.local.inner.instance ≡ p.local.inner.instance
+  pub bindings : q.local.inner.bindings ≡ p.local.inner.bindings
+  pub db : IsOpen p.local.inner.db p.memory → IsOpen p.local.inner.di p.memory → IsOpen q.local.inner.db q.memory
+  pub di : IsOpen p.local.inner.db p.memory → IsOpen p.local.inner.di p.memory → IsOpen q.local.inner.di q.memory
+  pub held : open_of q.local.inner.brackets q.local.inner.relay ≡ left_open w (open_of p.local.inner.brackets p.local.inner.relay)
 
 -- after it the same is open as before
 abbrev pub Quiet : Operation → Type 0
 Quiet w = (held : OpenAt) → left_open w held ≡ held
 
-pub same_keeps : (w : Operation) (p : Parts) → Quiet w → Keeps w p p
+pub same_keeps : (w : Operation) (p : ExecState) → Quiet w → Keeps w p p
 same_keeps w p quiet = record {
   memory = same_sizes p.memory;
   starts = refl;
@@ -226,11 +226,11 @@ same_keeps w p quiet = record {
   bindings = refl;
   db = λ db di. db;
   di = λ db di. di;
-  held = sym (quiet (open_of p.own.inner.brackets p.own.inner.relay));
+  held = sym (quiet (open_of p.local.inner.brackets p.local.inner.relay));
 }
 
 -- other registers, timers or counters
-regs_kept : (w : Operation) (p : Parts) (r : Result Regs ℕ) → Quiet w → IfDone (Keeps w p) (on_regs p r)
+regs_kept : (w : Operation) (p : ExecState) (r : Result Regs ℕ) → Quiet w → IfDone (Keeps w p) (on_regs p r)
 regs_kept w p (Ok r) quiet = record {
   memory = same_sizes p.memory;
   starts = refl;
@@ -239,11 +239,11 @@ regs_kept w p (Ok r) quiet = record {
   bindings = refl;
   db = λ db di. db;
   di = λ db di. di;
-  held = sym (quiet (open_of p.own.inner.brackets p.own.inner.relay));
+  held = sym (quiet (open_of p.local.inner.brackets p.local.inner.relay));
 }
 regs_kept w p (Err e) quiet = tt
 
-timers_kept : (w : Operation) (p : Parts) (t : Result (List Timer) ℕ) → Quiet w → IfDone (Keeps w p) (on_timers p t)
+timers_kept : (w : Operation) (p : ExecState) (t : Result (List Timer) ℕ) → Quiet w → IfDone (Keeps w p) (on_timers p t)
 timers_kept w p (Ok t) quiet = record {
   memory = same_sizes p.memory;
   starts = refl;
@@ -252,12 +252,12 @@ timers_kept w p (Ok t) quiet = record {
   bindings = refl;
   db = λ db di. db;
   di = λ db di. di;
-  held = sym (quiet (open_of p.own.inner.brackets p.own.inner.relay));
+  held = sym (quiet (open_of p.local.inner.brackets p.local.inner.relay));
 }
 timers_kept w p (Err e) quiet = tt
 
 counters_kept :
-    (w : Operation) (p : Parts) (n : Result (List Counter) ℕ) → Quiet w → IfDone (Keeps w p) (on_counters p n)
+    (w : Operation) (p : ExecState) (n : Result (List Counter) ℕ) → Quiet w → IfDone (Keeps w p) (on_counters p n)
 counters_kept w p (Ok n) quiet = record {
   memory = same_sizes p.memory;
   starts = refl;
@@ -266,7 +266,7 @@ counters_kept w p (Ok n) quiet = record {
   bindings = refl;
   db = λ db di. db;
   di = λ db di. di;
-  held = sym (quiet (open_of p.own.inner.brackets p.own.inner.relay));
+  held = sym (quiet (open_of p.local.inner.brackets p.local.inner.relay));
 }
 counters_kept w p (Err e) quiet = tt
 
@@ -276,30 +276,30 @@ open_after o r m n same sizes is = rw same (open_still o m n sizes is)
 
 -- bytes written
 scene_kept :
-    (w : Operation) (p : Parts) (c : Result Scene ℕ) → Quiet w → IfDone (KeepsScene p.own p.memory) c
-    → IfDone (Keeps w p) (on_scene p c)
+    (w : Operation) (p : ExecState) (c : Result LocalMemory ℕ) → Quiet w → IfDone (KeepsScene p.local p.memory) c
+    → IfDone (Keeps w p) (on_local_memory p c)
 scene_kept w p (Ok c) quiet kept = record {
   memory = kept.memory;
   starts = kept.starts;
   len = kept.len;
   instance = ap (λ (i : FrameData). i.instance) kept.inner;
   bindings = ap (λ (i : FrameData). i.bindings) kept.inner;
-  db = λ db di. open_after p.own.inner.db c.own.inner.db p.memory c.memory (ap (λ (i : FrameData). i.db) kept.inner) kept.memory db;
-  di = λ db di. open_after p.own.inner.di c.own.inner.di p.memory c.memory (ap (λ (i : FrameData). i.di) kept.inner) kept.memory di;
-  held = ap (λ (i : FrameData). open_of i.brackets i.relay) kept.inner ∙ sym (quiet (open_of p.own.inner.brackets p.own.inner.relay));
+  db = λ db di. open_after p.local.inner.db c.local.inner.db p.memory c.memory (ap (λ (i : FrameData). i.db) kept.inner) kept.memory db;
+  di = λ db di. open_after p.local.inner.di c.local.inner.di p.memory c.memory (ap (λ (i : FrameData). i.di) kept.inner) kept.memory di;
+  held = ap (λ (i : FrameData). open_of i.brackets i.relay) kept.inner ∙ sym (quiet (open_of p.local.inner.brackets p.local.inner.relay));
 }
 scene_kept w p (Err e) quiet kept = tt
 
 -- ---- brackets
 
 nesting_keeps :
-    (with : Check) (p : Parts) → IfDone (Keeps (operation.Nest with) p) (on_own p (nesting with p.own))
+    (with : Check) (p : ExecState) → IfDone (Keeps (operation.Nest with) p) (on_local p (nesting with p.local))
 unfolding nesting
-nesting_keeps with p = by (length p.own.inner.brackets == 7)
+nesting_keeps with p = by (length p.local.inner.brackets == 7)
   where
     by : (full : Bool)
-        → IfDone (Keeps (operation.Nest with) p) (on_own p (if full then Err no_operand
-        else Ok (with_brackets (entry_of with p.own.regs ∷ p.own.inner.brackets) (record p.own { regs = begun p.own.regs }))))
+        → IfDone (Keeps (operation.Nest with) p) (on_local p (if full then Err no_operand
+        else Ok (with_brackets (entry_of with p.local.regs ∷ p.local.inner.brackets) (record p.local { regs = begun p.local.regs }))))
     by true = tt
     by false = record {
       memory = same_sizes p.memory;
@@ -313,8 +313,8 @@ nesting_keeps with p = by (length p.own.inner.brackets == 7)
     }
 
 unnested_keeps :
-    (p : Parts) (brackets : List Bracket) → p.own.inner.brackets ≡ brackets
-    → IfDone (Keeps operation.Unnest p) (on_own p (unnested brackets p.own))
+    (p : ExecState) (brackets : List Bracket) → p.local.inner.brackets ≡ brackets
+    → IfDone (Keeps operation.Unnest p) (on_local p (unnested brackets p.local))
 unnested_keeps p [] is = tt
 unnested_keeps p (bracket ∷ rest) is = record {
   memory = same_sizes p.memory;
@@ -327,16 +327,16 @@ unnested_keeps p (bracket ∷ rest) is = record {
   held = rw is refl;
 }
 
-unnesting_keeps : (p : Parts) → IfDone (Keeps operation.Unnest p) (on_own p (unnesting p.own))
+unnesting_keeps : (p : ExecState) → IfDone (Keeps operation.Unnest p) (on_local p (unnesting p.local))
 unfolding unnesting
-unnesting_keeps p = unnested_keeps p p.own.inner.brackets refl
+unnesting_keeps p = unnested_keeps p p.local.inner.brackets refl
 
 -- ---- the relay
 
 relay_keeps :
-    (w : Operation) (r : Relay) (regs : Regs) (p : Parts)
-    → open_of p.own.inner.brackets r ≡ left_open w (open_of p.own.inner.brackets p.own.inner.relay)
-    → Keeps w p (record p { own = with_relay r (record p.own { regs = regs }) })
+    (w : Operation) (r : Relay) (regs : Regs) (p : ExecState)
+    → open_of p.local.inner.brackets r ≡ left_open w (open_of p.local.inner.brackets p.local.inner.relay)
+    → Keeps w p (record p { local = with_relay r (record p.local { regs = regs }) })
 relay_keeps w r regs p is = record {
   memory = same_sizes p.memory;
   starts = refl;
@@ -348,47 +348,47 @@ relay_keeps w r regs p is = record {
   held = is;
 }
 
-opening_zone_keeps : (p : Parts) → IfDone (Keeps (operation.Relay relay.Open) p) (on_own p (opening_zone p.own))
+opening_zone_keeps : (p : ExecState) → IfDone (Keeps (operation.Relay relay.Open) p) (on_local p (opening_zone p.local))
 unfolding opening_zone
-opening_zone_keeps p = by (length p.own.inner.relay.zones == most_zones)
+opening_zone_keeps p = by (length p.local.inner.relay.zones == most_zones)
   where
     by : (full : Bool)
-        → IfDone (Keeps (operation.Relay relay.Open) p) (on_own p (if full then Err no_operand
-        else Ok (with_zones (zone_opened p.own.regs.status.rlo p.own.inner.relay) p.own)))
+        → IfDone (Keeps (operation.Relay relay.Open) p) (on_local p (if full then Err no_operand
+        else Ok (with_zones (zone_opened p.local.regs.status.rlo p.local.inner.relay) p.local)))
     by true = tt
-    by false = relay_keeps (operation.Relay relay.Open) (zone_opened p.own.regs.status.rlo p.own.inner.relay) (stored true p.own.regs) p refl
+    by false = relay_keeps (operation.Relay relay.Open) (zone_opened p.local.regs.status.rlo p.local.inner.relay) (stored true p.local.regs) p refl
 
 outer_count : (zones : List Bool) → length (outer_zones zones) ≡ length zones - 1
 outer_count [] = refl
 outer_count (value ∷ around) = omega arith
 
-ending_zone_keeps : (p : Parts) → IfDone (Keeps (operation.Relay relay.Close) p) (on_own p (ending_zone p.own))
+ending_zone_keeps : (p : ExecState) → IfDone (Keeps (operation.Relay relay.Close) p) (on_local p (ending_zone p.local))
 unfolding ending_zone
-ending_zone_keeps p = by (is_empty p.own.inner.relay.zones)
+ending_zone_keeps p = by (is_empty p.local.inner.relay.zones)
   where
     by : (none : Bool)
-        → IfDone (Keeps (operation.Relay relay.Close) p) (on_own p (if none then Err no_operand
-        else Ok (with_zones (zone_ended p.own.inner.relay) p.own)))
+        → IfDone (Keeps (operation.Relay relay.Close) p) (on_local p (if none then Err no_operand
+        else Ok (with_zones (zone_ended p.local.inner.relay) p.local)))
     by true = tt
-    by false = relay_keeps (operation.Relay relay.Close) (zone_ended p.own.inner.relay) (stored true p.own.regs) p
-        (ap (λ (n : ℕ). let r : OpenAt = record { codes = codes_of p.own.inner.brackets; zones = n } in r) (outer_count p.own.inner.relay.zones))
+    by false = relay_keeps (operation.Relay relay.Close) (zone_ended p.local.inner.relay) (stored true p.local.regs) p
+        (ap (λ (n : ℕ). let r : OpenAt = record { codes = codes_of p.local.inner.brackets; zones = n } in r) (outer_count p.local.inner.relay.zones))
 
 relayed_keeps :
-    (which : RelayOperation) (p : Parts) → IfDone (Keeps (operation.Relay which) p) (on_own p (relayed which p.own))
+    (which : RelayOperation) (p : ExecState) → IfDone (Keeps (operation.Relay which) p) (on_local p (relayed which p.local))
 relayed_keeps relay.Activate p =
-    relay_keeps (operation.Relay relay.Activate) (record p.own.inner.relay { active = true }) p.own.regs p refl
+    relay_keeps (operation.Relay relay.Activate) (record p.local.inner.relay { active = true }) p.local.regs p refl
 relayed_keeps relay.Deactivate p =
-    relay_keeps (operation.Relay relay.Deactivate) (record p.own.inner.relay { active = false }) p.own.regs p refl
+    relay_keeps (operation.Relay relay.Deactivate) (record p.local.inner.relay { active = false }) p.local.regs p refl
 relayed_keeps relay.Open p = opening_zone_keeps p
 relayed_keeps relay.Close p = ending_zone_keeps p
 
 -- ---- data blocks
 
 opened_at :
-    (w : Operation) (number : ℕ) (p : Parts) (first : Bool) → Quiet w → is_loaded number p.memory ≡ true
+    (w : Operation) (number : ℕ) (p : ExecState) (first : Bool) → Quiet w → is_loaded number p.memory ≡ true
     → Keeps w p (record p {
-      own = if first then record p.own { inner = record p.own.inner { db = Some number } }
-          else record p.own { inner = record p.own.inner { di = Some number } };
+      local = if first then record p.local { inner = record p.local.inner { db = Some number } }
+          else record p.local { inner = record p.local.inner { di = Some number } };
     })
 opened_at w number p true quiet loaded = record {
   memory = same_sizes p.memory;
@@ -398,7 +398,7 @@ opened_at w number p true quiet loaded = record {
   bindings = refl;
   db = λ db di. loaded;
   di = λ db di. di;
-  held = sym (quiet (open_of p.own.inner.brackets p.own.inner.relay));
+  held = sym (quiet (open_of p.local.inner.brackets p.local.inner.relay));
 }
 opened_at w number p false quiet loaded = record {
   memory = same_sizes p.memory;
@@ -408,31 +408,31 @@ opened_at w number p false quiet loaded = record {
   bindings = refl;
   db = λ db di. db;
   di = λ db di. loaded;
-  held = sym (quiet (open_of p.own.inner.brackets p.own.inner.relay));
+  held = sym (quiet (open_of p.local.inner.brackets p.local.inner.relay));
 }
 
 opened_keeps :
-    (w : Operation) (register number : ℕ) (p : Parts) (loaded : Bool) → Quiet w → is_loaded number p.memory ≡ loaded
-    → IfDone (Keeps w p) (on_own p (opened_if loaded register number p.own))
+    (w : Operation) (register number : ℕ) (p : ExecState) (loaded : Bool) → Quiet w → is_loaded number p.memory ≡ loaded
+    → IfDone (Keeps w p) (on_local p (opened_if loaded register number p.local))
 opened_keeps w register number p true quiet is = opened_at w number p (register == 1) quiet is
 opened_keeps w register number p false quiet is = tt
 
 by_pointer_keeps :
-    (w : Operation) (register : ℕ) (p : Parts) (found : Result ℕ ℕ) → Quiet w
-    → IfDone (Keeps w p) (on_own p (then_ok found (λ number. opened_if (is_loaded number p.memory) register number p.own)))
+    (w : Operation) (register : ℕ) (p : ExecState) (found : Result ℕ ℕ) → Quiet w
+    → IfDone (Keeps w p) (on_local p (then_ok found (λ number. opened_if (is_loaded number p.memory) register number p.local)))
 by_pointer_keeps w register p (Ok number) quiet = opened_keeps w register number p (is_loaded number p.memory) quiet refl
 by_pointer_keeps w register p (Err e) quiet = tt
 
 opening_keeps :
-    (w : Operation) (o : Operand) (p : Parts) → Quiet w → IfDone (Keeps w p) (on_own p (opening o p.own p.memory))
+    (w : Operation) (o : Operand) (p : ExecState) → Quiet w → IfDone (Keeps w p) (on_local p (opening o p.local p.memory))
 unfolding opening
 opening_keeps w (operand.OpenBlock register number) p quiet =
     opened_keeps w register number p (is_loaded number p.memory) quiet refl
 opening_keeps w (operand.OpenBy register from byte) p quiet =
-    by_pointer_keeps w register p (pointer from byte widths.Word p.own p.memory) quiet
+    by_pointer_keeps w register p (pointer from byte widths.Word p.local p.memory) quiet
 opening_keeps w _ p quiet = tt
 
-exchanged_keeps : (w : Operation) (p : Parts) → Quiet w → Keeps w p (record p { own = exchanged p.own })
+exchanged_keeps : (w : Operation) (p : ExecState) → Quiet w → Keeps w p (record p { local = exchanged p.local })
 unfolding exchanged
 exchanged_keeps w p quiet = record {
   memory = same_sizes p.memory;
@@ -442,87 +442,87 @@ exchanged_keeps w p quiet = record {
   bindings = refl;
   db = λ db di. di;
   di = λ db di. db;
-  held = sym (quiet (open_of p.own.inner.brackets p.own.inner.relay));
+  held = sym (quiet (open_of p.local.inner.brackets p.local.inner.relay));
 }
 
 -- ---- by kind of operand
 
 set_of_keeps :
-    (w : Operation) (kind : Option ℕ) (o : Operand) (p : Parts) → Quiet w → IfDone (Keeps w p) (set_of kind o p)
-set_of_keeps w None o p quiet = scene_kept w p (bit_set true o p.own p.memory) quiet (set_keeps true o p.own p.memory)
+    (w : Operation) (kind : Option ℕ) (o : Operand) (p : ExecState) → Quiet w → IfDone (Keeps w p) (set_of kind o p)
+set_of_keeps w None o p quiet = scene_kept w p (bit_set true o p.local p.memory) quiet (set_keeps true o p.local p.memory)
 set_of_keeps w (Some kind) o p quiet = counters_kept w p _ quiet
 
 reset_of_keeps :
-    (w : Operation) (kind : Option ℕ) (o : Operand) (p : Parts) → Quiet w → IfDone (Keeps w p) (reset_of kind o p)
-reset_of_keeps w None o p quiet = scene_kept w p (bit_set false o p.own p.memory) quiet (set_keeps false o p.own p.memory)
+    (w : Operation) (kind : Option ℕ) (o : Operand) (p : ExecState) → Quiet w → IfDone (Keeps w p) (reset_of kind o p)
+reset_of_keeps w None o p quiet = scene_kept w p (bit_set false o p.local p.memory) quiet (set_keeps false o p.local p.memory)
 reset_of_keeps w (Some kind) o p quiet = by (is_timer kind)
   where
     by : (timer : Bool)
-        → IfDone (Keeps w p) (if timer then on_timers p (timer_reset o p.own p.memory p.timers) else on_counters p (counter_reset o p.own p.memory p.counters))
+        → IfDone (Keeps w p) (if timer then on_timers p (timer_reset o p.local p.memory p.timers) else on_counters p (counter_reset o p.local p.memory p.counters))
     by true = timers_kept w p _ quiet
     by false = counters_kept w p _ quiet
 
 free_of_keeps :
-    (w : Operation) (kind : Option ℕ) (o : Operand) (p : Parts) → Quiet w → IfDone (Keeps w p) (free_of kind o p)
+    (w : Operation) (kind : Option ℕ) (o : Operand) (p : ExecState) → Quiet w → IfDone (Keeps w p) (free_of kind o p)
 free_of_keeps w None o p quiet = tt
 free_of_keeps w (Some kind) o p quiet = by (is_timer kind)
   where
     by : (timer : Bool)
-        → IfDone (Keeps w p) (if timer then on_timers p (timer_freed o p.own p.memory p.timers) else on_counters p (counter_freed o p.own p.memory p.counters))
+        → IfDone (Keeps w p) (if timer then on_timers p (timer_freed o p.local p.memory p.timers) else on_counters p (counter_freed o p.local p.memory p.counters))
     by true = timers_kept w p _ quiet
     by false = counters_kept w p _ quiet
 
 -- ---- all
 
-pub does_keeps : (w : Operation) (o : Operand) (p : Parts) → IfDone (Keeps w p) (does w o p)
-unfolding does
-does_keeps operation.Nop o p = same_keeps operation.Nop p (λ held. refl)
-does_keeps operation.Bld o p = same_keeps operation.Bld p (λ held. refl)
-does_keeps (operation.Check with) o p = regs_kept (operation.Check with) p _ (λ held. refl)
-does_keeps operation.OrBare o p = regs_kept operation.OrBare p (Ok _) (λ held. refl)
-does_keeps (operation.Nest with) o p = nesting_keeps with p
-does_keeps operation.Unnest o p = unnesting_keeps p
-does_keeps (operation.Relay which) o p = relayed_keeps which p
-does_keeps operation.Load o p = regs_kept operation.Load p _ (λ held. refl)
-does_keeps operation.Transfer o p =
-    scene_kept operation.Transfer p (transferring o p.own p.memory) (λ held. refl) (transferred_keeps (if closed p.own then 0 else p.own.regs.a1) o p.own p.memory)
-does_keeps operation.Assign o p =
-    scene_kept operation.Assign p (assigned o p.own p.memory) (λ held. refl) (assigned_keeps o p.own p.memory)
-does_keeps operation.Set o p = set_of_keeps operation.Set (kind_named o) o p (λ held. refl)
-does_keeps operation.Reset o p = reset_of_keeps operation.Reset (kind_named o) o p (λ held. refl)
-does_keeps (operation.Edge rising) o p =
-    scene_kept (operation.Edge rising) p (edge rising o p.own p.memory) (λ held. refl) (edge_keeps rising o p.own p.memory)
-does_keeps operation.SetRlo o p = regs_kept operation.SetRlo p (Ok _) (λ held. refl)
-does_keeps operation.ClearRlo o p = regs_kept operation.ClearRlo p (Ok _) (λ held. refl)
-does_keeps operation.NegateRlo o p = regs_kept operation.NegateRlo p (Ok _) (λ held. refl)
-does_keeps operation.SaveRlo o p = regs_kept operation.SaveRlo p (Ok _) (λ held. refl)
-does_keeps operation.LoadBcd o p = regs_kept operation.LoadBcd p _ (λ held. refl)
-does_keeps operation.LoadStatus o p = regs_kept operation.LoadStatus p (Ok _) (λ held. refl)
-does_keeps operation.TransferStatus o p = regs_kept operation.TransferStatus p (Ok _) (λ held. refl)
-does_keeps operation.LoadOpenBlock o p = regs_kept operation.LoadOpenBlock p _ (λ held. refl)
-does_keeps (operation.Pointer what) o p =
-    scene_kept (operation.Pointer what) p (pointed what o p.own p.memory) (λ held. refl) (pointed_keeps what o p.own p.memory)
-does_keeps (operation.Number what) o p = regs_kept (operation.Number what) p _ (λ held. refl)
-does_keeps (operation.Add what) o p = regs_kept (operation.Add what) p (Ok _) (λ held. refl)
-does_keeps (operation.CompareInt how) o p = regs_kept (operation.CompareInt how) p (Ok _) (λ held. refl)
-does_keeps (operation.CompareDint how) o p = regs_kept (operation.CompareDint how) p (Ok _) (λ held. refl)
-does_keeps (operation.Logic what) o p = regs_kept (operation.Logic what) p (Ok _) (λ held. refl)
-does_keeps (operation.Shift what) o p = regs_kept (operation.Shift what) p (Ok _) (λ held. refl)
-does_keeps (operation.Start how) o p = timers_kept (operation.Start how) p _ (λ held. refl)
-does_keeps operation.Free o p = free_of_keeps operation.Free (kind_named o) o p (λ held. refl)
-does_keeps operation.CountUp o p = counters_kept operation.CountUp p _ (λ held. refl)
-does_keeps operation.CountDown o p = counters_kept operation.CountDown p _ (λ held. refl)
-does_keeps operation.OpenBlock o p = opening_keeps operation.OpenBlock o p (λ held. refl)
-does_keeps operation.Exchange o p = exchanged_keeps operation.Exchange p (λ held. refl)
-does_keeps operation.Jump o p = tt
-does_keeps (operation.Call how) o p = tt
-does_keeps (operation.End how) o p = tt
-does_keeps operation.UseDb o p = tt
-does_keeps operation.Pass o p = tt
-does_keeps operation.NoOperation o p = tt
+pub effect_keeps : (w : Operation) (o : Operand) (p : ExecState) → IfDone (Keeps w p) (effect w o p)
+unfolding effect
+effect_keeps operation.Nop o p = same_keeps operation.Nop p (λ held. refl)
+effect_keeps operation.Bld o p = same_keeps operation.Bld p (λ held. refl)
+effect_keeps (operation.Check with) o p = regs_kept (operation.Check with) p _ (λ held. refl)
+effect_keeps operation.OrBare o p = regs_kept operation.OrBare p (Ok _) (λ held. refl)
+effect_keeps (operation.Nest with) o p = nesting_keeps with p
+effect_keeps operation.Unnest o p = unnesting_keeps p
+effect_keeps (operation.Relay which) o p = relayed_keeps which p
+effect_keeps operation.Load o p = regs_kept operation.Load p _ (λ held. refl)
+effect_keeps operation.Transfer o p =
+    scene_kept operation.Transfer p (transferring o p.local p.memory) (λ held. refl) (transferred_keeps (if closed p.local then 0 else p.local.regs.a1) o p.local p.memory)
+effect_keeps operation.Assign o p =
+    scene_kept operation.Assign p (assigned o p.local p.memory) (λ held. refl) (assigned_keeps o p.local p.memory)
+effect_keeps operation.Set o p = set_of_keeps operation.Set (kind_named o) o p (λ held. refl)
+effect_keeps operation.Reset o p = reset_of_keeps operation.Reset (kind_named o) o p (λ held. refl)
+effect_keeps (operation.Edge rising) o p =
+    scene_kept (operation.Edge rising) p (edge rising o p.local p.memory) (λ held. refl) (edge_keeps rising o p.local p.memory)
+effect_keeps operation.SetRlo o p = regs_kept operation.SetRlo p (Ok _) (λ held. refl)
+effect_keeps operation.ClearRlo o p = regs_kept operation.ClearRlo p (Ok _) (λ held. refl)
+effect_keeps operation.NegateRlo o p = regs_kept operation.NegateRlo p (Ok _) (λ held. refl)
+effect_keeps operation.SaveRlo o p = regs_kept operation.SaveRlo p (Ok _) (λ held. refl)
+effect_keeps operation.LoadBcd o p = regs_kept operation.LoadBcd p _ (λ held. refl)
+effect_keeps operation.LoadStatus o p = regs_kept operation.LoadStatus p (Ok _) (λ held. refl)
+effect_keeps operation.TransferStatus o p = regs_kept operation.TransferStatus p (Ok _) (λ held. refl)
+effect_keeps operation.LoadOpenBlock o p = regs_kept operation.LoadOpenBlock p _ (λ held. refl)
+effect_keeps (operation.Pointer what) o p =
+    scene_kept (operation.Pointer what) p (pointed what o p.local p.memory) (λ held. refl) (pointed_keeps what o p.local p.memory)
+effect_keeps (operation.Number what) o p = regs_kept (operation.Number what) p _ (λ held. refl)
+effect_keeps (operation.Add what) o p = regs_kept (operation.Add what) p (Ok _) (λ held. refl)
+effect_keeps (operation.CompareInt how) o p = regs_kept (operation.CompareInt how) p (Ok _) (λ held. refl)
+effect_keeps (operation.CompareDint how) o p = regs_kept (operation.CompareDint how) p (Ok _) (λ held. refl)
+effect_keeps (operation.Logic what) o p = regs_kept (operation.Logic what) p (Ok _) (λ held. refl)
+effect_keeps (operation.Shift what) o p = regs_kept (operation.Shift what) p (Ok _) (λ held. refl)
+effect_keeps (operation.Start how) o p = timers_kept (operation.Start how) p _ (λ held. refl)
+effect_keeps operation.Free o p = free_of_keeps operation.Free (kind_named o) o p (λ held. refl)
+effect_keeps operation.CountUp o p = counters_kept operation.CountUp p _ (λ held. refl)
+effect_keeps operation.CountDown o p = counters_kept operation.CountDown p _ (λ held. refl)
+effect_keeps operation.OpenBlock o p = opening_keeps operation.OpenBlock o p (λ held. refl)
+effect_keeps operation.Exchange o p = exchanged_keeps operation.Exchange p (λ held. refl)
+effect_keeps operation.Jump o p = tt
+effect_keeps (operation.Call how) o p = tt
+effect_keeps (operation.End how) o p = tt
+effect_keeps operation.UseDb o p = tt
+effect_keeps operation.Pass o p = tt
+effect_keeps operation.NoOperation o p = tt
 
 opened_first :
-    (w : Operation) (number : ℕ) (p q : Parts) → is_loaded number p.memory ≡ true → Keeps w (with_db number p) q
+    (w : Operation) (number : ℕ) (p q : ExecState) → is_loaded number p.memory ≡ true → Keeps w (with_db number p) q
     → Keeps w p q
 opened_first w number p q loaded kept = record {
   memory = kept.memory;
@@ -540,14 +540,14 @@ done_more P Q (Ok y) f h = f y h
 done_more P Q (Err e) f h = tt
 
 pub does_with_keeps :
-    (use_db : Option ℕ) (w : Operation) (o : Operand) (p : Parts) → IfDone (Keeps w p) (does_with use_db w o p)
-unfolding does_with
-does_with_keeps None w o p = does_keeps w o p
+    (use_db : Option ℕ) (w : Operation) (o : Operand) (p : ExecState) → IfDone (Keeps w p) (effect_with use_db w o p)
+unfolding effect_with
+does_with_keeps None w o p = effect_keeps w o p
 does_with_keeps (Some number) w o p = by (is_loaded number p.memory) refl
   where
     by : (loaded : Bool) → is_loaded number p.memory ≡ loaded
-        → IfDone (Keeps w p) (if loaded then does w o (with_db number p) else Err 0x3A)
+        → IfDone (Keeps w p) (if loaded then effect w o (with_db number p) else Err 0x3A)
     by true is =
-        done_more (Keeps w (with_db number p)) (Keeps w p) (does w o (with_db number p))
-        (λ q kept. opened_first w number p q is kept) (does_keeps w o (with_db number p))
+        done_more (Keeps w (with_db number p)) (Keeps w p) (effect w o (with_db number p))
+        (λ q kept. opened_first w number p q is kept) (effect_keeps w o (with_db number p))
     by false is = tt

@@ -11,7 +11,7 @@ use Rattle.machine.specs.Flat.{code_of}
 use Rattle.machine.specs.ImageLaws.{ImageLaws}
 use Rattle.machine.specs.Lasting.{FitsProgram, IsReady, Lasts, Leaves, LeavesFit}
 use Rattle.machine.specs.OpenBrackets.{open_codes}
-use Rattle.machine.specs.Statement.{World, Step, Went, Ended, SyncError, SysCall, Stop, Stuck, statement, Comes}
+use Rattle.machine.specs.Statement.{World, Step, Went, Ended, SyncError, SysCall, Stop, Stuck, statement, IsOutcomeOf}
 use Rattle.machine.proofs.FrameBytes.{depth_is}
 use Rattle.machine.proofs.Instructions.{statement_lasts}
 use Rattle.machine.proofs.Ready.{fits_goes}
@@ -30,7 +30,7 @@ unchanged p old new a answer same leaves = rw same (record { sizes = same_sizes 
 
 step_leaves :
     (p : Program) (step : Step) (old new : Activation) (w after : World) (answer : Outcome) → FitsProgram p w.memory old
-    → Lasts p w step → Comes step old new w after answer → LeavesFit p w.memory after.memory new answer
+    → Lasts p w step → IsOutcomeOf step old new w after answer → LeavesFit p w.memory after.memory new answer
 step_leaves p (Went a world) old new w after outcome.Went h lasts comes =
     rw (comes.0, comes.1) (record { sizes = lasts.sizes; leaves = lasts.fits })
 step_leaves p (Ended regs world) old new w after outcome.Ended h lasts comes =
@@ -46,7 +46,7 @@ step_leaves p step old new w after answer h lasts comes = absurd comes
 
 pub call_leaves :
     (l : ImageLaws) (p : Program) (old new : Activation) (w after : World) (answer : Outcome) → Verifies p
-    → FitsProgram p w.memory old → Comes (statement (code_of p) old w) old new w after answer
+    → FitsProgram p w.memory old → IsOutcomeOf (statement (code_of p) old w) old new w after answer
     → LeavesFit p w.memory after.memory new answer
 call_leaves l p old new w after answer verifies h comes =
     step_leaves p (statement (code_of p) old w) old new w after answer h (statement_lasts l p old w verifies h) comes

@@ -1,9 +1,8 @@
 pub mod Calling
-pub mod Fetching
+pub mod FetchLemmas
 pub mod Going
 pub mod Ready
 pub mod Lifts
-pub mod Completing
 pub mod Steps
 pub mod Walks
 pub mod Sizes
@@ -24,5 +23,5 @@ pub mod Errors
 pub mod Beginning
 pub mod Lasting
 pub mod Outputs
-pub mod QuietLemmas
+pub mod SilentLemmas
 mod MovedLemmas

@@ -15,19 +15,19 @@ use Rattle.frames.specs.declared.bindings.Binding.{Binding}
 use Rattle.frames.specs.declared.FrameFault.{FrameFault}
 use Rattle.machine.specs.Bindings.{bindings_of}
 use Rattle.machine.specs.Code.{Code, Fetched, Head}
-use Rattle.machine.specs.Does.{does_with}
+use Rattle.machine.specs.Effect.{effect_with}
 use Rattle.machine.specs.Entering.{Callee, Call, Fails, Stops, Enters, fresh, going_on, caller_at, supplied, entered_if, called_with, call}
 use Rattle.machine.specs.Jumps.{is_taken, after_jump, goes_to, listed, rlo_tested}
 use Rattle.machine.specs.Moved.{aimed_instr, moved_fetched, Follows, moved_frame, moved, moved_step, StatementsMove}
-use Rattle.machine.specs.Parts.{Parts, own_of, parts_of}
+use Rattle.machine.specs.ExecState.{ExecState, local_of, exec_state_of}
 use Rattle.machine.specs.Returning.{given_back, left, returning}
-use Rattle.machine.specs.Statement.{World, Step, Went, went_on, jumped, after_call, callee_of, block_called, after_system_call, system_called, called, is_called, not_called, after_return, returned, is_ended, performed, fetched, statement, moved_on}
+use Rattle.machine.specs.Statement.{World, Step, Went, continue_with, jumped, after_call, callee_of, block_called, after_system_call, system_called, called, is_called, not_called, after_return, returned, is_ended, step_of, step_found, statement, advance}
 use Rattle.machine.specs.SystemCalls.{Given, system_call, system_function}
 
 -- the run goes on at the position of the next one
 went_on_moves :
-    (f : BlockId → ℕ → ℕ) (r : Result Parts ℕ) (next : ℕ) (a : Activation)
-    → went_on r (f a.running.frame.block next) (moved f a) ≡ moved_step f (went_on r next a)
+    (f : BlockId → ℕ → ℕ) (r : Result ExecState ℕ) (next : ℕ) (a : Activation)
+    → continue_with r (f a.running.frame.block next) (moved f a) ≡ moved_step f (continue_with r next a)
 went_on_moves f (Ok p) next a = refl
 went_on_moves f (Err code) next a = refl
 
@@ -118,7 +118,7 @@ call_moves :
     → call to passings (f a.running.frame.block next) (moved f a) m ≡ moved_call f (call to passings next a m)
 unfolding call
 call_moves f to passings next a m start =
-    called_with_moves f (bindings_of to.params passings (own_of a.running) m) to next a m start
+    called_with_moves f (bindings_of to.params passings (local_of a.running) m) to next a m start
 
 after_call_moves :
     (f : BlockId → ℕ → ℕ) (c : Call) (next : ℕ) (a : Activation) (w : World)
@@ -147,7 +147,7 @@ system_moves :
     → system_called params number passings (f a.running.frame.block next) (moved f a) w ≡ moved_step f (system_called params number passings next a w)
 system_moves f None number passings next a w = refl
 system_moves f (Some params) number passings next a w =
-    after_system_moves f (system_call params passings (own_of a.running) w.memory) number next a
+    after_system_moves f (system_call params passings (local_of a.running) w.memory) number next a
 
 called_moves :
     (f : BlockId → ℕ → ℕ) (c d : Code) (block : BlockId) (instance : Option ℕ) (passings : List Passing) (next : ℕ) (a : Activation) (w : World)
@@ -194,13 +194,13 @@ either_moves f false x x' y y' h k = k
 
 performed_moves :
     (f : BlockId → ℕ → ℕ) (c d : Code) (i : Instr) (next : ℕ) (a : Activation) (w : World) → Follows f c d
-    → performed d (aimed_instr (f a.running.frame.block) i) (f a.running.frame.block next) (moved f a) w
-    ≡ moved_step f (performed c i next a w)
+    → step_of d (aimed_instr (f a.running.frame.block) i) (f a.running.frame.block next) (moved f a) w
+    ≡ moved_step f (step_of c i next a w)
 performed_moves f c d (Does use_db operation operand) next a w follows =
-    went_on_moves f (does_with use_db operation operand (parts_of a.running w.memory w.timers w.counters)) next a
+    went_on_moves f (effect_with use_db operation operand (exec_state_of a.running w.memory w.timers w.counters)) next a
 performed_moves f c d (Jumps how target) next a w follows = jumped_moves f how target next a w
 performed_moves f c d (JumpsByList targets otherwise) next a w follows =
-    ap (λ (at : ℕ). Went (moved_on at (moved f a)) w) (listed_moves (f a.running.frame.block) targets otherwise a.running.regs)
+    ap (λ (at : ℕ). Went (advance at (moved f a)) w) (listed_moves (f a.running.frame.block) targets otherwise a.running.regs)
 performed_moves f c d (Calls how block instance passings) next a w follows =
     either_moves f (is_called how a.running.regs.status.rlo)
     (called c block instance passings next a w) _ (Went (going_on next (not_called a.running.regs) a) w) _
@@ -213,12 +213,12 @@ performed_moves f c d (Returns how) next a w follows =
 
 fetched_moves :
     (f : BlockId → ℕ → ℕ) (c d : Code) (o : Option Fetched) (a : Activation) (w : World) → Follows f c d
-    → fetched d (option_map (moved_fetched (f a.running.frame.block)) o) (moved f a) w ≡ moved_step f (fetched c o a w)
+    → step_found d (option_map (moved_fetched (f a.running.frame.block)) o) (moved f a) w ≡ moved_step f (step_found c o a w)
 fetched_moves f c d None a w follows = refl
 fetched_moves f c d (Some s) a w follows = performed_moves f c d s.instr s.next a w follows
 
 pub statements_move : StatementsMove
 unfolding statement
 statements_move f c d a w follows =
-    ap (λ (o : Option Fetched). fetched d o (moved f a) w) (follows.fetch a.running.frame.block a.running.frame.at)
+    ap (λ (o : Option Fetched). step_found d o (moved f a) w) (follows.fetch a.running.frame.block a.running.frame.at)
     ∙ fetched_moves f c d (c.fetch a.running.frame.block a.running.frame.at) a w follows

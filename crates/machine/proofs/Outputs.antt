@@ -30,8 +30,8 @@ use Rattle.flat_code.specs.declared.operations.Operation.{Operation}
 use Rattle.flat_code.specs.declared.operations.Operation.TheVariants as operation
 use Rattle.machine.specs.declared.places.Access.{Access}
 use Rattle.machine.specs.declared.places.Access.TheVariants.{Writing}
-use Rattle.machine.specs.declared.places.Bound.{Bound}
-use Rattle.machine.specs.Parts.{Own, Scene, Parts, then_ok}
+use Rattle.machine.specs.declared.places.Location.{Location}
+use Rattle.machine.specs.ExecState.{Local, LocalMemory, ExecState, then_ok}
 use Rattle.machine.specs.Places.{absent, address, at_pointer, by_pointer, error_of, in_area, in_register, is_aligned, is_bit, is_local, is_peripheral, located, moved, of_binding, pointer}
 use Rattle.machine.specs.Values.{is_timer, with_locals, stored_at, write}
 use Rattle.machine.specs.BitLogic.{put_bit, bit_number, with_regs, bit_before, assigned, assigned_at, bit_set, set_at, edge, edge_at}
@@ -41,8 +41,8 @@ use Rattle.machine.specs.Loads.{transferred, transferring}
 use Rattle.machine.specs.Timing.{timer_reset, counter_reset, timer_freed, counter_freed}
 use Rattle.machine.specs.Pointers.{pointed, address_loaded, address_transferred}
 use Rattle.machine.specs.DataBlocks.{is_loaded}
-use Rattle.machine.specs.Does.{on_regs, on_own, on_scene, on_timers, on_counters, kind_named, set_of, reset_of, free_of, does, with_db, does_with}
-use Rattle.machine.specs.Quiet.{is_inside, is_bound_inside, has_place_inside, keeps_outputs}
+use Rattle.machine.specs.Effect.{on_regs, on_local, on_local_memory, on_timers, on_counters, kind_named, set_of, reset_of, free_of, effect, with_db, effect_with}
+use Rattle.machine.specs.Silent.{is_inside, is_bound_inside, has_place_inside, keeps_outputs}
 use Rattle.machine.proofs.Keeping.{IfDone, then_done, done_then}
 
 -- what is written outside the peripheral area
@@ -103,50 +103,50 @@ written_stays m n place width value inside done =
 
 -- ---- what is written to the place of an operand
 
-abbrev pub SceneStays : Areas → Scene → Type 0
-SceneStays m c = Stay m c.memory
+abbrev pub MemoryStays : Areas → LocalMemory → Type 0
+MemoryStays m c = Stay m c.memory
 
 either_stored :
-    (at : Bound) (value : ℕ) (s : Own) (m : Areas) (c : Scene) (local : Bool) → is_peripheral at.place.area ≡ false
+    (at : Location) (value : ℕ) (s : Local) (m : Areas) (c : LocalMemory) (local : Bool) → is_peripheral at.place.area ≡ false
     → cond local
-    (option_map (λ (l : LocalData). let r : Scene = record { own = with_locals s l; memory = m } in r)
+    (option_map (λ (l : LocalData). let r : LocalMemory = record { local = with_locals s l; memory = m } in r)
     (local_written s.locals at.frame at.place.byte at.place.bit at.width value))
-    (option_map (λ (n : Areas). let r : Scene = record { own = s; memory = n } in r) (written m at.place at.width value))
+    (option_map (λ (n : Areas). let r : LocalMemory = record { local = s; memory = n } in r) (written m at.place at.width value))
     ≡ Some c
-    → SceneStays m c
+    → MemoryStays m c
 either_stored at value s m c true inside done =
-    let was = mapped (λ (l : LocalData). let r : Scene = record { own = with_locals s l; memory = m } in r)
+    let was = mapped (λ (l : LocalData). let r : LocalMemory = record { local = with_locals s l; memory = m } in r)
     (local_written s.locals at.frame at.place.byte at.place.bit at.width value) c done in
     rw (sym was.2) refl
 either_stored at value s m c false inside done =
-    let was = mapped (λ (n : Areas). let r : Scene = record { own = s; memory = n } in r) (written m at.place at.width value) c done in
+    let was = mapped (λ (n : Areas). let r : LocalMemory = record { local = s; memory = n } in r) (written m at.place at.width value) c done in
     rw (sym was.2) (written_stays m was.0 at.place at.width value inside was.1)
 
 stored_if :
-    (m : Areas) (o : Option Scene) (code : ℕ) → ((c : Scene) → o ≡ Some c → SceneStays m c)
-    → IfDone (SceneStays m) (ok_or o code)
+    (m : Areas) (o : Option LocalMemory) (code : ℕ) → ((c : LocalMemory) → o ≡ Some c → MemoryStays m c)
+    → IfDone (MemoryStays m) (ok_or o code)
 stored_if m (Some c) code h = h c refl
 stored_if m None code h = tt
 
 pub write_stays :
-    (at : Bound) (value : ℕ) (s : Own) (m : Areas) → is_peripheral at.place.area ≡ false
-    → IfDone (SceneStays m) (write at value s m)
+    (at : Location) (value : ℕ) (s : Local) (m : Areas) → is_peripheral at.place.area ≡ false
+    → IfDone (MemoryStays m) (write at value s m)
 unfolding write
 write_stays at value s m inside =
     stored_if m (stored_at at value s m) (absent Writing at.place.area)
     (λ c is. either_stored at value s m c (is_local at.place.area) inside is)
 
 put_stays :
-    (at : Bound) (bit : Bool) (r : Regs) (s : Own) (m : Areas) → is_peripheral at.place.area ≡ false
-    → IfDone (SceneStays m) (put_bit at bit r s m)
+    (at : Location) (bit : Bool) (r : Regs) (s : Local) (m : Areas) → is_peripheral at.place.area ≡ false
+    → IfDone (MemoryStays m) (put_bit at bit r s m)
 unfolding put_bit
 put_stays at bit r s m inside =
-    done_then (SceneStays m) (SceneStays m) (write at (bit_number bit) s m) (λ c. Ok (with_regs r c))
+    done_then (MemoryStays m) (MemoryStays m) (write at (bit_number bit) s m) (λ c. Ok (with_regs r c))
     (write_stays at (bit_number bit) s m inside) (λ c stays. stays)
 
 -- ---- places
 
-abbrev IsPlacedInside : Bound → Type 0
+abbrev IsPlacedInside : Location → Type 0
 IsPlacedInside at = is_peripheral at.place.area ≡ false
 
 inside_is : (area : Area) → is_inside area ≡ true → is_peripheral area ≡ false
@@ -164,7 +164,7 @@ register_inside (Some number) error byte bit width = refl
 register_inside None error byte bit width = tt
 
 area_inside :
-    (area : Area) (byte bit : ℕ) (width : Width) (s : Own) → is_inside area ≡ true
+    (area : Area) (byte bit : ℕ) (width : Width) (s : Local) → is_inside area ≡ true
     → IfDone IsPlacedInside (in_area area byte bit width s)
 unfolding in_area
 area_inside areas.I byte bit width s h = refl
@@ -176,19 +176,19 @@ area_inside areas.Di byte bit width s h = register_inside s.inner.di 0x33 byte b
 area_inside areas.L byte bit width s h = refl
 
 unless_error :
-    (wrong : Bool) (e : ℕ) (x : Result Bound ℕ) → IfDone IsPlacedInside x
+    (wrong : Bool) (e : ℕ) (x : Result Location ℕ) → IfDone IsPlacedInside x
     → IfDone IsPlacedInside (cond wrong (Err e) x)
 unless_error true e x h = tt
 unless_error false e x h = h
 
 where_right :
-    (right : Bool) (e : ℕ) (x : Result Bound ℕ) → IfDone IsPlacedInside x
+    (right : Bool) (e : ℕ) (x : Result Location ℕ) → IfDone IsPlacedInside x
     → IfDone IsPlacedInside (cond right x (Err e))
 where_right true e x h = h
 where_right false e x h = tt
 
 pointer_inside :
-    (access : Access) (area : Area) (width : Width) (n : ℕ) (s : Own) → is_inside area ≡ true
+    (access : Access) (area : Area) (width : Width) (n : ℕ) (s : Local) → is_inside area ≡ true
     → IfDone IsPlacedInside (by_pointer access area width n s)
 unfolding by_pointer
 pointer_inside access area width n s h =
@@ -203,7 +203,7 @@ binding_inside (Some binding.Unsupplied) h = tt
 binding_inside None h = tt
 
 located_inside :
-    (access : Access) (o : Operand) (s : Own) (m : Areas) → has_place_inside o s.inner.bindings ≡ true
+    (access : Access) (o : Operand) (s : Local) (m : Areas) → has_place_inside o s.inner.bindings ≡ true
     → IfDone IsPlacedInside (located access o s m)
 unfolding located
 located_inside access (operand.Direct area width byte bit) s m h =
@@ -221,46 +221,46 @@ located_inside access _ s m h = tt
 -- ---- instructions that write
 
 assigned_stays :
-    (o : Operand) (s : Own) (m : Areas) → has_place_inside o s.inner.bindings ≡ true
-    → IfDone (SceneStays m) (assigned o s m)
+    (o : Operand) (s : Local) (m : Areas) → has_place_inside o s.inner.bindings ≡ true
+    → IfDone (MemoryStays m) (assigned o s m)
 unfolding assigned
 assigned_stays o s m h =
-    done_then IsPlacedInside (SceneStays m) (located Writing o s m) (λ at. assigned_at at s m)
+    done_then IsPlacedInside (MemoryStays m) (located Writing o s m) (λ at. assigned_at at s m)
     (located_inside Writing o s m h) (λ at inside. put_stays at _ _ s m inside)
 
 set_stays :
-    (value : Bool) (o : Operand) (s : Own) (m : Areas) → has_place_inside o s.inner.bindings ≡ true
-    → IfDone (SceneStays m) (bit_set value o s m)
+    (value : Bool) (o : Operand) (s : Local) (m : Areas) → has_place_inside o s.inner.bindings ≡ true
+    → IfDone (MemoryStays m) (bit_set value o s m)
 unfolding bit_set
 set_stays value o s m h =
-    done_then IsPlacedInside (SceneStays m) (located Writing o s m)
+    done_then IsPlacedInside (MemoryStays m) (located Writing o s m)
     (λ at. then_ok (bit_before at s m) (λ before. set_at value at before s m))
     (located_inside Writing o s m h)
-    (λ at inside. then_done (SceneStays m) (bit_before at s m) (λ before. set_at value at before s m)
+    (λ at inside. then_done (MemoryStays m) (bit_before at s m) (λ before. set_at value at before s m)
     (λ before. put_stays at _ _ s m inside))
 
 edge_stays :
-    (rising : Bool) (o : Operand) (s : Own) (m : Areas) → has_place_inside o s.inner.bindings ≡ true
-    → IfDone (SceneStays m) (edge rising o s m)
+    (rising : Bool) (o : Operand) (s : Local) (m : Areas) → has_place_inside o s.inner.bindings ≡ true
+    → IfDone (MemoryStays m) (edge rising o s m)
 unfolding edge
 edge_stays rising o s m h =
-    done_then IsPlacedInside (SceneStays m) (located Writing o s m)
+    done_then IsPlacedInside (MemoryStays m) (located Writing o s m)
     (λ at. then_ok (bit_before at s m) (λ before. edge_at rising at before s m))
     (located_inside Writing o s m h)
-    (λ at inside. then_done (SceneStays m) (bit_before at s m) (λ before. edge_at rising at before s m)
+    (λ at inside. then_done (MemoryStays m) (bit_before at s m) (λ before. edge_at rising at before s m)
     (λ before. put_stays at _ _ s m inside))
 
 transferred_stays :
-    (n : ℕ) (o : Operand) (s : Own) (m : Areas) → has_place_inside o s.inner.bindings ≡ true
-    → IfDone (SceneStays m) (transferred n o s m)
+    (n : ℕ) (o : Operand) (s : Local) (m : Areas) → has_place_inside o s.inner.bindings ≡ true
+    → IfDone (MemoryStays m) (transferred n o s m)
 unfolding transferred
 transferred_stays n o s m h =
-    done_then IsPlacedInside (SceneStays m) (located Writing o s m) _
+    done_then IsPlacedInside (MemoryStays m) (located Writing o s m) _
     (located_inside Writing o s m h) (λ at inside. write_stays at _ s m inside)
 
 address_stays :
-    (n : ℕ) (o : Operand) (s : Own) (m : Areas) → has_place_inside o s.inner.bindings ≡ true
-    → IfDone (SceneStays m) (address_transferred n o s m)
+    (n : ℕ) (o : Operand) (s : Local) (m : Areas) → has_place_inside o s.inner.bindings ≡ true
+    → IfDone (MemoryStays m) (address_transferred n o s m)
 address_stays n operand.Nothing s m h = refl
 address_stays n (operand.Literal value) s m h = transferred_stays n (operand.Literal value) s m h
 address_stays n (operand.Direct area width byte bit) s m h = transferred_stays n (operand.Direct area width byte bit) s m h
@@ -279,11 +279,11 @@ address_stays n (operand.OpenBlock register number) s m h = transferred_stays n 
 address_stays n (operand.OpenBy register from byte) s m h = transferred_stays n (operand.OpenBy register from byte) s m h
 
 pointed_stays :
-    (what : PointerOperation) (o : Operand) (s : Own) (m : Areas) → has_place_inside o s.inner.bindings ≡ true
-    → IfDone (SceneStays m) (pointed what o s m)
+    (what : PointerOperation) (o : Operand) (s : Local) (m : Areas) → has_place_inside o s.inner.bindings ≡ true
+    → IfDone (MemoryStays m) (pointed what o s m)
 unfolding pointed
-pointed_stays pointers.Lar1 o s m h = then_done (SceneStays m) (address_loaded o s m) _ (λ n. refl)
-pointed_stays pointers.Lar2 o s m h = then_done (SceneStays m) (address_loaded o s m) _ (λ n. refl)
+pointed_stays pointers.Lar1 o s m h = then_done (MemoryStays m) (address_loaded o s m) _ (λ n. refl)
+pointed_stays pointers.Lar2 o s m h = then_done (MemoryStays m) (address_loaded o s m) _ (λ n. refl)
 pointed_stays pointers.Tar1 o s m h = address_stays s.regs.ar1 o s m h
 pointed_stays pointers.Tar2 o s m h = address_stays s.regs.ar2 o s m h
 pointed_stays pointers.Lar1Ar2 o s m h = refl
@@ -294,123 +294,123 @@ pointed_stays pointers.AddAr2 o s m h = refl
 
 -- ---- all instructions
 
-abbrev pub PartsStay : (p q : Parts) → Type 0
-PartsStay p q = Stay p.memory q.memory
+abbrev pub StateStays : (p q : ExecState) → Type 0
+StateStays p q = Stay p.memory q.memory
 
-regs_stay : (p : Parts) (r : Result Regs ℕ) → IfDone (PartsStay p) (on_regs p r)
+regs_stay : (p : ExecState) (r : Result Regs ℕ) → IfDone (StateStays p) (on_regs p r)
 regs_stay p (Ok r) = refl
 regs_stay p (Err e) = tt
 
-own_stays : (p : Parts) (s : Result Own ℕ) → IfDone (PartsStay p) (on_own p s)
+own_stays : (p : ExecState) (s : Result Local ℕ) → IfDone (StateStays p) (on_local p s)
 own_stays p (Ok s) = refl
 own_stays p (Err e) = tt
 
-timers_stay : (p : Parts) (t : Result (List Timer) ℕ) → IfDone (PartsStay p) (on_timers p t)
+timers_stay : (p : ExecState) (t : Result (List Timer) ℕ) → IfDone (StateStays p) (on_timers p t)
 timers_stay p (Ok t) = refl
 timers_stay p (Err e) = tt
 
-counters_stay : (p : Parts) (n : Result (List Counter) ℕ) → IfDone (PartsStay p) (on_counters p n)
+counters_stay : (p : ExecState) (n : Result (List Counter) ℕ) → IfDone (StateStays p) (on_counters p n)
 counters_stay p (Ok n) = refl
 counters_stay p (Err e) = tt
 
-scene_stays : (p : Parts) (c : Result Scene ℕ) → IfDone (SceneStays p.memory) c → IfDone (PartsStay p) (on_scene p c)
+scene_stays : (p : ExecState) (c : Result LocalMemory ℕ) → IfDone (MemoryStays p.memory) c → IfDone (StateStays p) (on_local_memory p c)
 scene_stays p (Ok c) stays = stays
 scene_stays p (Err e) stays = tt
 
 set_of_stays :
-    (kind : Option ℕ) (o : Operand) (p : Parts) → has_place_inside o p.own.inner.bindings ≡ true
-    → IfDone (PartsStay p) (set_of kind o p)
-set_of_stays None o p h = scene_stays p (bit_set true o p.own p.memory) (set_stays true o p.own p.memory h)
+    (kind : Option ℕ) (o : Operand) (p : ExecState) → has_place_inside o p.local.inner.bindings ≡ true
+    → IfDone (StateStays p) (set_of kind o p)
+set_of_stays None o p h = scene_stays p (bit_set true o p.local p.memory) (set_stays true o p.local p.memory h)
 set_of_stays (Some kind) o p h = counters_stay p _
 
 reset_of_stays :
-    (kind : Option ℕ) (o : Operand) (p : Parts) → has_place_inside o p.own.inner.bindings ≡ true
-    → IfDone (PartsStay p) (reset_of kind o p)
-reset_of_stays None o p h = scene_stays p (bit_set false o p.own p.memory) (set_stays false o p.own p.memory h)
+    (kind : Option ℕ) (o : Operand) (p : ExecState) → has_place_inside o p.local.inner.bindings ≡ true
+    → IfDone (StateStays p) (reset_of kind o p)
+reset_of_stays None o p h = scene_stays p (bit_set false o p.local p.memory) (set_stays false o p.local p.memory h)
 reset_of_stays (Some kind) o p h = by (is_timer kind)
   where
     by : (timer : Bool)
-        → IfDone (PartsStay p) (if timer then on_timers p (timer_reset o p.own p.memory p.timers) else on_counters p (counter_reset o p.own p.memory p.counters))
+        → IfDone (StateStays p) (if timer then on_timers p (timer_reset o p.local p.memory p.timers) else on_counters p (counter_reset o p.local p.memory p.counters))
     by true = timers_stay p _
     by false = counters_stay p _
 
-free_of_stays : (kind : Option ℕ) (o : Operand) (p : Parts) → IfDone (PartsStay p) (free_of kind o p)
+free_of_stays : (kind : Option ℕ) (o : Operand) (p : ExecState) → IfDone (StateStays p) (free_of kind o p)
 free_of_stays None o p = tt
 free_of_stays (Some kind) o p = by (is_timer kind)
   where
     by : (timer : Bool)
-        → IfDone (PartsStay p) (if timer then on_timers p (timer_freed o p.own p.memory p.timers) else on_counters p (counter_freed o p.own p.memory p.counters))
+        → IfDone (StateStays p) (if timer then on_timers p (timer_freed o p.local p.memory p.timers) else on_counters p (counter_freed o p.local p.memory p.counters))
     by true = timers_stay p _
     by false = counters_stay p _
 
-does_stays :
-    (w : Operation) (o : Operand) (p : Parts) → keeps_outputs w o p.own.inner.bindings ≡ true
-    → IfDone (PartsStay p) (does w o p)
-unfolding does
-does_stays operation.Nop o p h = refl
-does_stays operation.Bld o p h = refl
-does_stays (operation.Check with) o p h = regs_stay p _
-does_stays operation.OrBare o p h = refl
-does_stays (operation.Nest with) o p h = own_stays p _
-does_stays operation.Unnest o p h = own_stays p _
-does_stays (operation.Relay which) o p h = own_stays p (relayed which p.own)
-does_stays operation.Load o p h = regs_stay p _
-does_stays operation.Transfer o p h = scene_stays p (transferring o p.own p.memory) (transferred_stays (if closed p.own then 0 else p.own.regs.a1) o p.own p.memory h)
-does_stays operation.Assign o p h = scene_stays p (assigned o p.own p.memory) (assigned_stays o p.own p.memory h)
-does_stays operation.Set o p h = set_of_stays (kind_named o) o p h
-does_stays operation.Reset o p h = reset_of_stays (kind_named o) o p h
-does_stays (operation.Edge rising) o p h = scene_stays p (edge rising o p.own p.memory) (edge_stays rising o p.own p.memory h)
-does_stays operation.SetRlo o p h = refl
-does_stays operation.ClearRlo o p h = refl
-does_stays operation.NegateRlo o p h = refl
-does_stays operation.SaveRlo o p h = refl
-does_stays operation.LoadBcd o p h = regs_stay p _
-does_stays operation.LoadStatus o p h = refl
-does_stays operation.TransferStatus o p h = refl
-does_stays operation.LoadOpenBlock o p h = regs_stay p _
-does_stays (operation.Pointer what) o p h = scene_stays p (pointed what o p.own p.memory) (pointed_stays what o p.own p.memory h)
-does_stays (operation.Number what) o p h = regs_stay p _
-does_stays (operation.Add what) o p h = refl
-does_stays (operation.CompareInt how) o p h = refl
-does_stays (operation.CompareDint how) o p h = refl
-does_stays (operation.Logic what) o p h = refl
-does_stays (operation.Shift what) o p h = refl
-does_stays (operation.Start how) o p h = timers_stay p _
-does_stays operation.Free o p h = free_of_stays (kind_named o) o p
-does_stays operation.CountUp o p h = counters_stay p _
-does_stays operation.CountDown o p h = counters_stay p _
-does_stays operation.OpenBlock o p h = own_stays p _
-does_stays operation.Exchange o p h = refl
-does_stays operation.Jump o p h = tt
-does_stays (operation.Call how) o p h = tt
-does_stays (operation.End how) o p h = tt
-does_stays operation.UseDb o p h = tt
-does_stays operation.Pass o p h = tt
-does_stays operation.NoOperation o p h = tt
+effect_stays :
+    (w : Operation) (o : Operand) (p : ExecState) → keeps_outputs w o p.local.inner.bindings ≡ true
+    → IfDone (StateStays p) (effect w o p)
+unfolding effect
+effect_stays operation.Nop o p h = refl
+effect_stays operation.Bld o p h = refl
+effect_stays (operation.Check with) o p h = regs_stay p _
+effect_stays operation.OrBare o p h = refl
+effect_stays (operation.Nest with) o p h = own_stays p _
+effect_stays operation.Unnest o p h = own_stays p _
+effect_stays (operation.Relay which) o p h = own_stays p (relayed which p.local)
+effect_stays operation.Load o p h = regs_stay p _
+effect_stays operation.Transfer o p h = scene_stays p (transferring o p.local p.memory) (transferred_stays (if closed p.local then 0 else p.local.regs.a1) o p.local p.memory h)
+effect_stays operation.Assign o p h = scene_stays p (assigned o p.local p.memory) (assigned_stays o p.local p.memory h)
+effect_stays operation.Set o p h = set_of_stays (kind_named o) o p h
+effect_stays operation.Reset o p h = reset_of_stays (kind_named o) o p h
+effect_stays (operation.Edge rising) o p h = scene_stays p (edge rising o p.local p.memory) (edge_stays rising o p.local p.memory h)
+effect_stays operation.SetRlo o p h = refl
+effect_stays operation.ClearRlo o p h = refl
+effect_stays operation.NegateRlo o p h = refl
+effect_stays operation.SaveRlo o p h = refl
+effect_stays operation.LoadBcd o p h = regs_stay p _
+effect_stays operation.LoadStatus o p h = refl
+effect_stays operation.TransferStatus o p h = refl
+effect_stays operation.LoadOpenBlock o p h = regs_stay p _
+effect_stays (operation.Pointer what) o p h = scene_stays p (pointed what o p.local p.memory) (pointed_stays what o p.local p.memory h)
+effect_stays (operation.Number what) o p h = regs_stay p _
+effect_stays (operation.Add what) o p h = refl
+effect_stays (operation.CompareInt how) o p h = refl
+effect_stays (operation.CompareDint how) o p h = refl
+effect_stays (operation.Logic what) o p h = refl
+effect_stays (operation.Shift what) o p h = refl
+effect_stays (operation.Start how) o p h = timers_stay p _
+effect_stays operation.Free o p h = free_of_stays (kind_named o) o p
+effect_stays operation.CountUp o p h = counters_stay p _
+effect_stays operation.CountDown o p h = counters_stay p _
+effect_stays operation.OpenBlock o p h = own_stays p _
+effect_stays operation.Exchange o p h = refl
+effect_stays operation.Jump o p h = tt
+effect_stays (operation.Call how) o p h = tt
+effect_stays (operation.End how) o p h = tt
+effect_stays operation.UseDb o p h = tt
+effect_stays operation.Pass o p h = tt
+effect_stays operation.NoOperation o p h = tt
 
-pub does_with_stays :
-    (use_db : Option ℕ) (w : Operation) (o : Operand) (p : Parts) → keeps_outputs w o p.own.inner.bindings ≡ true
-    → IfDone (PartsStay p) (does_with use_db w o p)
-unfolding does_with
-does_with_stays None w o p h = does_stays w o p h
-does_with_stays (Some number) w o p h = by (is_loaded number p.memory)
+pub effect_with_stays :
+    (use_db : Option ℕ) (w : Operation) (o : Operand) (p : ExecState) → keeps_outputs w o p.local.inner.bindings ≡ true
+    → IfDone (StateStays p) (effect_with use_db w o p)
+unfolding effect_with
+effect_with_stays None w o p h = effect_stays w o p h
+effect_with_stays (Some number) w o p h = by (is_loaded number p.memory)
   where
-    by : (loaded : Bool) → IfDone (PartsStay p) (if loaded then does w o (with_db number p) else Err 0x3A)
-    by true = does_stays w o (with_db number p) h
+    by : (loaded : Bool) → IfDone (StateStays p) (if loaded then effect w o (with_db number p) else Err 0x3A)
+    by true = effect_stays w o (with_db number p) h
     by false = tt
 
 -- ---- parameters of a function block that come in
 
 put_in_stays :
-    (to : Bound) (n : ℕ) (c : Scene) → is_peripheral to.place.area ≡ false → Stay c.memory (put to n c).memory
-put_in_stays to n c inside = by (write to (n % 2 ^ bit_count to.width) c.own c.memory) (write_stays to _ c.own c.memory inside)
+    (to : Location) (n : ℕ) (c : LocalMemory) → is_peripheral to.place.area ≡ false → Stay c.memory (put to n c).memory
+put_in_stays to n c inside = by (write to (n % 2 ^ bit_count to.width) c.local c.memory) (write_stays to _ c.local c.memory inside)
   where
-    by : (r : Result Scene ℕ) → IfDone (SceneStays c.memory) r → Stay c.memory (scene_or c r).memory
+    by : (r : Result LocalMemory ℕ) → IfDone (MemoryStays c.memory) r → Stay c.memory (scene_or c r).memory
     by (Ok after) stays = stays
     by (Err e) stays = refl
 
 passed_stays :
-    (b : Option Binding) (to : Bound) (c : Scene) → is_peripheral to.place.area ≡ false
+    (b : Option Binding) (to : Location) (c : LocalMemory) → is_peripheral to.place.area ≡ false
     → Stay c.memory (passed_to b to c).memory
 unfolding passed_to copied
 passed_stays (Some (binding.Bound place width frame)) to c inside = put_in_stays to _ c inside
@@ -418,7 +418,7 @@ passed_stays (Some (binding.Constant value)) to c inside = put_in_stays to value
 passed_stays (Some binding.Unsupplied) to c inside = refl
 passed_stays None to c inside = refl
 
-param_stays : (p : Param) (b : Option Binding) (instance : ℕ) (c : Scene) → Stay c.memory (param_in p b instance c).memory
+param_stays : (p : Param) (b : Option Binding) (instance : ℕ) (c : LocalMemory) → Stay c.memory (param_in p b instance c).memory
 param_stays p b instance c = by (comes_in p)
   where
     by : (comes : Bool) → Stay c.memory (if comes then passed_to b (in_instance p instance) c else c).memory
@@ -426,7 +426,7 @@ param_stays p b instance c = by (comes_in p)
     by false = refl
 
 pub params_in_stay :
-    (params : List Param) (index : ℕ) (bindings : List Binding) (instance : ℕ) (c : Scene)
+    (params : List Param) (index : ℕ) (bindings : List Binding) (instance : ℕ) (c : LocalMemory)
     → Stay c.memory (params_in params index bindings instance c).memory
 params_in_stay [] index bindings instance c = refl
 params_in_stay (p ∷ rest) index bindings instance c =

@@ -32,11 +32,10 @@ use Rattle.machine.specs.Code.{Code, Head}
 use Rattle.machine.specs.Fitting.{OpenCodes, FrameFits, FramesFit, FitsBlock, Fits}
 use Rattle.flat_code.specs.Forms.{is_callable, kind_of_code, payload_fits}
 use Rattle.machine.specs.Flat.{Run, run_at, run_with, with_op, most_ops, code_of, head_of, call_instr, instr_of, fetched_of, use_db_of, passings_of, statement_at}
-use Rattle.machine.specs.Statement.{World, statement, Goes}
+use Rattle.machine.specs.Statement.{World, statement, IsNotStuck}
 use Rattle.machine.specs.There.{is_callee, is_there, is_complete}
-use Rattle.machine.proofs.Completing.{jump_is_there}
-use Rattle.machine.proofs.Fetching.{none_some}
-use Rattle.machine.proofs.Going.{fetched_goes}
+use Rattle.machine.proofs.FetchLemmas.{none_some}
+use Rattle.machine.proofs.Going.{fetched_goes, jump_is_there}
 
 -- the last op of a statement stands at some offset
 abbrev HasLast : List OpData → Run → Type 0
@@ -276,7 +275,7 @@ frame_goes :
     (p : Program) (brackets : OpenCodes) (m : Areas) (a : Activation) (w : World) → Verifies p
     → OpsArePlaced → OpsAreOfTable → CallsFit → CalledAreThere
     → FrameFits (code_of p) brackets m a.below a.running.frame
-    → Goes (statement (code_of p) a w)
+    → IsNotStuck (statement (code_of p) a w)
 unfolding statement
 frame_goes p brackets m a w verifies placed_law table_law calls_law called_law fits =
     let own : BlockId = a.running.frame.block
@@ -295,7 +294,7 @@ innermost_fits c brackets m a false is e fits = fits.0
 pub fits_goes :
     (p : Program) (brackets : OpenCodes) (m : Areas) (a : Activation) (w : World) → Verifies p
     → OpsArePlaced → OpsAreOfTable → CallsFit → CalledAreThere → Fits (code_of p) brackets m a
-    → Goes (statement (code_of p) a w)
+    → IsNotStuck (statement (code_of p) a w)
 fits_goes p brackets m a w verifies placed_law table_law calls_law called_law fits =
     frame_goes p brackets m a w verifies placed_law table_law calls_law called_law
     (innermost_fits (code_of p) brackets m a a.left refl fits.stands fits.frames)

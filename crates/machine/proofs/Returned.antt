@@ -7,8 +7,8 @@ use Rattle.frames.specs.declared.bindings.Binding.TheVariants as binding
 use Rattle.frames.specs.declared.frame.Frame.{Frame}
 use Rattle.flat_code.specs.declared.programs.Param.{Param}
 use Rattle.flat_code.specs.Programs.{Program}
-use Rattle.machine.specs.declared.places.Bound.{Bound}
-use Rattle.machine.specs.Parts.{Scene, own_of, scene_of, with_own}
+use Rattle.machine.specs.declared.places.Location.{Location}
+use Rattle.machine.specs.ExecState.{LocalMemory, local_of, local_memory_of, with_local}
 use Rattle.machine.specs.Places.{number_in}
 use Rattle.machine.specs.Values.{write}
 use Rattle.machine.specs.Code.{Head}
@@ -27,10 +27,10 @@ use Rattle.machine.proofs.Staying.{frames_still}
 
 -- ---- copies
 
-abbrev Kept : Scene → Scene → Type 0
-Kept c d = KeepsScene c.own c.memory d
+abbrev Kept : LocalMemory → LocalMemory → Type 0
+Kept c d = KeepsScene c.local c.memory d
 
-kept_then : (c d e : Scene) → Kept c d → Kept d e → Kept c e
+kept_then : (c d e : LocalMemory) → Kept c d → Kept d e → Kept c e
 kept_then c d e first second = record {
   inner = second.inner ∙ first.inner;
   starts = second.starts ∙ first.starts;
@@ -38,47 +38,47 @@ kept_then c d e first second = record {
   memory = sizes_then c.memory d.memory e.memory first.memory second.memory;
 }
 
-scene_or_kept : (c : Scene) (r : Result Scene ℕ) → IfDone (KeepsScene c.own c.memory) r → Kept c (scene_or c r)
+scene_or_kept : (c : LocalMemory) (r : Result LocalMemory ℕ) → IfDone (KeepsScene c.local c.memory) r → Kept c (scene_or c r)
 scene_or_kept c (Ok d) kept = kept
-scene_or_kept c (Err e) kept = same_scene c.own c.memory
+scene_or_kept c (Err e) kept = same_scene c.local c.memory
 
-pub put_kept : (to : Bound) (n : ℕ) (c : Scene) → Kept c (put to n c)
-put_kept to n c = scene_or_kept c (write to (n % 2 ^ bit_count to.width) c.own c.memory) (write_keeps to _ c.own c.memory)
+pub put_kept : (to : Location) (n : ℕ) (c : LocalMemory) → Kept c (put to n c)
+put_kept to n c = scene_or_kept c (write to (n % 2 ^ bit_count to.width) c.local c.memory) (write_keeps to _ c.local c.memory)
 
-copied_kept : (from to : Bound) (c : Scene) → Kept c (copied from to c)
+copied_kept : (from to : Location) (c : LocalMemory) → Kept c (copied from to c)
 unfolding copied
-copied_kept from to c = put_kept to (unwrap_or (number_in from c.own.locals c.memory) 0) c
+copied_kept from to c = put_kept to (unwrap_or (number_in from c.local.locals c.memory) 0) c
 
-passed_kept : (b : Option Binding) (to : Bound) (c : Scene) → Kept c (passed_to b to c)
+passed_kept : (b : Option Binding) (to : Location) (c : LocalMemory) → Kept c (passed_to b to c)
 unfolding passed_to
 passed_kept (Some (binding.Bound place width frame)) to c = copied_kept (record { place = place; width = width; frame = frame }) to c
 passed_kept (Some (binding.Constant value)) to c = put_kept to value c
-passed_kept (Some binding.Unsupplied) to c = same_scene c.own c.memory
-passed_kept None to c = same_scene c.own c.memory
+passed_kept (Some binding.Unsupplied) to c = same_scene c.local c.memory
+passed_kept None to c = same_scene c.local c.memory
 
-given_kept : (from : Bound) (b : Option Binding) (c : Scene) → Kept c (given_to from b c)
+given_kept : (from : Location) (b : Option Binding) (c : LocalMemory) → Kept c (given_to from b c)
 unfolding given_to
 given_kept from (Some (binding.Bound place width frame)) c = copied_kept from (record { place = place; width = width; frame = frame }) c
-given_kept from (Some (binding.Constant value)) c = same_scene c.own c.memory
-given_kept from (Some binding.Unsupplied) c = same_scene c.own c.memory
-given_kept from None c = same_scene c.own c.memory
+given_kept from (Some (binding.Constant value)) c = same_scene c.local c.memory
+given_kept from (Some binding.Unsupplied) c = same_scene c.local c.memory
+given_kept from None c = same_scene c.local c.memory
 
-either_kept : (test : Bool) (c d : Scene) → Kept c d → Kept c (if test then d else c)
+either_kept : (test : Bool) (c d : LocalMemory) → Kept c d → Kept c (if test then d else c)
 either_kept true c d kept = kept
-either_kept false c d kept = same_scene c.own c.memory
+either_kept false c d kept = same_scene c.local c.memory
 
-pub params_in_kept : (ps : List Param) (i : ℕ) (bs : List Binding) (instance : ℕ) (c : Scene) → Kept c (params_in ps i bs instance c)
-params_in_kept [] i bs instance c = same_scene c.own c.memory
+pub params_in_kept : (ps : List Param) (i : ℕ) (bs : List Binding) (instance : ℕ) (c : LocalMemory) → Kept c (params_in ps i bs instance c)
+params_in_kept [] i bs instance c = same_scene c.local c.memory
 params_in_kept (p ∷ ps) i bs instance c =
-    let d : Scene = param_in p (slice_get bs i) instance c in
+    let d : LocalMemory = param_in p (slice_get bs i) instance c in
     kept_then c d (params_in ps (i + 1) bs instance d)
     (either_kept (comes_in p) c (passed_to (slice_get bs i) (in_instance p instance) c) (passed_kept (slice_get bs i) (in_instance p instance) c))
     (params_in_kept ps (i + 1) bs instance d)
 
-pub params_out_kept : (ps : List Param) (i : ℕ) (bs : List Binding) (instance : ℕ) (c : Scene) → Kept c (params_out ps i bs instance c)
-params_out_kept [] i bs instance c = same_scene c.own c.memory
+pub params_out_kept : (ps : List Param) (i : ℕ) (bs : List Binding) (instance : ℕ) (c : LocalMemory) → Kept c (params_out ps i bs instance c)
+params_out_kept [] i bs instance c = same_scene c.local c.memory
 params_out_kept (p ∷ ps) i bs instance c =
-    let d : Scene = param_out p (slice_get bs i) instance c in
+    let d : LocalMemory = param_out p (slice_get bs i) instance c in
     kept_then c d (params_out ps (i + 1) bs instance d)
     (either_kept (goes_out p) c (given_to (in_instance p instance) (slice_get bs i) c) (given_kept (in_instance p instance) (slice_get bs i) c))
     (params_out_kept ps (i + 1) bs instance d)
@@ -86,23 +86,23 @@ params_out_kept (p ∷ ps) i bs instance c =
 -- ---- a return
 
 stage_lasts :
-    (p : Program) (a : Activation) (w : World) (c : Scene) (below : List Frame) → a.below ≡ below
-    → KeepsScene (own_of a.running) w.memory c → FitsProgram p w.memory a
-    → Lasts p w (after_return (left below (record { activation = record a { running = with_own a.running c.own }; memory = c.memory })) w)
+    (p : Program) (a : Activation) (w : World) (c : LocalMemory) (below : List Frame) → a.below ≡ below
+    → KeepsScene (local_of a.running) w.memory c → FitsProgram p w.memory a
+    → Lasts p w (after_return (left below (record { activation = record a { running = with_local a.running c.local }; memory = c.memory })) w)
 stage_lasts p a w c [] is kept h = kept.memory
 stage_lasts p a w c (caller ∷ rest) is kept h =
     let code = code_of p in
     let brackets = open_codes p in
     let was = stands_of code brackets w.memory a h.fits in
     let frames = frames_still code brackets w.memory c.memory (caller ∷ rest) kept.memory (rw is at was.below) in
-    let locals = locals_closed a.running.frame (caller ∷ rest) c.own.locals
-    (locals_kept (a.running.frame ∷ caller ∷ rest) a.running.locals c.own.locals kept.starts kept.len (rw is at was.locals)) in
+    let locals = locals_closed a.running.frame (caller ∷ rest) c.local.locals
+    (locals_kept (a.running.frame ∷ caller ∷ rest) a.running.locals c.local.locals kept.starts kept.len (rw is at was.locals)) in
     record {
       sizes = kept.memory;
       fits = record {
         memory = memory_stays code w.memory c.memory h.memory kept.memory;
         fits = fits_of code brackets c.memory
-            (left_to caller rest (record a { running = with_own a.running c.own }))
+            (left_to caller rest (record a { running = with_local a.running c.local }))
             (record { left = was.left; frame = frames.0; below = frames.1; locals = locals });
       };
     }
@@ -114,10 +114,10 @@ unfolding returning
 returning_lasts p ps a w h = by a.running.frame.instance
   where
     by : (o : Option ℕ) → Lasts p w (after_return (left a.below (given_back o ps a w.memory)) w)
-    by None = stage_lasts p a w (scene_of a.running w.memory) a.below refl (same_scene (own_of a.running) w.memory) h
+    by None = stage_lasts p a w (local_memory_of a.running w.memory) a.below refl (same_scene (local_of a.running) w.memory) h
     by (Some instance) =
-        stage_lasts p a w (params_out ps 0 a.running.frame.bindings instance (scene_of a.running w.memory)) a.below refl
-        (params_out_kept ps 0 a.running.frame.bindings instance (scene_of a.running w.memory)) h
+        stage_lasts p a w (params_out ps 0 a.running.frame.bindings instance (local_memory_of a.running w.memory)) a.below refl
+        (params_out_kept ps 0 a.running.frame.bindings instance (local_memory_of a.running w.memory)) h
 
 pub returned_lasts :
     (p : Program) (a : Activation) (w : World) → FitsProgram p w.memory a

@@ -14,7 +14,7 @@ use Rattle.frames.specs.declared.bindings.Binding.TheVariants as binding
 use Rattle.frames.specs.declared.frame.Frame.{Frame}
 use Rattle.flat_code.specs.declared.programs.Param.{Param}
 use Rattle.flat_code.specs.Programs.{Program}
-use Rattle.machine.specs.declared.places.Bound.{Bound}
+use Rattle.machine.specs.declared.places.Location.{Location}
 use Rattle.machine.specs.Code.{Code, Head}
 use Rattle.machine.specs.Fitting.{OpenCodes, ExistsIn, IsBound, AreBound, IsOpen, IsLong, HasInstance, FitsBlock, FrameFits, FramesFit, Fits, SameSizes}
 use Rattle.machine.specs.Flat.{code_of}
@@ -22,7 +22,7 @@ use Rattle.machine.specs.Lasting.{FitsProgram}
 use Rattle.machine.proofs.Sizes.{numbers_there, memory_stays}
 
 pub exists_still :
-    (area : Area) (at : Bound) (below : List Frame) (m n : Areas) → SameSizes m n → ExistsIn area at below m
+    (area : Area) (at : Location) (below : List Frame) (m n : Areas) → SameSizes m n → ExistsIn area at below m
     → ExistsIn area at below n
 exists_still areas.L at below m n same h = h
 exists_still areas.I at below m n same h = numbers_there m n at.place at.width same h

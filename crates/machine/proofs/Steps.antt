@@ -1,16 +1,18 @@
 -- What a call of the machine's parts leaves is what comes of the statement.
-use Rattle.std.proofs.Common.{◌≡◌, ℕ, true, List, Result, Ok, Err, ap}
+use Rattle.std.proofs.Common.{◌≡◌, ◌∙◌, ℕ, Bool, true, false, List, Result, Ok, Err, refl, sym, ap}
 use Rattle.plc_mem.specs.Areas.{Areas}
 use Rattle.timers_counters.specs.Timer.{Timer}
 use Rattle.timers_counters.specs.Counter.{Counter}
 use Rattle.frames.specs.declared.Activation.{Activation}
+use Rattle.frames.specs.declared.FrameFault.{FrameFault}
 use Rattle.frames.specs.declared.running.Running.{Running}
+use Rattle.machine.specs.declared.outcomes.Outcome.{Outcome}
 use Rattle.machine.specs.declared.outcomes.Outcome.TheVariants as outcome
-use Rattle.machine.specs.Parts.{Parts}
+use Rattle.machine.specs.ExecState.{ExecState}
 use Rattle.machine.specs.Outcomes.{Meets}
 use Rattle.machine.specs.Entering.{Call, Fails, Stops, Enters, Calls}
 use Rattle.machine.specs.Returning.{Return, GoesOn, Ends, Returns}
-use Rattle.machine.specs.Statement.{world, went_on, after_call, after_return, Comes}
+use Rattle.machine.specs.Statement.{Step, Went, Ended, SyncError, SysCall, Stop, Stuck, World, world, advance, cause_of, continue_with, after_call, after_return, is_error, IsNotStuck, IsOutcomeOf, IsPerformed}
 
 abbrev pub moved_to : ℕ → Activation → Running → Activation
 moved_to next a s =
@@ -21,34 +23,108 @@ worlds :
     → m' ≡ m → t' ≡ t → n' ≡ n → world m' t' n' ≡ world m t n
 worlds a b c = cc
 
-pub went_comes :
-    (e : Result Parts ℕ) (next : ℕ) (a : Activation) (s : Running) (m m' : Areas) (t t' : List Timer) (n n' : List Counter)
-    → Meets e a.running s m m' t t' n n' (Ok tt)
-    → Comes (went_on e next a) a (moved_to next a s) (world m t n) (world m' t' n') outcome.Went
-went_comes (Ok p) next a s m m' t t' n n' h =
+-- ---- an instruction that touches no position
+
+pub went_performs :
+    (e : Result ExecState ℕ) (next : ℕ) (a : Activation) (s : Running) (m m' : Areas) (t t' : List Timer) (n n' : List Counter)
+    (other : Outcome) → Meets e a.running s m m' t t' n n' (Ok tt)
+    → IsPerformed (continue_with e next a) next a (moved_to next a s) (world m t n) (world m' t' n') true other
+went_performs (Ok p) next a s m m' t t' n n' other h =
     (ap (moved_to next a) h.0, worlds h.1 h.2 h.3)
-went_comes (Err e) next a s m m' t t' n n' h = absurd h
+went_performs (Err e) next a s m m' t t' n n' other h = absurd h
 
-pub failed_comes :
-    (e : Result Parts ℕ) (next : ℕ) (a : Activation) (s : Running) (m m' : Areas) (t t' : List Timer) (n n' : List Counter) (code : ℕ)
+pub failed_performs :
+    (e : Result ExecState ℕ) (next : ℕ) (a : Activation) (s : Running) (m m' : Areas) (t t' : List Timer) (n n' : List Counter) (code : ℕ)
     → Meets e a.running s m m' t t' n n' (Err code)
-    → Comes (went_on e next a) a (moved_to next a s) (world m t n) (world m' t' n') (outcome.SyncError code)
-failed_comes (Ok p) next a s m m' t t' n n' code h = absurd h
-failed_comes (Err e) next a s m m' t t' n n' code h =
-    (h.0, ap (moved_to next a) h.1, worlds h.2 h.3 h.4)
+    → IsPerformed (continue_with e next a) next a (record a { running = s }) (world m t n) (world m' t' n') false (outcome.SyncError code)
+failed_performs (Ok p) next a s m m' t t' n n' code h = absurd h
+failed_performs (Err e) next a s m m' t t' n n' code h =
+    (h.0, refl, ap (λ (z : Running). let r : Activation = record a { running = z } in r) h.1.0, worlds h.1.1 h.1.2 h.1.3)
 
-pub call_comes :
-    (c : Call) (next : ℕ) (a after : Activation) (m m' : Areas) (t : List Timer) (n : List Counter)
+-- ---- calls and returns
+
+pub call_performs :
+    (c : Call) (next : ℕ) (a after : Activation) (m m' : Areas) (t : List Timer) (n : List Counter) (other : Outcome)
     → Calls c a after m m' (Ok tt)
-    → Comes (after_call c next a (world m t n)) a after (world m t n) (world m' t n) outcome.Went
-call_comes (Fails code) next a after m m' t n h = absurd h
-call_comes (Stops fault) next a after m m' t n h = absurd h
-call_comes (Enters to memory) next a after m m' t n h =
+    → IsPerformed (after_call c next a (world m t n)) next a after (world m t n) (world m' t n) true other
+call_performs (Fails code) next a after m m' t n other h = absurd h
+call_performs (Stops fault) next a after m m' t n other h = absurd h
+call_performs (Enters to memory) next a after m m' t n other h =
     (h.0, ap (λ z. world z t n) h.1)
 
-pub return_comes :
-    (r : Return) (a after : Activation) (m m' : Areas) (t : List Timer) (n : List Counter)
+pub call_stops :
+    (c : Call) (next : ℕ) (a after : Activation) (m m' : Areas) (t : List Timer) (n : List Counter) (fault : FrameFault)
+    (cause : ℕ) → cause ≡ cause_of fault → Calls c a after m m' (Err fault)
+    → IsPerformed (after_call c next a (world m t n)) next a after (world m t n) (world m' t n) false (outcome.Stop cause)
+call_stops (Fails code) next a after m m' t n fault cause is h = absurd h
+call_stops (Stops why) next a after m m' t n fault cause is h =
+    (is ∙ ap cause_of h.0, h.1, ap (λ z. world z t n) h.2)
+call_stops (Enters to memory) next a after m m' t n fault cause is h = absurd h
+
+pub return_performs :
+    (r : Return) (next : ℕ) (a after : Activation) (m m' : Areas) (t : List Timer) (n : List Counter) (other : Outcome)
     → Returns r a after m' true
-    → Comes (after_return r (world m t n)) a after (world m t n) (world m' t n) outcome.Went
-return_comes (GoesOn to memory) a after m m' t n h = (h.0, ap (λ z. world z t n) h.1)
-return_comes (Ends regs memory) a after m m' t n h = absurd h
+    → IsPerformed (after_return r (world m t n)) next a after (world m t n) (world m' t n) true other
+return_performs (GoesOn to memory) next a after m m' t n other h = (h.0, ap (λ z. world z t n) h.1)
+return_performs (Ends regs memory) next a after m m' t n other h = absurd h
+
+pub return_ends :
+    (r : Return) (next : ℕ) (a after : Activation) (m m' : Areas) (t : List Timer) (n : List Counter)
+    → Returns r a after m' false
+    → IsPerformed (after_return r (world m t n)) next a after (world m t n) (world m' t n) false outcome.Ended
+return_ends (GoesOn to memory) next a after m m' t n h = absurd h
+return_ends (Ends regs memory) next a after m m' t n h = (h.0, ap (λ z. world z t n) h.1)
+
+-- ---- a statement: its instruction was performed
+
+pub goes_comes :
+    (step : Step) (next : ℕ) (old new : Activation) (w v : World) (other : Outcome) → IsNotStuck step
+    → IsPerformed step next old new w v true other → IsOutcomeOf step old new w v outcome.Went
+goes_comes (Went a after) next old new w v other there h = h
+goes_comes (Ended regs after) next old new w v other there h = absurd h
+goes_comes (SyncError code a) next old new w v other there h = absurd h
+goes_comes (SysCall number given a) next old new w v other there h = absurd h
+goes_comes (Stop cause) next old new w v other there h = absurd h
+goes_comes Stuck next old new w v other there h = absurd there
+
+-- a synchronous error goes on at the next statement
+pub error_comes :
+    (step : Step) (next : ℕ) (old new : Activation) (w v : World) (other : Outcome) → is_error other ≡ true → IsNotStuck step
+    → IsPerformed step next old new w v false other → IsOutcomeOf step old (advance next new) w v other
+error_comes (Went a after) next old new w v other error there h = absurd h
+error_comes (Ended regs after) next old new w v (outcome.SyncError code) error there h = absurd h
+error_comes (Ended regs after) next old new w v outcome.Ended error there h = absurd cc
+error_comes (Ended regs after) next old new w v outcome.Went error there h = absurd h
+error_comes (Ended regs after) next old new w v (outcome.SysCall function inputs result) error there h = absurd h
+error_comes (Ended regs after) next old new w v (outcome.Stop answer) error there h = absurd h
+error_comes (SyncError code a) next old new w v (outcome.SyncError answer) error there h =
+    (h.0, ap (advance next) h.2 ∙ sym h.1, h.3)
+error_comes (SyncError code a) next old new w v outcome.Went error there h = absurd h
+error_comes (SyncError code a) next old new w v outcome.Ended error there h = absurd h
+error_comes (SyncError code a) next old new w v (outcome.SysCall function inputs result) error there h = absurd h
+error_comes (SyncError code a) next old new w v (outcome.Stop answer) error there h = absurd h
+error_comes (SysCall number given a) next old new w v (outcome.SyncError code) error there h = absurd h
+error_comes (SysCall number given a) next old new w v outcome.Ended error there h = absurd h
+error_comes (SysCall number given a) next old new w v outcome.Went error there h = absurd h
+error_comes (SysCall number given a) next old new w v (outcome.SysCall function inputs result) error there h = absurd cc
+error_comes (SysCall number given a) next old new w v (outcome.Stop answer) error there h = absurd h
+error_comes (Stop cause) next old new w v (outcome.SyncError code) error there h = absurd h
+error_comes (Stop cause) next old new w v outcome.Ended error there h = absurd h
+error_comes (Stop cause) next old new w v outcome.Went error there h = absurd h
+error_comes (Stop cause) next old new w v (outcome.SysCall function inputs result) error there h = absurd h
+error_comes (Stop cause) next old new w v (outcome.Stop answer) error there h = absurd cc
+error_comes Stuck next old new w v other error there h = absurd there
+
+pub other_comes :
+    (step : Step) (next : ℕ) (old new : Activation) (w v : World) (other : Outcome) → is_error other ≡ false → IsNotStuck step
+    → IsPerformed step next old new w v false other → IsOutcomeOf step old new w v other
+other_comes (Went a after) next old new w v other error there h = absurd h
+other_comes (Ended regs after) next old new w v other error there h = h
+other_comes (SyncError code a) next old new w v (outcome.SyncError answer) error there h = absurd cc
+other_comes (SyncError code a) next old new w v outcome.Went error there h = absurd h
+other_comes (SyncError code a) next old new w v outcome.Ended error there h = absurd h
+other_comes (SyncError code a) next old new w v (outcome.SysCall function inputs result) error there h = absurd h
+other_comes (SyncError code a) next old new w v (outcome.Stop answer) error there h = absurd h
+other_comes (SysCall number given a) next old new w v other error there h = h
+other_comes (Stop cause) next old new w v other error there h = h
+other_comes Stuck next old new w v other error there h = absurd there

@@ -29,7 +29,7 @@ use Rattle.flat_code.specs.declared.programs.Param.{Param}
 use Rattle.flat_code.specs.Instr.{Passing}
 use Rattle.flat_code.specs.Programs.{CodeBlock, Program}
 use Rattle.image_file.specs.Readers.{block_of}
-use Rattle.machine.specs.declared.places.Bound.{Bound}
+use Rattle.machine.specs.declared.places.Location.{Location}
 use Rattle.machine.specs.Bindings.{bindings_of}
 use Rattle.machine.specs.Entering.{at_block, going_on}
 use Rattle.machine.specs.Fitting.{ExistsIn, IsBound, AreBound, IsMemoryOf, LocalsFit, SameParts}
@@ -37,7 +37,7 @@ use Rattle.machine.specs.Flat.{code_of}
 use Rattle.machine.specs.ImageLaws.{ImageLaws}
 use Rattle.machine.specs.Lasting.{Lasts, FitWidths, TakesResult, input_widths}
 use Rattle.machine.specs.OpenBrackets.{open_codes}
-use Rattle.machine.specs.Parts.{Own, Scene, own_of, then_ok}
+use Rattle.machine.specs.ExecState.{Local, LocalMemory, local_of, then_ok}
 use Rattle.machine.specs.Places.{is_local, number_in}
 use Rattle.machine.specs.Statement.{World, after_system_call, system_called}
 use Rattle.machine.specs.SystemCalls.{given_by, input_of, inputs_from, result_from, system_call, system_function}
@@ -106,18 +106,18 @@ writable m place width value w there =
     writes.1 (each_writable m place.area place width w.outputs (reads.0 there))
 
 stored_there :
-    (frames : List Frame) (m : Areas) (at : Bound) (value : ℕ) (s : Own) → LocalsFit frames s.locals → Written m
+    (frames : List Frame) (m : Areas) (at : Location) (value : ℕ) (s : Local) → LocalsFit frames s.locals → Written m
     → ExistsIn at.place.area at frames m → IsSome (stored_at at value s m)
 stored_there frames m at value s fits w exists = by at.place.area exists
   where
     in_memory : IsSome (number_at m at.place at.width)
-        → IsSome (option_map (λ (memory : Areas). let r : Scene = record { own = s; memory = memory } in r) (written m at.place at.width value))
+        → IsSome (option_map (λ (memory : Areas). let r : LocalMemory = record { local = s; memory = memory } in r) (written m at.place at.width value))
     in_memory there = mapped_there _ (written m at.place at.width value) (writable m at.place at.width value w there)
 
     by : (area : Area) → ExistsIn area at frames m
         → IsSome (cond (is_local area)
-        (option_map (λ (l : LocalData). let r : Scene = record { own = with_locals s l; memory = m } in r) (local_written s.locals at.frame at.place.byte at.place.bit at.width value))
-        (option_map (λ (memory : Areas). let r : Scene = record { own = s; memory = memory } in r) (written m at.place at.width value)))
+        (option_map (λ (l : LocalData). let r : LocalMemory = record { local = with_locals s l; memory = m } in r) (local_written s.locals at.frame at.place.byte at.place.bit at.width value))
+        (option_map (λ (memory : Areas). let r : LocalMemory = record { local = s; memory = memory } in r) (written m at.place at.width value)))
     by areas.L exists =
         mapped_there _ (local_written s.locals at.frame at.place.byte at.place.bit at.width value)
         (lies_written frames s.locals at.frame at.place.byte at.place.bit value at.width fits exists)
@@ -143,7 +143,7 @@ local_fits l frame at bit width n is =
     let found = chained (λ (place : ℕ). number_over (slice_get l.bytes) place bit width) (lies_within l frame at width) n is in
     over_fits (slice_get l.bytes) found.0 bit width (Some n) (sym found.2)
 
-place_fits : (at : Bound) (l : LocalData) (m : Areas) (n : ℕ) → number_in at l m ≡ Some n → n < 2 ^ bit_count at.width
+place_fits : (at : Location) (l : LocalData) (m : Areas) (n : ℕ) → number_in at l m ≡ Some n → n < 2 ^ bit_count at.width
 place_fits at l m n is = by (is_local at.place.area) is
   where
     by : (local : Bool) → cond local (local_number l at.frame at.place.byte at.place.bit at.width) (number_at m at.place at.width) ≡ Some n → n < 2 ^ bit_count at.width
@@ -151,7 +151,7 @@ place_fits at l m n is = by (is_local at.place.area) is
     by false is = number_fits m at.place at.width n is
 
 given_fits :
-    (p : Param) (frames : List Frame) (m : Areas) (b : Binding) (s : Own) → IsBound kinds.Fc p frames m b
+    (p : Param) (frames : List Frame) (m : Areas) (b : Binding) (s : Local) → IsBound kinds.Fc p frames m b
     → input_of (Some b) s m < 2 ^ bit_count p.width
 given_fits p frames m (binding.Bound at width frame) s is =
     by (number_in (record { place = at; width = width; frame = frame }) s.locals m) refl
@@ -163,7 +163,7 @@ given_fits p frames m (binding.Constant value) s is = is.1
 given_fits p frames m binding.Unsupplied s is = absurd is
 
 inputs_fit :
-    (ps : List Param) (frames : List Frame) (m : Areas) (bs : List Binding) (i : ℕ) (s : Own)
+    (ps : List Param) (frames : List Frame) (m : Areas) (bs : List Binding) (i : ℕ) (s : Local)
     → ((j : ℕ) (q : Param) → slice_get ps j ≡ Some q → (b : Binding) × (slice_get bs (i + j) ≡ Some b) × IsBound kinds.Fc q frames m b)
     → FitWidths (input_widths ps) (inputs_from ps i bs s m)
 inputs_fit [] frames m bs i s each = tt
@@ -200,7 +200,7 @@ result_taken (p ∷ ps) frames m bs i a fits w each =
   where
     taken : (b : Binding) → IsBound kinds.Fc p frames m b → p.section ≡ 2 → TakesResult (Some b) a m
     taken (binding.Bound at width frame) is two =
-        λ value. stored_there frames m (record { place = at; width = width; frame = frame }) value (own_of a.running) fits w is.1
+        λ value. stored_there frames m (record { place = at; width = width; frame = frame }) value (local_of a.running) fits w is.1
     taken (binding.Constant value) is two = let one = is.0 in absurd (omega (arith, one, two))
     taken binding.Unsupplied is two = absurd is
 
@@ -215,11 +215,11 @@ result_taken (p ∷ ps) frames m bs i a fits w each =
 system_lasts :
     (l : ImageLaws) (p : Program) (a : Activation) (w : World) (next number : ℕ) (ps : List Param) (r : Result (List Binding) ℕ)
     → Caller p w.memory a next → system_function number ≡ Some ps → IfTold r → IfDone (AreBound kinds.Fc ps (caller a next ∷ a.below) w.memory) r
-    → Lasts p w (after_system_call (then_ok r (λ bs. Ok (given_by ps bs (own_of a.running) w.memory))) number next a)
+    → Lasts p w (after_system_call (then_ok r (λ bs. Ok (given_by ps bs (local_of a.running) w.memory))) number next a)
 system_lasts l p a w next number ps (Err code) h known told bound = (told, going_fits l p w.memory a next a.running.regs h.fits h.stood)
 system_lasts l p a w next number ps (Ok bs) h known told bound =
     let was = stands_of (code_of p) (open_codes p) w.memory a h.fits.fits in (
-      rw known (inputs_fit ps (caller a next ∷ a.below) w.memory bs 0 (own_of a.running) (λ j q found.
+      rw known (inputs_fit ps (caller a next ∷ a.below) w.memory bs 0 (local_of a.running) (λ j q found.
           let one = bound_of kinds.Fc ps (caller a next ∷ a.below) w.memory bs j q bound found in
           let at : 0 + j ≡ j = omega arith in
           (one.0, ap (slice_get bs) at ∙ one.1, one.2))),
@@ -242,5 +242,5 @@ pub function_called_lasts :
 unfolding system_call
 function_called_lasts l p a w next number own ps xs h known own_is fits each =
     let bound = caller_binds p w.memory a own ps next xs own_is h.fits fits in
-    system_lasts l p a w next number ps (bindings_of ps xs (own_of a.running) w.memory) h known (caller_told p w.memory a own ps xs own_is h.fits fits)
-    (function_bound ps (caller a next ∷ a.below) w.memory xs (bindings_of ps xs (own_of a.running) w.memory) each bound)
+    system_lasts l p a w next number ps (bindings_of ps xs (local_of a.running) w.memory) h known (caller_told p w.memory a own ps xs own_is h.fits fits)
+    (function_bound ps (caller a next ∷ a.below) w.memory xs (bindings_of ps xs (local_of a.running) w.memory) each bound)

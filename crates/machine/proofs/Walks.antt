@@ -9,7 +9,7 @@ use Rattle.flat_code.specs.Placed.{op_placed}
 use Rattle.flat_code.specs.declared.operands.Operand.{Operand}
 use Rattle.flat_code.specs.declared.operands.Operand.TheVariants as operand
 use Rattle.flat_code.specs.declared.programs.Param.{Param}
-use Rattle.machine.specs.Parts.{Own, then_ok}
+use Rattle.machine.specs.ExecState.{Local, then_ok}
 use Rattle.machine.specs.Flat.{Run, run_at, run_with, use_db_of, use_db_first, list_of, listed_with, with_op}
 use Rattle.machine.specs.Walking.{Walk, walk_by, walk_with, first_of, opens_after, picked, bound_from, bound_by, bound_next}
 
@@ -159,32 +159,32 @@ first_goes_on ops at next op walk h more is = is ∙ sym (first_leads_on (op, ne
 
 -- the bindings along the ops
 bound_none :
-    (ops : List OpData) (at : ℕ) (params : List Param) (bindings : List Binding) (s : Own) (m : Areas)
+    (ops : List OpData) (at : ℕ) (params : List Param) (bindings : List Binding) (s : Local) (m : Areas)
     → bound_from 0 ops at params bindings s m ≡ Ok bindings
 unfolding bound_from
 bound_none ops at params bindings s m = refl
 
 bound_step :
-    (most : ℕ) (ops : List OpData) (at : ℕ) (params : List Param) (bindings : List Binding) (s : Own) (m : Areas)
+    (most : ℕ) (ops : List OpData) (at : ℕ) (params : List Param) (bindings : List Binding) (s : Local) (m : Areas)
     → bound_from (suc most) ops at params bindings s m
     ≡ bound_next (op_placed 0 ops at) params bindings s m (λ next bound. bound_from most ops next params bound s m)
 unfolding bound_from
 bound_step most ops at params bindings s m = refl
 
 pub bound_stops :
-    (k : ℕ) (ops : List OpData) (at : ℕ) (params : List Param) (bindings : List Binding) (s : Own) (m : Areas)
+    (k : ℕ) (ops : List OpData) (at : ℕ) (params : List Param) (bindings : List Binding) (s : Local) (m : Areas)
     → k ≡ 64 → bound_from (64 - k) ops at params bindings s m ≡ Ok bindings
 bound_stops k ops at params bindings s m h = rw h (bound_none ops at params bindings s m)
 
 pub bound_nowhere :
-    (most : ℕ) (ops : List OpData) (at : ℕ) (params : List Param) (bindings : List Binding) (s : Own) (m : Areas)
+    (most : ℕ) (ops : List OpData) (at : ℕ) (params : List Param) (bindings : List Binding) (s : Local) (m : Areas)
     → None ≡ op_placed 0 ops at → bound_from most ops at params bindings s m ≡ Ok bindings
 bound_nowhere zero ops at params bindings s m h = bound_none ops at params bindings s m
 bound_nowhere (suc most) ops at params bindings s m h =
     rw (bound_step most ops at params bindings s m) (rw (sym h) refl)
 
 bound_last :
-    (most : ℕ) (ops : List OpData) (at next : ℕ) (op : OpData) (params : List Param) (bindings : List Binding) (s : Own) (m : Areas)
+    (most : ℕ) (ops : List OpData) (at next : ℕ) (op : OpData) (params : List Param) (bindings : List Binding) (s : Local) (m : Areas)
     → Some (op, next) ≡ op_placed 0 ops at → op.last ≡ true
     → bound_from most ops at params bindings s m ≡ Ok bindings
 bound_last zero ops at next op params bindings s m h last = bound_none ops at params bindings s m
@@ -192,14 +192,14 @@ bound_last (suc most) ops at next op params bindings s m h last =
     rw (bound_step most ops at params bindings s m) (rw (sym h) (rw last refl))
 
 pub bound_ends :
-    (k : ℕ) (ops : List OpData) (at next : ℕ) (op : OpData) (params : List Param) (bindings : List Binding) (s : Own) (m : Areas)
+    (k : ℕ) (ops : List OpData) (at next : ℕ) (op : OpData) (params : List Param) (bindings : List Binding) (s : Local) (m : Areas)
     → Some (op, next) ≡ op_placed 0 ops at → op.last ≡ true
     → bound_from (64 - k) ops at params bindings s m ≡ Ok bindings
 bound_ends k ops at next op params bindings s m h last =
     bound_last (64 - k) ops at next op params bindings s m h last
 
 bound_more :
-    (most : ℕ) (ops : List OpData) (at next : ℕ) (op : OpData) (params : List Param) (bindings : List Binding) (s : Own) (m : Areas)
+    (most : ℕ) (ops : List OpData) (at next : ℕ) (op : OpData) (params : List Param) (bindings : List Binding) (s : Local) (m : Areas)
     → Some (op, next) ≡ op_placed 0 ops at → op.last ≡ false
     → bound_from (suc most) ops at params bindings s m
     ≡ then_ok (bound_by op.operand params bindings s m) (λ bound. bound_from most ops next params bound s m)
@@ -207,7 +207,7 @@ bound_more most ops at next op params bindings s m h more =
     rw (bound_step most ops at params bindings s m) (rw (sym h) (rw more refl))
 
 pub bound_goes_on :
-    (k : ℕ) (ops : List OpData) (at next : ℕ) (op : OpData) (params : List Param) (bindings bound : List Binding) (s : Own) (m : Areas)
+    (k : ℕ) (ops : List OpData) (at next : ℕ) (op : OpData) (params : List Param) (bindings bound : List Binding) (s : Local) (m : Areas)
     → k < 64 → Some (op, next) ≡ op_placed 0 ops at → op.last ≡ false
     → bound_by op.operand params bindings s m ≡ Ok bound
     → bound_from (64 - k) ops at params bindings s m ≡ bound_from (64 - (k + 1)) ops next params bound s m
@@ -216,7 +216,7 @@ bound_goes_on k ops at next op params bindings bound s m less h more b =
     (rw (bound_more (64 - suc k) ops at next op params bindings s m h more) (rw b refl)))
 
 pub bound_fails :
-    (k : ℕ) (ops : List OpData) (at next : ℕ) (op : OpData) (params : List Param) (bindings : List Binding) (s : Own) (m : Areas) (code : ℕ)
+    (k : ℕ) (ops : List OpData) (at next : ℕ) (op : OpData) (params : List Param) (bindings : List Binding) (s : Local) (m : Areas) (code : ℕ)
     → k < 64 → Some (op, next) ≡ op_placed 0 ops at → op.last ≡ false
     → bound_by op.operand params bindings s m ≡ Err code
     → bound_from (64 - k) ops at params bindings s m ≡ Err code

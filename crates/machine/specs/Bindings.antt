@@ -13,8 +13,8 @@ use Rattle.flat_code.specs.Instr.{Passing}
 use Rattle.flat_code.specs.Records.{section_out}
 use Rattle.machine.specs.declared.places.Access.{Access}
 use Rattle.machine.specs.declared.places.Access.TheVariants.{Reading, Writing}
-use Rattle.machine.specs.declared.places.Bound.{Bound}
-use Rattle.machine.specs.Parts.{Own, then_ok}
+use Rattle.machine.specs.declared.places.Location.{Location}
+use Rattle.machine.specs.ExecState.{Local, then_ok}
 use Rattle.machine.specs.Places.{bound_at, placed, number_in, absent, no_operand}
 use Rattle.machine.specs.DataBlocks.{is_loaded}
 
@@ -23,12 +23,12 @@ abbrev pub access_of : Param → Access
 access_of p = if p.section == section_out then Writing else Reading
 
 -- a place is bound if it exists
-abbrev pub bound_if : Access → Bound → Option ℕ → Result Binding ℕ
+abbrev pub bound_if : Access → Location → Option ℕ → Result Binding ℕ
 bound_if access at None = Err (absent access at.place.area)
 bound_if access at (Some n) = Ok (binding.Bound at.place at.width at.frame)
 
 -- a place exists where a number is read, for OUT too; else 22, 23, in the peripheral area 42, 43
-unfoldable pub bound_place : Access → Bound → Own → Areas → Result Binding ℕ
+unfoldable pub bound_place : Access → Location → Local → Areas → Result Binding ℕ
 bound_place access at s m = bound_if access at (number_in at s.locals m)
 
 -- a parameter that is passed on stands for what it stands for in the caller
@@ -38,7 +38,7 @@ passed_on None = Err no_operand
 
 -- what is passed: constants by value, places as they are at the call. A place in a data block that
 -- is named opens nothing: 3A where the block isn't loaded
-unfoldable pub bound_actual : Access → Passed → Own → Areas → Result Binding ℕ
+unfoldable pub bound_actual : Access → Passed → Local → Areas → Result Binding ℕ
 bound_actual access (passed.Literal value) s m = Ok (binding.Constant value)
 bound_actual access (passed.Direct area width byte bit) s m =
     then_ok (placed access area byte bit width s) (λ at. bound_place access at s m)
@@ -49,13 +49,13 @@ bound_actual access (passed.InBlock number area width byte bit) s m =
     else Err errors.no_data_block
 
 -- for a parameter of the called block; one that it lacks is passed in no program that is loaded
-abbrev pub bound_for : Option Param → Passed → Own → Areas → Result Binding ℕ
+abbrev pub bound_for : Option Param → Passed → Local → Areas → Result Binding ℕ
 bound_for (Some p) actual s m = bound_actual (access_of p) actual s m
 bound_for None actual s m = Err no_operand
 
 -- one after another, each passing sets what its parameter stands for
 abbrev pub bound_params :
-    List Param → List Passing → List Binding → Own → Areas → Result (List Binding) ℕ
+    List Param → List Passing → List Binding → Local → Areas → Result (List Binding) ℕ
 bound_params params [] bindings s m = Ok bindings
 bound_params params (passing ∷ rest) bindings s m =
     then_ok (bound_for (slice_get params passing.index) passing.actual s m) (λ b.
@@ -66,5 +66,5 @@ abbrev pub unsupplied : List Param → List Binding
 unsupplied params = replicate (length params) binding.Unsupplied
 
 -- what the parameters of a block stand for
-unfoldable pub bindings_of : List Param → List Passing → Own → Areas → Result (List Binding) ℕ
+unfoldable pub bindings_of : List Param → List Passing → Local → Areas → Result (List Binding) ℕ
 bindings_of params passings s m = bound_params params passings (unsupplied params) s m

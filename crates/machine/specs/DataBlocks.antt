@@ -9,7 +9,7 @@ use Rattle.status_word.specs.declared.Regs.{Regs}
 use Rattle.frames.specs.FrameData.{FrameData}
 use Rattle.flat_code.specs.declared.operands.Operand.{Operand}
 use Rattle.flat_code.specs.declared.operands.Operand.TheVariants as operand
-use Rattle.machine.specs.Parts.{Own, then_ok}
+use Rattle.machine.specs.ExecState.{Local, then_ok}
 use Rattle.machine.specs.Places.{pointer, no_operand}
 use Rattle.machine.specs.Loads.{with_loaded}
 
@@ -18,17 +18,17 @@ abbrev pub is_loaded : ℕ → Areas → Bool
 is_loaded number m = is_some (map.get m.data_blocks number)
 
 -- the data block opened in the DB (1) or DI (2) register
-abbrev pub opened : (register number : ℕ) → Own → Own
+abbrev pub opened : (register number : ℕ) → Local → Local
 opened register number s =
     if register == 1 then record s { inner = record s.inner { db = Some number } }
     else record s { inner = record s.inner { di = Some number } }
 
 -- 3A: the data block isn't loaded
-abbrev pub opened_if : Bool → (register number : ℕ) → Own → Result Own ℕ
+abbrev pub opened_if : Bool → (register number : ℕ) → Local → Result Local ℕ
 opened_if loaded register number s = if loaded then Ok (opened register number s) else Err errors.no_data_block
 
 -- OPN of a number, or of the number in a word of memory
-unfoldable pub opening : Operand → Own → Areas → Result Own ℕ
+unfoldable pub opening : Operand → Local → Areas → Result Local ℕ
 opening (operand.OpenBlock register number) s m =
     opened_if (is_loaded number m) register number s
 opening (operand.OpenBy register from byte) s m =
@@ -37,7 +37,7 @@ opening (operand.OpenBy register from byte) s m =
 opening _ s m = Err no_operand
 
 -- CDB: DB and DI register exchanged
-unfoldable pub exchanged : Own → Own
+unfoldable pub exchanged : Local → Local
 exchanged s = record s { inner = record s.inner { db = s.inner.di; di = s.inner.db } }
 
 -- the number of an opened data block, and its length in bytes, in the 32 bits of an accumulator; 0
@@ -64,7 +64,7 @@ open_block_fact which f m =
     else number_opened f.di
 
 -- L DBLG, L DBNO, L DILG, L DINO
-unfoldable pub loading_open_block : Operand → Own → Areas → Result Regs ℕ
+unfoldable pub loading_open_block : Operand → Local → Areas → Result Regs ℕ
 loading_open_block (operand.Literal which) s m =
     Ok (with_loaded (open_block_fact which s.inner m) s.regs)
 loading_open_block _ s m = Err no_operand

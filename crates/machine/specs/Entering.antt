@@ -11,7 +11,7 @@ use Rattle.frames.specs.declared.bindings.Binding.{Binding}
 use Rattle.frames.specs.declared.frame.Frame.{Frame}
 use Rattle.flat_code.specs.declared.programs.Param.{Param}
 use Rattle.flat_code.specs.Instr.{Passing}
-use Rattle.machine.specs.Parts.{Scene, own_of, scene_of, with_own}
+use Rattle.machine.specs.ExecState.{LocalMemory, local_of, local_memory_of, with_local}
 use Rattle.machine.specs.Bindings.{bindings_of}
 use Rattle.machine.specs.Copies.{params_in}
 
@@ -61,14 +61,14 @@ pub data Call : Type 0 where
   Enters : (a : Activation) (m : Areas) → Call
 
 -- the called block runs, with what copying its parameters left of it and of memory
-abbrev pub with_scene : Activation → Scene → Call
-with_scene a c = Enters (record a { running = with_own a.running c.own }) c.memory
+abbrev pub with_scene : Activation → LocalMemory → Call
+with_scene a c = Enters (record a { running = with_local a.running c.local }) c.memory
 
 -- IN and IN_OUT parameters are copied into the instance; a call that names none copies nothing
 abbrev pub supplied : Option ℕ → List Param → Activation → Areas → Call
 supplied None params a m = Enters a m
 supplied (Some instance) params a m =
-    with_scene a (params_in params 0 a.running.frame.bindings instance (scene_of a.running m))
+    with_scene a (params_in params 0 a.running.frame.bindings instance (local_memory_of a.running m))
 
 -- a stop by depth or local data sets and copies nothing; else the caller stands behind the call
 abbrev pub entered_if :
@@ -87,7 +87,7 @@ called_with (Ok bindings) called next a m =
 -- after the call the caller goes on at `next`
 unfoldable pub call : Callee → List Passing → (next : ℕ) → Activation → Areas → Call
 call called passings next a m =
-    called_with (bindings_of called.params passings (own_of a.running) m) called next a m
+    called_with (bindings_of called.params passings (local_of a.running) m) called next a m
 
 -- a call whose parameters are bound leaves its arguments as that says; after a stop as they were
 abbrev pub Calls :

@@ -26,7 +26,7 @@ use Rattle.frames.specs.declared.frame.Frame.{Frame}
 use Rattle.frames.specs.declared.relay.Relay.{Relay}
 use Rattle.flat_code.specs.declared.programs.Param.{Param}
 use Rattle.flat_code.specs.Records.{section_in}
-use Rattle.machine.specs.declared.places.Bound.{Bound}
+use Rattle.machine.specs.declared.places.Location.{Location}
 use Rattle.machine.specs.Code.{Code, Head}
 
 -- what stands open in the text: the function codes of the brackets, the innermost first, and how many
@@ -54,7 +54,7 @@ LiesIn None byte bit width = ⊥
 LiesIn (Some len) byte bit width = (byte + byte_count width ≤ len) × HasBit width bit
 
 -- a bound place exists: in the local bytes of a frame below, or in memory
-abbrev pub ExistsIn : Area → Bound → (below : List Frame) → Areas → Type 0
+abbrev pub ExistsIn : Area → Location → (below : List Frame) → Areas → Type 0
 ExistsIn areas.L at below m =
     LiesIn (local_len_at below at.frame) at.place.byte at.place.bit at.width
 ExistsIn _ at below m = IsSome (number_at m at.place at.width)

@@ -15,7 +15,7 @@ use Rattle.frames.specs.declared.frame.Frame.{Frame}
 use Rattle.flat_code.specs.declared.programs.Param.{Param}
 use Rattle.flat_code.specs.Programs.{Program}
 use Rattle.flat_code.specs.Records.{section_in}
-use Rattle.machine.specs.Parts.{own_of}
+use Rattle.machine.specs.ExecState.{local_of}
 use Rattle.machine.specs.declared.outcomes.Outcome.{Outcome}
 use Rattle.machine.specs.declared.outcomes.Outcome.TheVariants as outcome
 use Rattle.machine.specs.Values.{stored_at}
@@ -23,7 +23,7 @@ use Rattle.machine.specs.Fitting.{IsMemoryOf, SameSizes, Fits}
 use Rattle.machine.specs.Flat.{code_of}
 use Rattle.machine.specs.OpenBrackets.{open_codes}
 use Rattle.machine.specs.SystemCalls.{system_function}
-use Rattle.machine.specs.Statement.{World, Step, Went, Ended, SyncError, SysCall, Stop, Stuck, Goes, statement}
+use Rattle.machine.specs.Statement.{World, Step, Went, Ended, SyncError, SysCall, Stop, Stuck, IsNotStuck, statement}
 
 -- an activation fits a program and its memory
 pub record FitsProgram (p : Program) (m : Areas) (a : Activation) : Type 0 where
@@ -35,7 +35,7 @@ pub record FitsProgram (p : Program) (m : Areas) (a : Activation) : Type 0 where
 pub record IsReady (p : Program) (a : Activation) : Type 0 where
   pub stands : a.left ≡ false
   pub depth : length a.running.locals.starts ≡ length (frames_of a)
-  pub there : (w : World) → Goes (statement (code_of p) a w)
+  pub there : (w : World) → IsNotStuck (statement (code_of p) a w)
 
 -- an organization block by its number
 abbrev pub ob_block : ℕ → BlockId
@@ -56,7 +56,7 @@ TakesResult None a m = Unit {0}
 TakesResult (Some (binding.Bound place width frame)) a m =
     (value : ℕ)
     → IsSome (stored_at (record { place = place; width = width; frame = frame }) value
-    (own_of a.running) m)
+    (local_of a.running) m)
 TakesResult (Some result) a m = ⊥
 
 -- the widths of IN parameters

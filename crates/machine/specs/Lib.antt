@@ -1,4 +1,4 @@
-pub mod Parts
+pub mod ExecState
 pub mod Outcomes
 pub mod Places
 pub mod Values
@@ -10,7 +10,7 @@ pub mod Numbers
 pub mod Timing
 pub mod Pointers
 pub mod DataBlocks
-pub mod Does
+pub mod Effect
 pub mod Code
 pub mod Jumps
 pub mod Bindings
@@ -21,7 +21,7 @@ pub mod SystemCalls
 pub mod Statement
 pub mod There
 pub mod Fitting
-pub mod Quiet
+pub mod Silent
 pub mod Results
 pub mod Flat
 pub mod OpenBrackets

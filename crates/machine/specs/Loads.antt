@@ -9,7 +9,7 @@ use Rattle.timers_counters.specs.Timer.{Timer}
 use Rattle.timers_counters.specs.Counter.{Counter}
 use Rattle.flat_code.specs.declared.operands.Operand.{Operand}
 use Rattle.machine.specs.declared.places.Access.TheVariants.{Writing}
-use Rattle.machine.specs.Parts.{Own, Scene, then_ok}
+use Rattle.machine.specs.ExecState.{Local, LocalMemory, then_ok}
 use Rattle.machine.specs.Places.{located}
 use Rattle.machine.specs.Values.{loaded, bcd_loaded, write}
 use Rattle.machine.specs.Relay.{closed}
@@ -19,20 +19,20 @@ abbrev pub with_loaded : ℕ → Regs → Regs
 with_loaded n r = record r { a1 = n; a2 = r.a1 }
 
 -- L
-unfoldable pub loading : Operand → Own → Areas → List Timer → List Counter → Result Regs ℕ
+unfoldable pub loading : Operand → Local → Areas → List Timer → List Counter → Result Regs ℕ
 loading o s m t n = then_ok (loaded o s m t n) (λ x. Ok (with_loaded x s.regs))
 
 -- LC
-unfoldable pub loading_bcd : Operand → Own → Areas → List Timer → List Counter → Result Regs ℕ
+unfoldable pub loading_bcd : Operand → Local → Areas → List Timer → List Counter → Result Regs ℕ
 loading_bcd o s m t n = then_ok (bcd_loaded o s m t n) (λ x. Ok (with_loaded x s.regs))
 
 -- the lowest bits of a number at the place of an operand
-unfoldable pub transferred : ℕ → Operand → Own → Areas → Result Scene ℕ
+unfoldable pub transferred : ℕ → Operand → Local → Areas → Result LocalMemory ℕ
 transferred n o s m =
     then_ok (located Writing o s m) (λ at. write at (n % 2 ^ bit_count at.width) s m)
 
 -- T: accumulator 1, and 0 while the relay is closed
-abbrev pub transferring : Operand → Own → Areas → Result Scene ℕ
+abbrev pub transferring : Operand → Local → Areas → Result LocalMemory ℕ
 transferring o s m = transferred (if closed s then 0 else s.regs.a1) o s m
 
 -- L STW: /FC, STA and OR read as 0

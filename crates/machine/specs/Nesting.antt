@@ -4,26 +4,26 @@ use Rattle.std.specs.Prelude.{ℕ, ◌==◌, length, if◌then◌else◌, List, 
 use Rattle.plc_base.specs.declared.Check.{Check}
 use Rattle.status_word.specs.Brackets.{entry_of, begun, closed}
 use Rattle.status_word.specs.declared.Bracket.{Bracket}
-use Rattle.machine.specs.Parts.{Own}
+use Rattle.machine.specs.ExecState.{Local}
 use Rattle.machine.specs.Places.{no_operand}
 
 -- these brackets are open in the innermost frame
-abbrev pub with_brackets : List Bracket → Own → Own
+abbrev pub with_brackets : List Bracket → Local → Local
 with_brackets brackets s = record s { inner = record s.inner { brackets = brackets } }
 
 -- A( to XN(; an eighth bracket stands in no program that is loaded
-unfoldable pub nesting : Check → Own → Result Own ℕ
+unfoldable pub nesting : Check → Local → Result Local ℕ
 nesting with s =
     if length s.inner.brackets == 7 then Err no_operand
     else Ok (with_brackets (entry_of with s.regs ∷ s.inner.brackets)
     (record s { regs = begun s.regs }))
 
 -- ); nor does one without an open bracket
-abbrev pub unnested : List Bracket → Own → Result Own ℕ
+abbrev pub unnested : List Bracket → Local → Result Local ℕ
 unnested [] s = Err no_operand
 unnested (bracket ∷ rest) s =
     Ok (with_brackets rest (record s { regs = closed bracket s.regs }))
 
 -- of the open brackets of the innermost frame it closes the one that was opened last
-unfoldable pub unnesting : Own → Result Own ℕ
+unfoldable pub unnesting : Local → Result Local ℕ
 unnesting s = unnested s.inner.brackets s

@@ -5,46 +5,44 @@ use Rattle.plc_mem.specs.Areas.{Areas}
 use Rattle.timers_counters.specs.Timer.{Timer}
 use Rattle.timers_counters.specs.Counter.{Counter}
 use Rattle.frames.specs.declared.running.Running.{Running}
-use Rattle.machine.specs.Parts.{Own, Scene, Parts, with_own}
+use Rattle.machine.specs.ExecState.{Local, LocalMemory, ExecState, with_local}
 
 -- the answer of a call: done, or the code of a synchronous error
 abbrev pub Answer : Type 0
 Answer = Result (Unit {0}) ℕ
 
+-- what a call leaves: what its effect says, or the effect's error and all as it was
+abbrev pub IsDone : {A : Type 0} → Result A ℕ → (done : A → Type 0) → (unchanged : Type 0) → Answer → Type 0
+IsDone (Ok x) done unchanged (Ok answer) = done x
+IsDone (Err e) done unchanged (Err code) = (code ≡ e) × unchanged
+IsDone effect done unchanged answer = ⊥
+
 -- an effect on registers, given by themselves
 abbrev pub Changes : Result Regs ℕ → (old new : Regs) → Answer → Type 0
-Changes (Ok r) old new (Ok answer) = new ≡ r
-Changes (Err e) old new (Err code) = (code ≡ e) × (new ≡ old)
-Changes effect old new answer = ⊥
+Changes effect old new answer = IsDone effect (λ r. new ≡ r) (new ≡ old) answer
 
 -- an effect on the registers of a running block
 abbrev pub Checks : Result Regs ℕ → (old new : Running) → Answer → Type 0
-Checks (Ok r) old new (Ok answer) = new ≡ record old { regs = r }
-Checks (Err e) old new (Err code) = (code ≡ e) × (new ≡ old)
-Checks effect old new answer = ⊥
+Checks effect old new answer = IsDone effect (λ r. new ≡ record old { regs = r }) (new ≡ old) answer
 
 -- an effect on all that an activation has of its own
-abbrev pub Turns : Result Own ℕ → (old new : Running) → Answer → Type 0
-Turns (Ok s) old new (Ok answer) = new ≡ with_own old s
-Turns (Err e) old new (Err code) = (code ≡ e) × (new ≡ old)
-Turns effect old new answer = ⊥
+abbrev pub Turns : Result Local ℕ → (old new : Running) → Answer → Type 0
+Turns effect old new answer = IsDone effect (λ s. new ≡ with_local old s) (new ≡ old) answer
 
--- an effect on that and memory
-abbrev pub Acts : Result Scene ℕ → (old new : Running) (m m' : Areas) → Answer → Type 0
-Acts (Ok c) old new m m' (Ok answer) = (new ≡ with_own old c.own) × (m' ≡ c.memory)
-Acts (Err e) old new m m' (Err code) = (code ≡ e) × (new ≡ old) × (m' ≡ m)
-Acts effect old new m m' answer = ⊥
+-- an effect on that and memory, which can't fail
+abbrev pub Becomes : LocalMemory → (old new : Running) (m' : Areas) → Type 0
+Becomes c old new m' = (new ≡ with_local old c.local) × (m' ≡ c.memory)
 
--- the same of an effect that can't fail
-abbrev pub Becomes : Scene → (old new : Running) (m' : Areas) → Type 0
-Becomes c old new m' = (new ≡ with_own old c.own) × (m' ≡ c.memory)
+-- the same where it can
+abbrev pub Acts : Result LocalMemory ℕ → (old new : Running) (m m' : Areas) → Answer → Type 0
+Acts effect old new m m' answer =
+    IsDone effect (λ c. Becomes c old new m') ((new ≡ old) × (m' ≡ m)) answer
 
 -- an effect on all
 abbrev pub Meets :
-    Result Parts ℕ → (old new : Running) (m m' : Areas) (t t' : List Timer) (n n' : List Counter)
+    Result ExecState ℕ → (old new : Running) (m m' : Areas) (t t' : List Timer) (n n' : List Counter)
     → Answer → Type 0
-Meets (Ok p) old new m m' t t' n n' (Ok answer) =
-    (new ≡ with_own old p.own) × (m' ≡ p.memory) × (t' ≡ p.timers) × (n' ≡ p.counters)
-Meets (Err e) old new m m' t t' n n' (Err code) =
-    (code ≡ e) × (new ≡ old) × (m' ≡ m) × (t' ≡ t) × (n' ≡ n)
-Meets effect old new m m' t t' n n' answer = ⊥
+Meets effect old new m m' t t' n n' answer =
+    IsDone effect
+    (λ p. (new ≡ with_local old p.local) × (m' ≡ p.memory) × (t' ≡ p.timers) × (n' ≡ p.counters))
+    ((new ≡ old) × (m' ≡ m) × (t' ≡ t) × (n' ≡ n)) answer

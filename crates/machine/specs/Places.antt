@@ -17,8 +17,8 @@ use Rattle.flat_code.specs.declared.operands.Operand.{Operand}
 use Rattle.flat_code.specs.declared.operands.Operand.TheVariants as operand
 use Rattle.machine.specs.declared.places.Access.{Access}
 use Rattle.machine.specs.declared.places.Access.TheVariants.{Reading, Writing}
-use Rattle.machine.specs.declared.places.Bound.{Bound}
-use Rattle.machine.specs.Parts.{Own, then_ok}
+use Rattle.machine.specs.declared.places.Location.{Location}
+use Rattle.machine.specs.ExecState.{Local, then_ok}
 
 -- an error of a place has two codes: that of writing is the one behind that of reading
 abbrev pub error_of : Access → ℕ → ℕ
@@ -26,7 +26,7 @@ error_of Reading code = code
 error_of Writing code = code + 1
 
 -- a place with its width; the number is that of a data block or 0, and the frame counts in L alone
-abbrev pub bound_at : Area → (number byte bit : ℕ) → Width → (frame : ℕ) → Bound
+abbrev pub bound_at : Area → (number byte bit : ℕ) → Width → (frame : ℕ) → Location
 bound_at area number byte bit width frame = record {
   place = record { area = area; number = number; byte = byte; bit = bit };
   width = width;
@@ -34,16 +34,16 @@ bound_at area number byte bit width frame = record {
 }
 
 -- the innermost frame's place in the list, the outermost frame's being 0
-abbrev pub innermost : Own → ℕ
+abbrev pub innermost : Local → ℕ
 innermost s = length s.locals.starts - 1
 
 -- a place in the data block of the DB or DI register; an error where none is open
-abbrev pub in_register : Option ℕ → (error byte bit : ℕ) → Width → Result Bound ℕ
+abbrev pub in_register : Option ℕ → (error byte bit : ℕ) → Width → Result Location ℕ
 in_register (Some number) error byte bit width = Ok (bound_at areas.Db number byte bit width 0)
 in_register None error byte bit width = Err error
 
 -- a place of an area: 32 where no DB is open, 33 where no DI is
-unfoldable pub in_area : Area → (byte bit : ℕ) → Width → Own → Result Bound ℕ
+unfoldable pub in_area : Area → (byte bit : ℕ) → Width → Local → Result Location ℕ
 in_area areas.Db byte bit width s = in_register s.inner.db errors.no_db_open byte bit width
 in_area areas.Di byte bit width s = in_register s.inner.di errors.no_di_open byte bit width
 in_area areas.L byte bit width s = Ok (bound_at areas.L 0 byte bit width (innermost s))
@@ -60,22 +60,22 @@ is_local areas.L = true
 is_local _ = false
 
 -- the number at a place, if each of its bits exists
-abbrev pub number_in : Bound → LocalData → Areas → Option ℕ
+abbrev pub number_in : Location → LocalData → Areas → Option ℕ
 number_in at locals memory =
     if is_local at.place.area
     then local_number locals at.frame at.place.byte at.place.bit at.width
     else number_at memory at.place at.width
 
 -- the number that is read there; where the place doesn't exist 22, in the peripheral area 42
-unfoldable pub read : Bound → Own → Areas → Result ℕ ℕ
+unfoldable pub read : Location → Local → Areas → Result ℕ ℕ
 read at s m = ok_or (number_in at s.locals m) (absent Reading at.place.area)
 
 -- the number at a place of an area
-unfoldable pub direct : Area → (byte bit : ℕ) → Width → Own → Areas → Result ℕ ℕ
+unfoldable pub direct : Area → (byte bit : ℕ) → Width → Local → Areas → Result ℕ ℕ
 direct area byte bit width s m = then_ok (in_area area byte bit width s) (λ at. read at s m)
 
 -- what stands at a pointer's own place: a double word, or a word for a timer, counter or data block
-abbrev pub pointer : Area → (byte : ℕ) → Width → Own → Areas → Result ℕ ℕ
+abbrev pub pointer : Area → (byte : ℕ) → Width → Local → Areas → Result ℕ ℕ
 pointer from byte width s m = direct from byte 0 width s m
 
 -- a bit operand, which the peripheral area doesn't have
@@ -89,11 +89,11 @@ is_aligned widths.Bit n = true
 is_aligned _ n = n % 2 ^ 3 == 0
 
 -- a pointer has the bit in bits 0 to 2 and the byte in bits 3 to 18
-abbrev pub at_pointer : Area → Width → ℕ → Own → Result Bound ℕ
+abbrev pub at_pointer : Area → Width → ℕ → Local → Result Location ℕ
 at_pointer area width n s = in_area area (n / 2 ^ 3 % 2 ^ 16) (n % 2 ^ 3) width s
 
 -- the place of a pointer within an area: 28 and 29 where it isn't aligned
-unfoldable pub by_pointer : Access → Area → Width → ℕ → Own → Result Bound ℕ
+unfoldable pub by_pointer : Access → Area → Width → ℕ → Local → Result Location ℕ
 by_pointer access area width n s =
     if is_aligned width n then at_pointer area width n s else Err (error_of access errors.unaligned)
 
@@ -103,25 +103,25 @@ is_peripheral areas.P = true
 is_peripheral _ = false
 
 -- a place of an area that is named: 24 and 25 for a bit in the peripheral area
-abbrev pub placed : Access → Area → (byte bit : ℕ) → Width → Own → Result Bound ℕ
+abbrev pub placed : Access → Area → (byte bit : ℕ) → Width → Local → Result Location ℕ
 placed access area byte bit width s =
     if is_peripheral area && is_bit width then Err (error_of access errors.bad_area)
     else in_area area byte bit width s
 
 -- 24 and 25, too, where the pointer names no area
-abbrev pub in_named : Access → Option Place → Width → ℕ → Own → Result Bound ℕ
+abbrev pub in_named : Access → Option Place → Width → ℕ → Local → Result Location ℕ
 in_named access None width n s = Err (error_of access errors.bad_area)
 in_named access (Some named) width n s =
     placed access named.area (n / 2 ^ 3 % 2 ^ 16) (n % 2 ^ 3) width s
 
 -- the place of a pointer that names the area itself (manual: area-crossing)
-unfoldable pub by_crossing : Access → Width → (address n : ℕ) → Own → Result Bound ℕ
+unfoldable pub by_crossing : Access → Width → (address n : ℕ) → Local → Result Location ℕ
 by_crossing access width address n s =
     if is_aligned width n then in_named access (place_of address) width n s
     else Err (error_of access errors.unaligned)
 
 -- what address register 1 or 2 holds
-abbrev pub address : ℕ → Own → ℕ
+abbrev pub address : ℕ → Local → ℕ
 address register s = if register == 1 then s.regs.ar1 else s.regs.ar2
 
 -- the offset is added in bits 0 to 18
@@ -129,7 +129,7 @@ abbrev pub moved : (address bits : ℕ) → ℕ
 moved address bits = (address % 2 ^ 19 + bits % 2 ^ 19) % 2 ^ 19
 
 -- register-indirect; with no area it is that of the address register
-abbrev pub by_register : Access → Option Area → Width → (address bits : ℕ) → Own → Result Bound ℕ
+abbrev pub by_register : Access → Option Area → Width → (address bits : ℕ) → Local → Result Location ℕ
 by_register access (Some area) width address bits s =
     by_pointer access area width (moved address bits) s
 by_register access None width address bits s =
@@ -140,13 +140,13 @@ abbrev pub no_operand : ℕ
 no_operand = 0
 
 -- a parameter of a function is the place that was bound to it
-abbrev pub of_binding : Option Binding → Result Bound ℕ
+abbrev pub of_binding : Option Binding → Result Location ℕ
 of_binding (Some (binding.Bound place width frame)) =
     Ok (record { place = place; width = width; frame = frame })
 of_binding _ = Err no_operand
 
 -- the place of an operand that is to be read or written
-unfoldable pub located : Access → Operand → Own → Areas → Result Bound ℕ
+unfoldable pub located : Access → Operand → Local → Areas → Result Location ℕ
 located access (operand.Direct area width byte bit) s m = placed access area byte bit width s
 located access (operand.ByMemory area width from byte) s m =
     then_ok (pointer from byte widths.Dword s m) (λ n. by_pointer access area width n s)

@@ -9,22 +9,22 @@ use Rattle.flat_code.specs.declared.operands.Operand.{Operand}
 use Rattle.flat_code.specs.declared.operands.Operand.TheVariants as operand
 use Rattle.flat_code.specs.declared.operations.PointerOperation.{PointerOperation}
 use Rattle.flat_code.specs.declared.operations.PointerOperation.TheVariants as word
-use Rattle.machine.specs.Parts.{Own, Scene, then_ok}
+use Rattle.machine.specs.ExecState.{Local, LocalMemory, then_ok}
 use Rattle.machine.specs.Values.{number}
 use Rattle.machine.specs.Loads.{with_loaded, transferred}
 
 -- what LAR1 and LAR2 load: accumulator 1 without operand, a pointer constant, a double word
-abbrev pub address_loaded : Operand → Own → Areas → Result ℕ ℕ
+abbrev pub address_loaded : Operand → Local → Areas → Result ℕ ℕ
 address_loaded operand.Nothing s m = Ok s.regs.a1
 address_loaded o s m = number o s m
 
 -- other registers, in a scene that else stays
-abbrev pub regs_set : Regs → Own → Areas → Scene
-regs_set r s m = record { own = record s { regs = r }; memory = m }
+abbrev pub regs_set : Regs → Local → Areas → LocalMemory
+regs_set r s m = record { local = record s { regs = r }; memory = m }
 
 -- TAR1 and TAR2 of a register: to accumulator 1, whose contents go to accumulator 2, or to a double
 -- word, and then the accumulators stay
-abbrev pub address_transferred : ℕ → Operand → Own → Areas → Result Scene ℕ
+abbrev pub address_transferred : ℕ → Operand → Local → Areas → Result LocalMemory ℕ
 address_transferred n operand.Nothing s m = Ok (regs_set (with_loaded n s.regs) s m)
 address_transferred n o s m = transferred n o s m
 
@@ -42,7 +42,7 @@ unfoldable pub address_after : (address offset : ℕ) → ℕ
 address_after address offset = with_low 24 address ((address + offset) % 2 ^ 24)
 
 -- each by its operation; of them only TAR1 and TAR2 without operand change the accumulators
-unfoldable pub pointed : PointerOperation → Operand → Own → Areas → Result Scene ℕ
+unfoldable pub pointed : PointerOperation → Operand → Local → Areas → Result LocalMemory ℕ
 pointed word.Lar1 o s m =
     then_ok (address_loaded o s m) (λ n. Ok (regs_set (record s.regs { ar1 = n }) s m))
 pointed word.Lar2 o s m =

@@ -4,21 +4,21 @@ use Rattle.plc_mem.specs.Areas.{Areas}
 use Rattle.frames.specs.declared.Activation.{Activation}
 use Rattle.frames.specs.declared.bindings.Binding.{Binding}
 use Rattle.frames.specs.declared.bindings.Binding.TheVariants as binding
-use Rattle.machine.specs.Parts.{Scene, scene_of, with_own}
+use Rattle.machine.specs.ExecState.{LocalMemory, local_memory_of, with_local}
 use Rattle.machine.specs.Copies.{put}
 
 -- the value at the place, in its width; nothing where nothing is bound, or no such place exists
-abbrev pub with_result : Binding → ℕ → Scene → Scene
+abbrev pub with_result : Binding → ℕ → LocalMemory → LocalMemory
 with_result (binding.Bound place width frame) value c =
     put (record { place = place; width = width; frame = frame }) value c
 with_result _ value c = c
 
 -- nothing else changes
-abbrev pub HoldsScene : Scene → (old new : Activation) (m' : Areas) → Type 0
+abbrev pub HoldsScene : LocalMemory → (old new : Activation) (m' : Areas) → Type 0
 HoldsScene c old new m' =
-    (new ≡ record old { running = with_own old.running c.own }) × (m' ≡ c.memory)
+    (new ≡ record old { running = with_local old.running c.local }) × (m' ≡ c.memory)
 
 -- a value is written where RET_VAL was bound; without such a place nothing changes
 abbrev pub GivesResult : Binding → ℕ → (old new : Activation) (m m' : Areas) → Type 0
 GivesResult to value old new m m' =
-    HoldsScene (with_result to value (scene_of old.running m)) old new m'
+    HoldsScene (with_result to value (local_memory_of old.running m)) old new m'

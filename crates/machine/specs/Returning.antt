@@ -8,27 +8,27 @@ use Rattle.frames.specs.Locals.{closed}
 use Rattle.frames.specs.declared.Activation.{Activation}
 use Rattle.frames.specs.declared.frame.Frame.{Frame}
 use Rattle.flat_code.specs.declared.programs.Param.{Param}
-use Rattle.machine.specs.Parts.{Scene, scene_of, with_own}
+use Rattle.machine.specs.ExecState.{LocalMemory, local_memory_of, with_local}
 use Rattle.machine.specs.Entering.{at_block}
 use Rattle.machine.specs.Copies.{params_out}
 
 -- activation and memory
-pub record Stage : Type 0 where
+pub record ReturnState : Type 0 where
   pub activation : Activation
   pub memory : Areas
 
 -- with what a scene has of the running block and of memory; the frames below stay
-abbrev pub on_stage : Activation → Scene → Stage
-on_stage a c = record {
-  activation = record a { running = with_own a.running c.own };
+abbrev pub with_copied : Activation → LocalMemory → ReturnState
+with_copied a c = record {
+  activation = record a { running = with_local a.running c.local };
   memory = c.memory;
 }
 
 -- copied out of the instance that the call named, whatever DI holds now, to the places bound then
-abbrev pub given_back : Option ℕ → List Param → Activation → Areas → Stage
+abbrev pub given_back : Option ℕ → List Param → Activation → Areas → ReturnState
 given_back None params a m = record { activation = a; memory = m }
 given_back (Some instance) params a m =
-    on_stage a (params_out params 0 a.running.frame.bindings instance (scene_of a.running m))
+    with_copied a (params_out params 0 a.running.frame.bindings instance (local_memory_of a.running m))
 
 -- the frame below is the innermost one: its own data blocks, brackets and relay are as it left them
 abbrev pub left_to : (caller : Frame) (rest : List Frame) → Activation → Activation
@@ -56,7 +56,7 @@ pub data Return : Type 0 where
   Ends : (regs : Regs) (m : Areas) → Return
 
 -- OS 0, OR 0, STA 1, /FC 0 in both cases; without a frame below the outermost block has ended
-abbrev pub left : List Frame → Stage → Return
+abbrev pub left : List Frame → ReturnState → Return
 left [] s = Ends (at_block s.activation.running.regs) s.memory
 left (caller ∷ rest) s = GoesOn (left_to caller rest s.activation) s.memory
 

@@ -1,5 +1,5 @@
 -- One statement of an activation: what comes of it. This is the only place where positions move.
-use Rattle.std.specs.Prelude.{◌≡◌, ℕ, Bool, true, List, Option, Some, None, Result, Ok, Err, if◌then◌else◌}
+use Rattle.std.specs.Prelude.{◌≡◌, ℕ, Bool, true, false, List, Option, Some, None, Result, Ok, Err, if◌then◌else◌}
 use Rattle.plc_base.specs.Kinds.{is_system_function}
 use Rattle.plc_base.specs.StopCauses as causes
 use Rattle.plc_base.specs.declared.BlockId.{BlockId}
@@ -17,8 +17,8 @@ use Rattle.flat_code.specs.declared.operations.CallOperation.TheVariants as call
 use Rattle.flat_code.specs.declared.operations.EndOperation.{EndOperation}
 use Rattle.flat_code.specs.declared.operations.EndOperation.TheVariants as ends
 use Rattle.flat_code.specs.declared.programs.Param.{Param}
-use Rattle.machine.specs.Parts.{Parts, own_of, parts_of, with_own}
-use Rattle.machine.specs.Does.{does_with}
+use Rattle.machine.specs.ExecState.{ExecState, local_of, exec_state_of, with_local}
+use Rattle.machine.specs.Effect.{effect_with}
 use Rattle.machine.specs.Jumps.{is_taken, after_jump, goes_to, listed, rlo_tested}
 use Rattle.machine.specs.Entering.{Call, Fails, Stops, Enters, Callee, at_block, call, going_on}
 use Rattle.machine.specs.Returning.{Return, GoesOn, Ends, returning, HasEnded}
@@ -54,19 +54,19 @@ cause_of Depth = causes.block_depth
 cause_of LocalFull = causes.local_data
 
 -- the running block goes on at a position, its registers as they are
-abbrev pub moved_on : (at : ℕ) → Activation → Activation
-moved_on at a = going_on at a.running.regs a
+abbrev pub advance : (at : ℕ) → Activation → Activation
+advance at a = going_on at a.running.regs a
 
 -- memory, timers and counters as a statement finds them
 abbrev pub world : Areas → List Timer → List Counter → World
 world m t n = record { memory = m; timers = t; counters = n }
 
 -- an activation with what an instruction left of the running block; its position stays
-abbrev pub with_parts : Parts → Activation → Activation
-with_parts p a = record a { running = with_own a.running p.own }
+abbrev pub with_exec_state : ExecState → Activation → Activation
+with_exec_state p a = record a { running = with_local a.running p.local }
 
 -- what an instruction left of memory, timers and counters
-abbrev pub world_of : Parts → World
+abbrev pub world_of : ExecState → World
 world_of p = record { memory = p.memory; timers = p.timers; counters = p.counters }
 
 -- another memory, as copied parameters leave it; timers and counters stay
@@ -74,9 +74,9 @@ abbrev pub with_memory : Areas → World → World
 with_memory m w = record w { memory = m }
 
 -- an instruction that touches no position, then the next one
-abbrev pub went_on : Result Parts ℕ → (next : ℕ) → Activation → Step
-went_on (Ok p) next a = Went (moved_on next (with_parts p a)) (world_of p)
-went_on (Err code) next a = SyncError code (moved_on next a)
+abbrev pub continue_with : Result ExecState ℕ → (next : ℕ) → Activation → Step
+continue_with (Ok p) next a = Went (advance next (with_exec_state p a)) (world_of p)
+continue_with (Err code) next a = SyncError code (advance next a)
 
 -- a jump but JL goes on at its target where it is taken, else at the next statement
 abbrev pub jumped : JumpOperation → (target next : ℕ) → Activation → World → Step
@@ -86,7 +86,7 @@ jumped operation target next a w =
 
 -- a call of a function or function block
 abbrev pub after_call : Call → (next : ℕ) → Activation → World → Step
-after_call (Fails code) next a w = SyncError code (moved_on next a)
+after_call (Fails code) next a w = SyncError code (advance next a)
 after_call (Stops fault) next a w = Stop (cause_of fault)
 after_call (Enters after m) next a w = Went after (with_memory m w)
 
@@ -108,7 +108,7 @@ block_called (Some h) block instance passings next a w =
 
 -- a call of a system function; the four bits are set as at each call
 abbrev pub after_system_call : Result Given ℕ → (number next : ℕ) → Activation → Step
-after_system_call (Err code) number next a = SyncError code (moved_on next a)
+after_system_call (Err code) number next a = SyncError code (advance next a)
 after_system_call (Ok given) number next a =
     SysCall number given (going_on next (at_block a.running.regs) a)
 
@@ -117,7 +117,7 @@ abbrev pub system_called :
     Option (List Param) → (number : ℕ) → List Passing → (next : ℕ) → Activation → World → Step
 system_called None number passings next a w = Stuck
 system_called (Some params) number passings next a w =
-    after_system_call (system_call params passings (own_of a.running) w.memory) number next a
+    after_system_call (system_call params passings (local_of a.running) w.memory) number next a
 
 -- a call that is made: of a system function by its number, of each other block by its head
 abbrev pub called :
@@ -152,41 +152,60 @@ is_ended ends.Bec rlo = rlo
 is_ended _ rlo = true
 
 -- what comes of an instruction; `next` is the position behind its statement
-abbrev pub performed : Code → Instr → (next : ℕ) → Activation → World → Step
-performed code (Does use_db operation operand) next a w =
-    went_on (does_with use_db operation operand (parts_of a.running w.memory w.timers w.counters)) next a
-performed code (Jumps operation target) next a w = jumped operation target next a w
-performed code (JumpsByList targets otherwise) next a w =
-    Went (moved_on (listed targets otherwise a.running.regs) a) w
-performed code (Calls how block instance passings) next a w =
+abbrev pub step_of : Code → Instr → (next : ℕ) → Activation → World → Step
+step_of code (Does use_db operation operand) next a w =
+    continue_with (effect_with use_db operation operand (exec_state_of a.running w.memory w.timers w.counters)) next a
+step_of code (Jumps operation target) next a w = jumped operation target next a w
+step_of code (JumpsByList targets otherwise) next a w =
+    Went (advance (listed targets otherwise a.running.regs) a) w
+step_of code (Calls how block instance passings) next a w =
     if is_called how a.running.regs.status.rlo then called code block instance passings next a w
     else Went (going_on next (not_called a.running.regs) a) w
-performed code (Returns how) next a w =
+step_of code (Returns how) next a w =
     if is_ended how a.running.regs.status.rlo then returned (code.head a.running.frame.block) a w
     else Went (going_on next (rlo_tested a.running.regs) a) w
 
 -- what comes of the statement that was found; stuck where none begins at the position
-abbrev pub fetched : Code → Option Fetched → Activation → World → Step
-fetched code None a w = Stuck
-fetched code (Some f) a w = performed code f.instr f.next a w
+abbrev pub step_found : Code → Option Fetched → Activation → World → Step
+step_found code None a w = Stuck
+step_found code (Some f) a w = step_of code f.instr f.next a w
 
 -- the statement at which the innermost frame stands
 unfoldable pub statement : Code → Activation → World → Step
 statement code a w =
-    fetched code (code.fetch a.running.frame.block a.running.frame.at) a w
+    step_found code (code.fetch a.running.frame.block a.running.frame.at) a w
 
 -- nothing that the statement needs is missing
-abbrev pub Goes : Step → Type 0
-Goes Stuck = ⊥
-Goes _ = Unit {0}
+abbrev pub IsNotStuck : Step → Type 0
+IsNotStuck Stuck = ⊥
+IsNotStuck _ = Unit {0}
 
 -- what a call of a statement answers, and what it leaves
-abbrev pub Comes : Step → (old new : Activation) (w w' : World) → Outcome → Type 0
-Comes (Went a after) old new w w' outcome.Went = (new ≡ a) × (w' ≡ after)
-Comes (Ended regs after) old new w w' outcome.Ended = HasEnded old new regs × (w' ≡ after)
-Comes (SyncError code a) old new w w' (outcome.SyncError answer) =
+abbrev pub IsOutcomeOf : Step → (old new : Activation) (w w' : World) → Outcome → Type 0
+IsOutcomeOf (Went a after) old new w w' outcome.Went = (new ≡ a) × (w' ≡ after)
+IsOutcomeOf (Ended regs after) old new w w' outcome.Ended = HasEnded old new regs × (w' ≡ after)
+IsOutcomeOf (SyncError code a) old new w w' (outcome.SyncError answer) =
     (answer ≡ code) × (new ≡ a) × (w' ≡ w)
-Comes (SysCall number given a) old new w w' (outcome.SysCall function inputs result) =
+IsOutcomeOf (SysCall number given a) old new w w' (outcome.SysCall function inputs result) =
     (function ≡ number) × (inputs ≡ given.inputs) × (result ≡ given.result) × (new ≡ a) × (w' ≡ w)
-Comes (Stop cause) old new w w' (outcome.Stop answer) = (answer ≡ cause) × (new ≡ old) × (w' ≡ w)
-Comes step old new w w' answer = ⊥
+IsOutcomeOf (Stop cause) old new w w' (outcome.Stop answer) = (answer ≡ cause) × (new ≡ old) × (w' ≡ w)
+IsOutcomeOf step old new w w' answer = ⊥
+
+-- the answer is a synchronous error
+abbrev pub is_error : Outcome → Bool
+is_error (outcome.SyncError code) = true
+is_error _ = false
+
+-- whether the activation goes on once an instruction was performed, what else came of it, and what
+-- that left: a synchronous error nothing at all, so that the next statement is still to be gone to. Of
+-- an instruction that lacks what it needs nothing is said
+abbrev pub IsPerformed :
+    Step → (next : ℕ) → (old new : Activation) (w w' : World) → (goes : Bool) → (other : Outcome) → Type 0
+IsPerformed Stuck next old new w w' goes other = Unit {0}
+IsPerformed (Went a after) next old new w w' true other = (new ≡ a) × (w' ≡ after)
+IsPerformed (Went a after) next old new w w' false other = ⊥
+IsPerformed (SyncError code a) next old new w w' false (outcome.SyncError answer) =
+    (answer ≡ code) × (a ≡ advance next old) × (new ≡ old) × (w' ≡ w)
+IsPerformed (SyncError code a) next old new w w' goes other = ⊥
+IsPerformed step next old new w w' false other = IsOutcomeOf step old new w w' other
+IsPerformed step next old new w w' true other = ⊥

@@ -11,7 +11,7 @@ use Rattle.flat_code.specs.Blocks.{system_params}
 use Rattle.flat_code.specs.Image.{param_of}
 use Rattle.flat_code.specs.Instr.{Passing}
 use Rattle.flat_code.specs.Records.{section_in, section_out}
-use Rattle.machine.specs.Parts.{Own, own_of, then_ok}
+use Rattle.machine.specs.ExecState.{Local, local_of, then_ok}
 use Rattle.machine.specs.Places.{number_in}
 use Rattle.machine.specs.Bindings.{bindings_of}
 
@@ -25,7 +25,7 @@ pub record Given : Type 0 where
   pub result : Option Binding
 
 -- the number that is passed; a place was tested when it was bound
-abbrev pub input_of : Option Binding → Own → Areas → ℕ
+abbrev pub input_of : Option Binding → Local → Areas → ℕ
 input_of (Some (binding.Bound place width frame)) s m =
     unwrap_or
     (number_in (record { place = place; width = width; frame = frame }) s.locals m) 0
@@ -38,7 +38,7 @@ count_inputs [] = 0
 count_inputs (p ∷ rest) = (if p.section == section_in then 1 else 0) + count_inputs rest
 
 -- the numbers of the IN parameters from an index on, in their order
-abbrev pub inputs_from : List Param → (index : ℕ) → List Binding → Own → Areas → List ℕ
+abbrev pub inputs_from : List Param → (index : ℕ) → List Binding → Local → Areas → List ℕ
 inputs_from [] index bindings s m = []
 inputs_from (p ∷ rest) index bindings s m =
     if p.section == section_in
@@ -52,7 +52,7 @@ result_from (p ∷ rest) index bindings =
     if p.section == section_out then slice_get bindings index else result_from rest (index + 1) bindings
 
 -- a call gives the numbers of the IN parameters as they are now, and what RET_VAL stands for
-abbrev pub given_by : List Param → List Binding → Own → Areas → Given
+abbrev pub given_by : List Param → List Binding → Local → Areas → Given
 given_by params bindings s m = record {
   inputs = inputs_from params 0 bindings s m;
   result = result_from params 0 bindings;
@@ -60,9 +60,9 @@ given_by params bindings s m = record {
 
 -- the same of an activation
 abbrev pub given_now : List Param → List Binding → Activation → Areas → Given
-given_now params bindings a m = given_by params bindings (own_of a.running) m
+given_now params bindings a m = given_by params bindings (local_of a.running) m
 
 -- parameters are bound as in each call: the error is that of the first that can't be bound
-unfoldable pub system_call : List Param → List Passing → Own → Areas → Result Given ℕ
+unfoldable pub system_call : List Param → List Passing → Local → Areas → Result Given ℕ
 system_call params passings s m =
     then_ok (bindings_of params passings s m) (λ bindings. Ok (given_by params bindings s m))

@@ -10,8 +10,8 @@ use Rattle.timers_counters.specs.Timer.{Timer, started, reset_timer, freed_timer
 use Rattle.timers_counters.specs.Counter.{Counter, counted_up, counted_down, set_to, reset_counter, freed_counter}
 use Rattle.frames.specs.declared.running.Running.{Running}
 use Rattle.flat_code.specs.declared.operands.Operand.{Operand}
-use Rattle.machine.specs.Parts.{Own, then_ok}
-use Rattle.machine.specs.Outcomes.{Answer}
+use Rattle.machine.specs.ExecState.{Local, then_ok}
+use Rattle.machine.specs.Outcomes.{Answer, IsDone}
 use Rattle.machine.specs.Values.{faulty, number_named}
 
 -- the instructions on timers and counters end the logic string: OR 0, /FC 0
@@ -19,53 +19,53 @@ abbrev pub string_ended : Regs → Regs
 string_ended r = record r { status = record r.status { or = false; fc = false } }
 
 -- the word that a start instruction and S take: the low word of accumulator 1
-abbrev pub operation_of : Own → ℕ
+abbrev pub operation_of : Local → ℕ
 operation_of s = s.regs.a1 % 2 ^ 16
 
 -- SP SE SD SS SF: the timers afterwards; 26 where there is none of the number, 21 for a bad digit
-unfoldable pub starting : TimerKind → Operand → Own → Areas → List Timer → Result (List Timer) ℕ
+unfoldable pub starting : TimerKind → Operand → Local → Areas → List Timer → Result (List Timer) ℕ
 starting how o s m t =
     then_ok (number_named o s m) (λ number.
     faulty errors.no_timer (change (started how s.regs.status.rlo (operation_of s)) t number))
 
 -- R of a timer
-unfoldable pub timer_reset : Operand → Own → Areas → List Timer → Result (List Timer) ℕ
+unfoldable pub timer_reset : Operand → Local → Areas → List Timer → Result (List Timer) ℕ
 timer_reset o s m t =
     then_ok (number_named o s m) (λ number.
     faulty errors.no_timer (change_always (reset_timer s.regs.status.rlo) t number))
 
 -- FR of a timer
-unfoldable pub timer_freed : Operand → Own → Areas → List Timer → Result (List Timer) ℕ
+unfoldable pub timer_freed : Operand → Local → Areas → List Timer → Result (List Timer) ℕ
 timer_freed o s m t =
     then_ok (number_named o s m) (λ number.
     faulty errors.no_timer (change_always (freed_timer s.regs.status.rlo) t number))
 
 -- CU, and CD: the counters afterwards; 27 where there is none of the number
-unfoldable pub counting_up : Operand → Own → Areas → List Counter → Result (List Counter) ℕ
+unfoldable pub counting_up : Operand → Local → Areas → List Counter → Result (List Counter) ℕ
 counting_up o s m n =
     then_ok (number_named o s m) (λ number.
     faulty errors.no_counter (change_always (counted_up s.regs.status.rlo) n number))
 
 -- CD takes one away on a rising RLO, 0 stays 0
-unfoldable pub counting_down : Operand → Own → Areas → List Counter → Result (List Counter) ℕ
+unfoldable pub counting_down : Operand → Local → Areas → List Counter → Result (List Counter) ℕ
 counting_down o s m n =
     then_ok (number_named o s m) (λ number.
     faulty errors.no_counter (change_always (counted_down s.regs.status.rlo) n number))
 
 -- S of a counter: 21 for a bad digit
-unfoldable pub counter_set : Operand → Own → Areas → List Counter → Result (List Counter) ℕ
+unfoldable pub counter_set : Operand → Local → Areas → List Counter → Result (List Counter) ℕ
 counter_set o s m n =
     then_ok (number_named o s m) (λ number.
     faulty errors.no_counter (change (set_to s.regs.status.rlo (operation_of s)) n number))
 
 -- R of a counter
-unfoldable pub counter_reset : Operand → Own → Areas → List Counter → Result (List Counter) ℕ
+unfoldable pub counter_reset : Operand → Local → Areas → List Counter → Result (List Counter) ℕ
 counter_reset o s m n =
     then_ok (number_named o s m) (λ number.
     faulty errors.no_counter (change_always (reset_counter s.regs.status.rlo) n number))
 
 -- FR of a counter
-unfoldable pub counter_freed : Operand → Own → Areas → List Counter → Result (List Counter) ℕ
+unfoldable pub counter_freed : Operand → Local → Areas → List Counter → Result (List Counter) ℕ
 counter_freed o s m n =
     then_ok (number_named o s m) (λ number.
     faulty errors.no_counter (change_always (freed_counter s.regs.status.rlo) n number))
@@ -73,7 +73,6 @@ counter_freed o s m n =
 -- an effect on timers or counters: the logic string ends; after an error all is as it was
 abbrev pub Times :
     {A : Type 0} → Result (List A) ℕ → (old new : Running) (all all' : List A) → Answer → Type 0
-Times (Ok next) old new all all' (Ok answer) =
-    (new ≡ record old { regs = string_ended old.regs }) × (all' ≡ next)
-Times (Err e) old new all all' (Err code) = (code ≡ e) × (new ≡ old) × (all' ≡ all)
-Times effect old new all all' answer = ⊥
+Times effect old new all all' answer =
+    IsDone effect (λ next. (new ≡ record old { regs = string_ended old.regs }) × (all' ≡ next))
+    ((new ≡ old) × (all' ≡ all)) answer

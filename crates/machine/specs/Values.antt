@@ -18,19 +18,19 @@ use Rattle.flat_code.specs.Kinds.{flag_of}
 use Rattle.flat_code.specs.declared.operands.Operand.{Operand}
 use Rattle.flat_code.specs.declared.operands.Operand.TheVariants as operand
 use Rattle.machine.specs.declared.places.Access.TheVariants.{Reading, Writing}
-use Rattle.machine.specs.declared.places.Bound.{Bound}
-use Rattle.machine.specs.Parts.{Own, Scene, then_ok}
+use Rattle.machine.specs.declared.places.Location.{Location}
+use Rattle.machine.specs.ExecState.{Local, LocalMemory, then_ok}
 use Rattle.machine.specs.Places.{located, read, absent, is_local, pointer, no_operand}
 
 -- what a parameter of a function reads as: the number at its place, or its constant
-abbrev pub number_of_binding : Option Binding → Own → Areas → Result ℕ ℕ
+abbrev pub number_of_binding : Option Binding → Local → Areas → Result ℕ ℕ
 number_of_binding (Some (binding.Bound place width frame)) s m =
     read (record { place = place; width = width; frame = frame }) s m
 number_of_binding (Some (binding.Constant value)) s m = Ok value
 number_of_binding _ s m = Err no_operand
 
 -- the number of an operand that is a constant or has a place
-unfoldable pub number : Operand → Own → Areas → Result ℕ ℕ
+unfoldable pub number : Operand → Local → Areas → Result ℕ ℕ
 number (operand.Literal value) s m = Ok value
 number (operand.Parameter index width) s m =
     number_of_binding (slice_get s.inner.bindings index) s m
@@ -66,7 +66,7 @@ bcd_of_numbered kind number t n =
     else faulty errors.no_counter (reading count_bcd n number)
 
 -- the number of a timer or counter: its own, or the word at a place
-unfoldable pub number_named : Operand → Own → Areas → Result ℕ ℕ
+unfoldable pub number_named : Operand → Local → Areas → Result ℕ ℕ
 number_named (operand.Numbered kind number) s m = Ok number
 number_named (operand.NumberedBy kind from byte) s m = pointer from byte widths.Word s m
 number_named _ s m = Err no_operand
@@ -77,7 +77,7 @@ is_one (Ok n) = Ok (n == 1)
 is_one (Err e) = Err e
 
 -- the bit that a check reads
-unfoldable pub tested : Operand → Own → Areas → List Timer → List Counter → Result Bool ℕ
+unfoldable pub tested : Operand → Local → Areas → List Timer → List Counter → Result Bool ℕ
 tested (operand.Numbered kind number) s m t n = bit_of_numbered kind number t n
 tested (operand.NumberedBy kind from byte) s m t n =
     then_ok (pointer from byte widths.Word s m) (λ number. bit_of_numbered kind number t n)
@@ -86,32 +86,32 @@ tested (operand.OfStatus condition) s m t n =
 tested o s m t n = is_one (number o s m)
 
 -- the number that L reads
-unfoldable pub loaded : Operand → Own → Areas → List Timer → List Counter → Result ℕ ℕ
+unfoldable pub loaded : Operand → Local → Areas → List Timer → List Counter → Result ℕ ℕ
 loaded (operand.Numbered kind number) s m t n = value_of_numbered kind number t n
 loaded (operand.NumberedBy kind from byte) s m t n =
     then_ok (pointer from byte widths.Word s m) (λ number. value_of_numbered kind number t n)
 loaded o s m t n = number o s m
 
 -- the number that LC reads: three BCD digits, of a timer with its base above them
-unfoldable pub bcd_loaded : Operand → Own → Areas → List Timer → List Counter → Result ℕ ℕ
+unfoldable pub bcd_loaded : Operand → Local → Areas → List Timer → List Counter → Result ℕ ℕ
 bcd_loaded (operand.Numbered kind number) s m t n = bcd_of_numbered kind number t n
 bcd_loaded (operand.NumberedBy kind from byte) s m t n =
     then_ok (pointer from byte widths.Word s m) (λ number. bcd_of_numbered kind number t n)
 bcd_loaded o s m t n = Err no_operand
 
 -- other local bytes; registers and the innermost frame stay
-abbrev pub with_locals : Own → LocalData → Own
+abbrev pub with_locals : Local → LocalData → Local
 with_locals s l = record s { locals = l }
 
 -- a number at a place in the local bytes of a frame or in memory; None where it doesn't exist
-abbrev pub stored_at : Bound → ℕ → Own → Areas → Option Scene
+abbrev pub stored_at : Location → ℕ → Local → Areas → Option LocalMemory
 stored_at at value s m =
     if is_local at.place.area
-    then option_map (λ l. record { own = with_locals s l; memory = m })
+    then option_map (λ l. record { local = with_locals s l; memory = m })
     (local_written s.locals at.frame at.place.byte at.place.bit at.width value)
-    else option_map (λ memory. record { own = s; memory = memory })
+    else option_map (λ memory. record { local = s; memory = memory })
     (written m at.place at.width value)
 
 -- a number written to a place
-unfoldable pub write : Bound → ℕ → Own → Areas → Result Scene ℕ
+unfoldable pub write : Location → ℕ → Local → Areas → Result LocalMemory ℕ
 write at value s m = ok_or (stored_at at value s m) (absent Writing at.place.area)

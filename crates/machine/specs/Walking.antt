@@ -1,21 +1,20 @@
 -- How the machine goes along the ops of a statement, by their offsets.
-use Rattle.std.specs.Prelude.{◌≡◌, ℕ, Bool, zero, suc, List, slice_get, Option, Some, None, unwrap_or, Result, Ok, if◌then◌else◌}
+use Rattle.std.specs.Prelude.{ℕ, true, zero, suc, List, [], slice_get, Option, Some, None, unwrap_or, Result, Ok, if◌then◌else◌}
 use Rattle.plc_mem.specs.Areas.{Areas}
 use Rattle.frames.specs.Bound.{set_at}
 use Rattle.frames.specs.declared.bindings.Binding.{Binding}
 use Rattle.flat_code.specs.Ops.{OpData}
-use Rattle.flat_code.specs.Placed.{op_placed}
+use Rattle.flat_code.specs.Placed.{op_placed, line_placed}
+use Rattle.flat_code.specs.Programs.{CodeBlock}
 use Rattle.flat_code.specs.declared.operands.Operand.{Operand}
 use Rattle.flat_code.specs.declared.operands.Operand.TheVariants as operand
 use Rattle.flat_code.specs.declared.programs.Param.{Param}
 use Rattle.flat_code.specs.Instr.{Passing}
-use Rattle.plc_base.specs.declared.BlockId.{BlockId}
 use Rattle.flat_code.specs.Operations.{operation_of}
-use Rattle.machine.specs.Code.{Code}
-use Rattle.machine.specs.There.{is_there}
-use Rattle.machine.specs.Parts.{Own, then_ok}
-use Rattle.machine.specs.Bindings.{bound_for, bound_params}
-use Rattle.machine.specs.Flat.{Run, use_db_of, use_db_first, list_of, most_ops, instr_of}
+use Rattle.machine.specs.Code.{Fetched}
+use Rattle.machine.specs.ExecState.{Local, then_ok}
+use Rattle.machine.specs.Bindings.{bound_for, unsupplied}
+use Rattle.machine.specs.Flat.{Run, use_db_of, use_db_first, list_of, most_ops, with_passing, instr_of}
 
 -- what a statement opens first, its last op, and the offset behind it
 pub record Walk : Type 0 where
@@ -50,14 +49,14 @@ picked most ops target at number =
     unwrap_or (slice_get (list_of most ops target at) number) target
 
 -- an op that passes a parameter sets what it stands for
-abbrev pub bound_by : Operand → List Param → List Binding → Own → Areas → Result (List Binding) ℕ
+abbrev pub bound_by : Operand → List Param → List Binding → Local → Areas → Result (List Binding) ℕ
 bound_by (operand.Pass index actual) params bindings s m =
     then_ok (bound_for (slice_get params index) actual s m) (λ b. Ok (set_at bindings index b))
 bound_by _ params bindings s m = Ok bindings
 
 -- so do all ops of a statement
 abbrev pub bound_next :
-    Option (OpData × ℕ) → List Param → List Binding → Own → Areas
+    Option (OpData × ℕ) → List Param → List Binding → Local → Areas
     → (ℕ → List Binding → Result (List Binding) ℕ) → Result (List Binding) ℕ
 bound_next None params bindings s m more = Ok bindings
 bound_next (Some r) params bindings s m more =
@@ -66,22 +65,37 @@ bound_next (Some r) params bindings s m more =
 
 -- at most so many ops from an offset on; it ends at the last op of the statement, which passes none
 unfoldable pub bound_from :
-    (most : ℕ) → List OpData → ℕ → List Param → List Binding → Own → Areas
+    (most : ℕ) → List OpData → ℕ → List Param → List Binding → Local → Areas
     → Result (List Binding) ℕ
 bound_from zero ops at params bindings s m = Ok bindings
 bound_from (suc most) ops at params bindings s m =
     bound_next (op_placed 0 ops at) params bindings s m (λ next bound.
     bound_from most ops next params bound s m)
 
--- the ops of the statement at an offset pass this
-abbrev pub Passes : List OpData → ℕ → List Passing → Type 0
-Passes ops at passings =
-    (params : List Param) (bindings : List Binding) (s : Own) (m : Areas)
-    → bound_from most_ops ops at params bindings s m ≡ bound_params params passings bindings s m
+-- what all parameters stand for, by the ops of the statement at an offset
+abbrev pub bound_all : List OpData → ℕ → List Param → Local → Areas → Result (List Binding) ℕ
+bound_all ops at params s m = bound_from most_ops ops at params (unsupplied params) s m
 
--- the answer is whether what the instruction of a statement needs is there, whatever it passes
-abbrev pub TellsThere : Code → BlockId → Walk → List OpData → (answer : Bool) → Type 0
-TellsThere c own walk ops answer =
-    (passings : List Passing)
-    → answer ≡ is_there c
-    (instr_of (operation_of walk.last.code) walk.last.operand walk.opens passings walk.next ops) own
+-- what a further op passes, and those behind it; the last op of a statement passes nothing
+abbrev pub passings_with : Option (OpData × ℕ) → (ℕ → List Passing) → List Passing
+passings_with None more = []
+passings_with (Some r) more = if r.0.last then [] else with_passing r.0.operand (more r.1)
+
+-- what at most so many ops from an offset on pass
+unfoldable pub passings_from : (most : ℕ) → List OpData → ℕ → List Passing
+passings_from zero ops at = []
+passings_from (suc most) ops at =
+    passings_with (op_placed 0 ops at) (λ next. passings_from most ops next)
+
+-- what the statement at an offset passes
+abbrev pub passings_at : List OpData → ℕ → List Passing
+passings_at ops at = passings_from most_ops ops at
+
+-- the statement at an offset of a block, by what was found along its ops
+abbrev pub fetched_at : CodeBlock → ℕ → Walk → Fetched
+fetched_at b at walk = record {
+  instr = instr_of (operation_of walk.last.code) walk.last.operand walk.opens (passings_at b.code at)
+      walk.next b.code;
+  next = walk.next;
+  line = unwrap_or (line_placed 0 true b.code b.lines at) 0;
+}

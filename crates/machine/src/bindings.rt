@@ -1,10 +1,10 @@
 //! CALL: what each parameter of the called block stands for.
 ghost use Rattle.std.specs.Prelude.{◌≡◌, ◌≤◌, ◌<◌, length, slice_get, Ok, Err};
-ghost use Rattle.machine.specs.Parts.{own_of};
+ghost use Rattle.machine.specs.ExecState.{local_of};
 ghost use Rattle.machine.specs.Bindings.{access_of as access_of_param, bound_place as bound_place_of, passed_on as passed_on_of, bound_actual as bound_actual_of, bound_for as bound_for_of, unsupplied as unsupplied_of};
 
 use crate::data_blocks::is_loaded;
-use crate::places::{Access, Bound, number_at, placed};
+use crate::places::{Access, Location, number_at, placed};
 use flat_code::{Param, Passed, SECTION_OUT};
 use frames::{Binding, Bindings, Running};
 use plc_base::{Area, Place, error_codes};
@@ -21,8 +21,8 @@ fn access_of(param: &Param) -> Access
 }
 
 #[tactic(auto, unfolding(crate::specs::Bindings::bound_place))]
-fn bound_place(access: Access, at: &Bound, s: &Running, m: &Memory) -> Result<Binding, u8>
-    ensures { result ≡ bound_place_of access at.now (own_of s.now) m.now }
+fn bound_place(access: Access, at: &Location, s: &Running, m: &Memory) -> Result<Binding, u8>
+    ensures { result ≡ bound_place_of access at.now (local_of s.now) m.now }
 {
     match number_at(at, &s.locals, m) {
         Some(_) => Ok(Binding::Bound {
@@ -45,7 +45,7 @@ fn passed_on(binding: Option<Binding>) -> Result<Binding, u8>
 
 #[tactic(auto, unfolding(crate::specs::Bindings::bound_actual))]
 fn bound_actual(access: Access, actual: Passed, s: &Running, m: &Memory) -> Result<Binding, u8>
-    ensures { result ≡ bound_actual_of access actual (own_of s.now) m.now }
+    ensures { result ≡ bound_actual_of access actual (local_of s.now) m.now }
 {
     match actual {
         Passed::Literal { value } => Ok(Binding::Constant { value }),
@@ -69,7 +69,7 @@ fn bound_actual(access: Access, actual: Passed, s: &Running, m: &Memory) -> Resu
             if !is_loaded(number, m) {
                 return Err(error_codes::NO_DATA_BLOCK);
             }
-            let at = Bound {
+            let at = Location {
                 place: Place {
                     area: Area::Db,
                     number,
@@ -92,7 +92,7 @@ pub(crate) fn bound_for(
     s: &Running,
     m: &Memory,
 ) -> Result<Binding, u8>
-    ensures { result ≡ bound_for_of (slice_get params.now index) actual (own_of s.now) m.now }
+    ensures { result ≡ bound_for_of (slice_get params.now index) actual (local_of s.now) m.now }
 {
     match params.get(usize::from(index)) {
         Some(param) => bound_actual(access_of(param), actual, s, m),

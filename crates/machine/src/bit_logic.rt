@@ -1,10 +1,10 @@
 //! Bit logic with an operand: A AN O ON X XN, =, S, R, FP, FN.
 ghost use Rattle.std.specs.Prelude.{◌≡◌, ◌<◌};
-ghost use Rattle.machine.specs.Parts.{own_of, then_ok};
+ghost use Rattle.machine.specs.ExecState.{local_of, then_ok};
 ghost use Rattle.machine.specs.Outcomes.{Acts, Checks};
 ghost use Rattle.machine.specs.BitLogic.{checking, put_bit as put_bit_of, bit_before as bit_before_of, bit_after as bit_after_of, bit_number as number_of_bit, assigned, assigned_at, set_at as set_at_of, bit_set as bit_set_of, edge as edge_of};
 
-use crate::places::{Access, Bound, located, number_at, placed};
+use crate::places::{Access, Location, located, number_at, placed};
 use crate::relay::power_flow;
 use crate::values::{tested, write};
 use flat_code::Operand;
@@ -25,7 +25,7 @@ pub(crate) fn check(
     t: &Timers,
     n: &Counters,
 ) -> Result<(), u8>
-    ensures { Checks (checking with operand.now (own_of s.old) m.now t.now n.now)
+    ensures { Checks (checking with operand.now (local_of s.old) m.now t.now n.now)
         s.old s.new result }
 {
     let bit = tested(operand, s, m, t, n)?;
@@ -43,8 +43,8 @@ fn bit_number(bit: bool) -> u32
 // The bit at a place that is to be written.
 #[tactic(auto, unfolding(crate::specs::BitLogic::bit_before))]
 #[inline(always)]
-fn bit_before(at: &Bound, s: &Running, m: &Memory) -> Result<bool, u8>
-    ensures { result ≡ bit_before_of at.now (own_of s.now) m.now }
+fn bit_before(at: &Location, s: &Running, m: &Memory) -> Result<bool, u8>
+    ensures { result ≡ bit_before_of at.now (local_of s.now) m.now }
 {
     match number_at(at, &s.locals, m) {
         Some(number) => Ok(number == 1),
@@ -55,8 +55,8 @@ fn bit_before(at: &Bound, s: &Running, m: &Memory) -> Result<bool, u8>
 // Writes a bit to a place, with other registers.
 #[tactic(auto, unfolding(crate::specs::BitLogic::put_bit))]
 #[inline(always)]
-fn put_bit(at: &Bound, bit: bool, regs: Regs, s: &mut Running, m: &mut Memory) -> Result<(), u8>
-    ensures { Acts (put_bit_of at.now bit regs (own_of s.old) m.old)
+fn put_bit(at: &Location, bit: bool, regs: Regs, s: &mut Running, m: &mut Memory) -> Result<(), u8>
+    ensures { Acts (put_bit_of at.now bit regs (local_of s.old) m.old)
         s.old s.new m.old m.new result }
 {
     write(at, bit_number(bit), s, m)?;
@@ -67,8 +67,8 @@ fn put_bit(at: &Bound, bit: bool, regs: Regs, s: &mut Running, m: &mut Memory) -
 // = at a place. The status bits change in place once the bit is written, so no register is copied.
 #[tactic(auto, unfolding(crate::specs::BitLogic::put_bit))]
 #[inline(always)]
-fn assign_at(at: &Bound, s: &mut Running, m: &mut Memory) -> Result<(), u8>
-    ensures { Acts (assigned_at at.now (own_of s.old) m.old) s.old s.new m.old m.new result }
+fn assign_at(at: &Location, s: &mut Running, m: &mut Memory) -> Result<(), u8>
+    ensures { Acts (assigned_at at.now (local_of s.old) m.old) s.old s.new m.old m.new result }
 {
     let value = power_flow(s);
     write(at, bit_number(value), s, m)?;
@@ -79,7 +79,7 @@ fn assign_at(at: &Bound, s: &mut Running, m: &mut Memory) -> Result<(), u8>
 // = with a fixed place. Each area has its arm, so that the compiler joins it with the memory's own.
 #[inline(always)]
 fn assign_direct(area: Area, byte: u16, bit: u8, s: &mut Running, m: &mut Memory) -> Result<(), u8>
-    ensures { Acts (assigned (Operand.Direct area Width.Bit byte bit) (own_of s.old) m.old)
+    ensures { Acts (assigned (Operand.Direct area Width.Bit byte bit) (local_of s.old) m.old)
         s.old s.new m.old m.new result }
 {
     match area {
@@ -97,7 +97,7 @@ fn assign_direct(area: Area, byte: u16, bit: u8, s: &mut Running, m: &mut Memory
 #[tactic(auto, unfolding(crate::specs::BitLogic::assigned, crate::specs::Places::located))]
 #[inline(always)]
 fn assign_in(area: Area, byte: u16, bit: u8, s: &mut Running, m: &mut Memory) -> Result<(), u8>
-    ensures { Acts (assigned (Operand.Direct area Width.Bit byte bit) (own_of s.old) m.old)
+    ensures { Acts (assigned (Operand.Direct area Width.Bit byte bit) (local_of s.old) m.old)
         s.old s.new m.old m.new result }
 {
     let at = placed(Access::Writing, area, byte, bit, Width::Bit, s)?;
@@ -108,7 +108,7 @@ fn assign_in(area: Area, byte: u16, bit: u8, s: &mut Running, m: &mut Memory) ->
 #[tactic(auto, unfolding(crate::specs::BitLogic::assigned))]
 #[inline(never)]
 fn assign_elsewhere(operand: &Operand, s: &mut Running, m: &mut Memory) -> Result<(), u8>
-    ensures { Acts (assigned operand.now (own_of s.old) m.old) s.old s.new m.old m.new result }
+    ensures { Acts (assigned operand.now (local_of s.old) m.old) s.old s.new m.old m.new result }
 {
     let at = located(Access::Writing, operand, s, m)?;
     assign_at(&at, s, m)
@@ -117,7 +117,7 @@ fn assign_elsewhere(operand: &Operand, s: &mut Running, m: &mut Memory) -> Resul
 /// =.
 #[inline(always)]
 pub(crate) fn assign(operand: &Operand, s: &mut Running, m: &mut Memory) -> Result<(), u8>
-    ensures { Acts (assigned operand.now (own_of s.old) m.old) s.old s.new m.old m.new result }
+    ensures { Acts (assigned operand.now (local_of s.old) m.old) s.old s.new m.old m.new result }
 {
     match *operand {
         Operand::Direct {
@@ -139,9 +139,9 @@ fn bit_after(flow: bool, value: bool, before: bool) -> bool
 // S and R of a bit at a place.
 #[tactic(auto, unfolding(crate::specs::BitLogic::put_bit))]
 #[inline(always)]
-fn set_at(value: bool, at: &Bound, s: &mut Running, m: &mut Memory) -> Result<(), u8>
-    ensures { Acts (then_ok (bit_before_of at.now (own_of s.old) m.old)
-        (λ before. set_at_of value at.now before (own_of s.old) m.old))
+fn set_at(value: bool, at: &Location, s: &mut Running, m: &mut Memory) -> Result<(), u8>
+    ensures { Acts (then_ok (bit_before_of at.now (local_of s.old) m.old)
+        (λ before. set_at_of value at.now before (local_of s.old) m.old))
         s.old s.new m.old m.new result }
 {
     let before = bit_before(at, s, m)?;
@@ -162,7 +162,7 @@ fn set_direct(
     s: &mut Running,
     m: &mut Memory,
 ) -> Result<(), u8>
-    ensures { Acts (bit_set_of value (Operand.Direct area Width.Bit byte bit) (own_of s.old) m.old)
+    ensures { Acts (bit_set_of value (Operand.Direct area Width.Bit byte bit) (local_of s.old) m.old)
         s.old s.new m.old m.new result }
 {
     let at = placed(Access::Writing, area, byte, bit, Width::Bit, s)?;
@@ -173,7 +173,7 @@ fn set_direct(
 #[tactic(auto, unfolding(crate::specs::BitLogic::bit_set))]
 #[inline(never)]
 fn set_elsewhere(value: bool, operand: &Operand, s: &mut Running, m: &mut Memory) -> Result<(), u8>
-    ensures { Acts (bit_set_of value operand.now (own_of s.old) m.old)
+    ensures { Acts (bit_set_of value operand.now (local_of s.old) m.old)
         s.old s.new m.old m.new result }
 {
     let at = located(Access::Writing, operand, s, m)?;
@@ -188,7 +188,7 @@ pub(crate) fn set_bit(
     s: &mut Running,
     m: &mut Memory,
 ) -> Result<(), u8>
-    ensures { Acts (bit_set_of value operand.now (own_of s.old) m.old)
+    ensures { Acts (bit_set_of value operand.now (local_of s.old) m.old)
         s.old s.new m.old m.new result }
 {
     match *operand {
@@ -211,7 +211,7 @@ pub(crate) fn edge(
     s: &mut Running,
     m: &mut Memory,
 ) -> Result<(), u8>
-    ensures { Acts (edge_of rising operand.now (own_of s.old) m.old)
+    ensures { Acts (edge_of rising operand.now (local_of s.old) m.old)
         s.old s.new m.old m.new result }
 {
     let at = located(Access::Writing, operand, s, m)?;

@@ -22,7 +22,7 @@ ghost use Rattle.machine.specs.Flat.{code_of};
 ghost use Rattle.machine.specs.ImageLaws.{ImageLaws};
 ghost use Rattle.machine.specs.Lasting.{FitsProgram, GoesOn, IsReady, Lasts, LeavesFit, first_frame, ob_block};
 ghost use Rattle.machine.specs.Results.{GivesResult};
-ghost use Rattle.machine.specs.Statement.{World, fetched, statement, Goes, Comes};
+ghost use Rattle.machine.specs.Statement.{World, step_found, statement, IsNotStuck, IsOutcomeOf};
 ghost use Rattle.machine.specs.Moved.{StatementsMove};
 ghost use Rattle.machine.specs.There.{is_complete};
 
@@ -31,7 +31,7 @@ pub fn what_is_there_goes()
     ensures { (c : Code) (a : Activation) (w : World)
         → is_complete c (c.fetch a.running.frame.block a.running.frame.at) a.running.frame.block
         ≡ true
-        → Goes (fetched c (c.fetch a.running.frame.block a.running.frame.at) a w) }
+        → IsNotStuck (step_found c (c.fetch a.running.frame.block a.running.frame.at) a w) }
 {}
 
 // What verifying gives the laws below.
@@ -67,7 +67,7 @@ pub fn what_fits_lasts()
         → Verifies p → FitsProgram p w.memory a → Lasts p w (statement (code_of p) a w) }
     ensures answer { (p : Program) (old new : Activation) (w after : World) (answer : Outcome)
         → Verifies p → FitsProgram p w.memory old
-        → Comes (statement (code_of p) old w) old new w after answer
+        → IsOutcomeOf (statement (code_of p) old w) old new w after answer
         → LeavesFit p w.memory after.memory new answer }
 {
     what_verifying_gives();

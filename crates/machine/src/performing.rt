@@ -1,40 +1,46 @@
-//! What a statement comes to, by the shape of its instruction.
-ghost use Rattle.std.specs.Prelude.{◌≡◌, ◌≤◌, length, false, Ok, List};
+//! What performing an instruction comes to: the one place where operations are told apart.
+//!
+//! Each function answers whether the activation goes on. What else came of it stands in `other`, which
+//! is handed in: an answer of that size would be made anew for each instruction. What the parameters of
+//! a call stand for is found in `spare`, whatever that held.
+ghost use Rattle.std.specs.Prelude.{◌≡◌, ◌≤◌, ℕ, length, false, true, Ok, List};
 ghost use Rattle.timers_counters.specs.Timer.{Timer};
 ghost use Rattle.timers_counters.specs.Counter.{Counter};
 ghost use Rattle.frames.specs.Activations.{frames_of};
-ghost use Rattle.machine.specs.Parts.{parts_of};
-ghost use Rattle.machine.specs.Does.{does_with as does_with_of};
+ghost use Rattle.flat_code.specs.Instr.{Calls, Returns};
+ghost use Rattle.machine.specs.Code.{Code};
+ghost use Rattle.machine.specs.Effect.{effect_with as does_with_of};
+ghost use Rattle.machine.specs.Entering.{call as call_of, called_with, going_on};
+ghost use Rattle.machine.specs.Flat.{code_of, jump_instr, is_jl as is_jl_of, instance_named as instance_named_of, instr_of, head_of};
 ghost use Rattle.machine.specs.Jumps.{after_jump, goes_to as goes_to_of, is_taken as is_taken_of, rlo_tested};
-ghost use Rattle.machine.specs.Entering.{going_on, called_with};
+ghost use Rattle.machine.specs.ExecState.{local_of, exec_state_of};
 ghost use Rattle.machine.specs.Returning.{returning};
-ghost use Rattle.machine.specs.SystemCalls.{given_now, count_inputs};
-ghost use Rattle.machine.specs.Statement.{World, Went, SyncError, moved_on, world, went_on, jumped, cause_of as cause_of_fault, after_call, after_return, after_system_call, not_called, Comes};
+ghost use Rattle.machine.specs.Statement.{World, world, continue_with, returned, after_call, after_return, after_system_call, callee_of, cause_of as cause_of_fault, step_of, called, block_called, system_called, is_called as is_called_of, is_ended as is_ended_of, not_called, IsOutcomeOf, IsPerformed};
+ghost use Rattle.machine.specs.SystemCalls.{system_function as system_function_of, system_call, count_inputs, given_now};
+ghost use Rattle.machine.specs.Walking.{passings_at};
+ghost use Rattle.machine.specs.declared.outcomes.Outcome.{Outcome as OutcomeOf};
 
 use crate::entering::{Callee, at_block, enter_if_room};
+use crate::fetching::Fetched;
 use crate::jumps::{goes_to, is_taken, put_jump, test_rlo};
 use crate::outcomes::Outcome;
 use crate::returning::return_from_block;
-use crate::system_calls::{inputs_of, result_of};
-use crate::whole::does_with;
-use flat_code::{JumpOperation, Operand, Operation, Param};
+use crate::system_calls::{inputs_of, result_of, system_function};
+use crate::walking::{bind_all, jump_of, pick};
+use crate::whole::effect_with;
+use flat_code::{
+    CallOperation, EndOperation, JumpOperation, Operand, Operation, Param, kind_of_code,
+};
 use frames::{Activation, Bindings, FrameFault};
-use plc_base::stop_causes;
+use image_file::{Loaded, LoadedCode};
+use plc_base::{BlockId, stop_causes};
 use plc_mem::Memory;
 use timers_counters::{Counters, Timers};
 
-/// A synchronous error: nothing but the position changes.
-pub(crate) fn fail(code: u8, next: u32, a: &mut Activation) -> Outcome
-    ensures { (w : World) → Comes (SyncError code (moved_on next a.old)) a.old a.new w w result }
-{
-    a.running.frame.at = next;
-    Outcome::SyncError { code }
-}
-
-/// An instruction that touches no position.
-#[tactic(auto, using(crate::proofs::Steps::went_comes, crate::proofs::Steps::failed_comes))]
+// An instruction that touches no position.
+#[tactic(auto, using(crate::proofs::Steps::went_performs, crate::proofs::Steps::failed_performs))]
 #[inline(always)]
-pub(crate) fn perform(
+fn perform_plain(
     opens: Option<u16>,
     operation: Operation,
     operand: &Operand,
@@ -43,25 +49,52 @@ pub(crate) fn perform(
     m: &mut Memory,
     t: &mut Timers,
     n: &mut Counters,
-) -> Outcome
-    ensures { Comes (went_on (does_with_of opens operation operand.now
-        (parts_of a.old.running m.old t.old n.old)) next a.old)
-        a.old a.new (world m.old t.old n.old) (world m.new t.new n.new) result }
+    other: &mut Outcome,
+) -> bool
+    ensures { IsPerformed (continue_with (does_with_of opens operation operand.now
+        (exec_state_of a.old.running m.old t.old n.old)) next a.old) next a.old a.new
+        (world m.old t.old n.old) (world m.new t.new n.new) result other.new }
 {
-    match does_with(opens, operation, operand, &mut a.running, m, t, n) {
+    match effect_with(opens, operation, operand, &mut a.running, m, t, n) {
         Ok(()) => {
             a.running.frame.at = next;
-            Outcome::Went
+            true
         }
         Err(code) => {
-            a.running.frame.at = next;
-            Outcome::SyncError { code }
+            *other = Outcome::SyncError { code };
+            false
         }
     }
 }
 
-/// Where the block goes on after a jump, JL apart.
-pub(crate) fn jump_to(operation: JumpOperation, target: u32, next: u32, a: &mut Activation)
+// The same of an operand that the operation doesn't take.
+#[inline(never)]
+fn perform_other(
+    opens: Option<u16>,
+    operation: Operation,
+    operand: &Operand,
+    next: u32,
+    a: &mut Activation,
+    m: &mut Memory,
+    t: &mut Timers,
+    n: &mut Counters,
+    other: &mut Outcome,
+) -> bool
+    ensures { IsPerformed (continue_with (does_with_of opens operation operand.now
+        (exec_state_of a.old.running m.old t.old n.old)) next a.old) next a.old a.new
+        (world m.old t.old n.old) (world m.new t.new n.new) result other.new }
+{
+    perform_plain(opens, operation, operand, next, a, m, t, n, other)
+}
+
+pub(crate) fn is_jl(operation: JumpOperation) -> bool
+    ensures { result ≡ is_jl_of operation }
+{
+    matches!(operation, JumpOperation::Jl)
+}
+
+// A jump, JL apart.
+fn jump_to(operation: JumpOperation, target: u32, next: u32, a: &mut Activation)
     ensures { a.new ≡ going_on (goes_to_of (is_taken_of operation a.old.running.regs) target next)
         (after_jump operation a.old.running.regs) a.old }
 {
@@ -70,33 +103,60 @@ pub(crate) fn jump_to(operation: JumpOperation, target: u32, next: u32, a: &mut 
     a.running.frame.at = goes_to(taken, target, next);
 }
 
-/// A jump, JL apart.
-pub(crate) fn jump(operation: JumpOperation, target: u32, next: u32, a: &mut Activation) -> Outcome
-    ensures { (w : World) → Comes (jumped operation target next a.old w) a.old a.new w w result }
+// A jump, JL among them. The activation goes on.
+#[inline(never)]
+fn jump(code: &LoadedCode<'_>, operation: JumpOperation, target: u32, next: u32, a: &mut Activation)
+    ensures { (c : Code) (w : World) (other : OutcomeOf) →
+        IsPerformed (step_of c (jump_instr operation target next code.now.code) next a.old w) next
+        a.old a.new w w true other }
 {
-    jump_to(operation, target, next, a);
-    Outcome::Went
+    if is_jl(operation) {
+        let at = pick(code, target, next, &a.running.regs);
+        a.running.frame.at = at;
+    } else {
+        jump_to(operation, target, next, a);
+    }
 }
 
-/// CC with RLO 0.
-pub(crate) fn pass_over_call(next: u32, a: &mut Activation) -> Outcome
-    ensures { (w : World) → Comes (Went (going_on next (not_called a.old.running.regs) a.old) w)
-        a.old a.new w w result }
+pub(crate) fn is_called(how: CallOperation, rlo: bool) -> bool
+    ensures { result ≡ is_called_of how rlo }
+{
+    match how {
+        CallOperation::Cc => rlo,
+        _ => true,
+    }
+}
+
+pub(crate) fn is_ended(how: EndOperation, rlo: bool) -> bool
+    ensures { result ≡ is_ended_of how rlo }
+{
+    match how {
+        EndOperation::Bec => rlo,
+        _ => true,
+    }
+}
+
+fn instance_named(number: u16) -> Option<u16>
+    ensures { result ≡ instance_named_of number }
+{
+    if number == 0 { None } else { Some(number) }
+}
+
+// CC with RLO 0.
+fn pass_over_call(next: u32, a: &mut Activation)
+    ensures { a.new ≡ going_on next (not_called a.old.running.regs) a.old }
 {
     at_block(&mut a.running.regs);
     test_rlo(&mut a.running.regs);
     a.running.frame.at = next;
-    Outcome::Went
 }
 
-/// BEC with RLO 0.
-pub(crate) fn pass_over_end(next: u32, a: &mut Activation) -> Outcome
-    ensures { (w : World) → Comes (Went (going_on next (rlo_tested a.old.running.regs) a.old) w)
-        a.old a.new w w result }
+// BEC with RLO 0.
+fn pass_over_end(next: u32, a: &mut Activation)
+    ensures { a.new ≡ going_on next (rlo_tested a.old.running.regs) a.old }
 {
     test_rlo(&mut a.running.regs);
     a.running.frame.at = next;
-    Outcome::Went
 }
 
 fn cause_of(fault: FrameFault) -> u8
@@ -108,31 +168,114 @@ fn cause_of(fault: FrameFault) -> u8
     }
 }
 
-/// A call of a function or function block whose parameters are bound.
-#[tactic(auto, using(crate::proofs::Steps::call_comes))]
-pub(crate) fn call_block(
+// A call of a function or function block whose parameters are bound.
+#[tactic(auto, using(crate::proofs::Steps::call_performs, crate::proofs::Steps::call_stops))]
+fn call_block(
     called: &Callee<'_>,
     bindings: &Bindings,
     next: u32,
     a: &mut Activation,
     m: &mut Memory,
-) -> Outcome
+    other: &mut Outcome,
+) -> bool
     requires depth { length a.old.running.locals.starts ≡ length (frames_of a.old) }
     requires params { length called.now.params ≤ 60 }
     ensures { (t : List Timer) (n : List Counter) →
-        Comes (after_call (called_with (Ok bindings.now) called.now next a.old m.old) next a.old
-        (world m.old t n)) a.old a.new (world m.old t n) (world m.new t n) result }
+        IsPerformed (after_call (called_with (Ok bindings.now) called.now next a.old m.old) next a.old
+        (world m.old t n)) next a.old a.new (world m.old t n) (world m.new t n) result other.new }
 {
     match enter_if_room(called, bindings, next, a, m) {
-        Ok(()) => Outcome::Went,
-        Err(fault) => Outcome::Stop {
-            cause: cause_of(fault),
-        },
+        Ok(()) => true,
+        Err(fault) => {
+            *other = Outcome::Stop {
+                cause: cause_of(fault),
+            };
+            false
+        }
     }
 }
 
-/// A call of a system function whose parameters are bound.
-pub(crate) fn call_system(
+// A call of a function or function block with these parameters.
+fn call_with(
+    called: &Callee<'_>,
+    code: &LoadedCode<'_>,
+    at: u32,
+    next: u32,
+    a: &mut Activation,
+    m: &mut Memory,
+    spare: &mut Bindings,
+    other: &mut Outcome,
+) -> bool
+    requires depth { length a.old.running.locals.starts ≡ length (frames_of a.old) }
+    requires params { length called.now.params ≤ 60 }
+    ensures { (t : List Timer) (n : List Counter) →
+        IsPerformed (after_call (call_of called.now (passings_at code.now.code at) next a.old m.old) next
+        a.old (world m.old t n)) next a.old a.new (world m.old t n) (world m.new t n) result other.new }
+{
+    match bind_all(code, at, called.params, &a.running, m, spare) {
+        Err(error) => {
+            *other = Outcome::SyncError { code: error };
+            false
+        }
+        Ok(()) => call_block(called, spare, next, a, m, other),
+    }
+}
+
+// A call of a block that is loaded.
+fn call_loaded(
+    callee: &LoadedCode<'_>,
+    code: &LoadedCode<'_>,
+    at: u32,
+    block: BlockId,
+    instance: Option<u16>,
+    next: u32,
+    a: &mut Activation,
+    m: &mut Memory,
+    spare: &mut Bindings,
+    other: &mut Outcome,
+) -> bool
+    requires depth { length a.old.running.locals.starts ≡ length (frames_of a.old) }
+    ensures { (t : List Timer) (n : List Counter) →
+        IsPerformed (after_call (call_of (callee_of block instance (head_of callee.now))
+        (passings_at code.now.code at) next a.old m.old) next a.old (world m.old t n)) next
+        a.old a.new (world m.old t n) (world m.new t n) result other.new }
+{
+    let called = Callee {
+        block,
+        instance,
+        local_len: callee.local_len(),
+        params: callee.params(),
+    };
+    call_with(&called, code, at, next, a, m, spare, other)
+}
+
+// A call of a function or function block.
+fn call_code(
+    c: &Loaded,
+    code: &LoadedCode<'_>,
+    at: u32,
+    block: BlockId,
+    instance: Option<u16>,
+    next: u32,
+    a: &mut Activation,
+    m: &mut Memory,
+    spare: &mut Bindings,
+    other: &mut Outcome,
+) -> bool
+    requires depth { length a.old.running.locals.starts ≡ length (frames_of a.old) }
+    ensures { (t : List Timer) (n : List Counter) →
+        IsPerformed (block_called ((code_of c.now.program).head block) block instance
+        (passings_at code.now.code at) next a.old (world m.old t n)) next
+        a.old a.new (world m.old t n) (world m.new t n) result other.new }
+{
+    match c.block(block) {
+        Some(callee) => call_loaded(&callee, code, at, block, instance, next, a, m, spare, other),
+        None => false,
+    }
+}
+
+// A call of a system function whose parameters are bound.
+fn call_system(
     number: u16,
     params: &[Param],
     bindings: &Bindings,
@@ -143,7 +286,7 @@ pub(crate) fn call_system(
     requires few { length params.now ≤ 4 }
     requires inputs { count_inputs params.now ≤ 3 }
     ensures { (w : World) →
-        Comes (after_system_call (Ok (given_now params.now bindings.now a.old m.now)) number next
+        IsOutcomeOf (after_system_call (Ok (given_now params.now bindings.now a.old m.now)) number next
         a.old) a.old a.new w w result }
 {
     let inputs = inputs_of(params, bindings, &a.running, m);
@@ -157,18 +300,324 @@ pub(crate) fn call_system(
     }
 }
 
-/// A return from the innermost block.
-#[tactic(auto, using(crate::proofs::Steps::return_comes))]
-pub(crate) fn end_block(params: &[Param], a: &mut Activation, m: &mut Memory) -> Outcome
-    requires stands { a.old.left ≡ false }
-    requires params { length params.now ≤ 60 }
-    ensures { (t : List Timer) (n : List Counter) →
-        Comes (after_return (returning params.now a.old m.old) (world m.old t n))
-        a.old a.new (world m.old t n) (world m.new t n) result }
+// A call of a system function with these parameters. The activation doesn't go on by itself.
+fn call_system_with(
+    number: u16,
+    params: &[Param],
+    code: &LoadedCode<'_>,
+    at: u32,
+    next: u32,
+    a: &mut Activation,
+    m: &Memory,
+    spare: &mut Bindings,
+    other: &mut Outcome,
+)
+    requires few { length params.now ≤ 4 }
+    requires inputs { count_inputs params.now ≤ 3 }
+    ensures { (w : World) →
+        IsPerformed (after_system_call (system_call params.now (passings_at code.now.code at)
+        (local_of a.old.running) m.now) number next a.old) next a.old a.new w w false other.new }
 {
-    if return_from_block(params, a, m) {
-        Outcome::Went
-    } else {
-        Outcome::Ended
+    match bind_all(code, at, params, &a.running, m, spare) {
+        Err(error) => *other = Outcome::SyncError { code: error },
+        Ok(()) => *other = call_system(number, params, spare, next, a, m),
     }
+}
+
+// A call of a system function.
+fn call_function(
+    code: &LoadedCode<'_>,
+    at: u32,
+    number: u16,
+    next: u32,
+    a: &mut Activation,
+    m: &Memory,
+    spare: &mut Bindings,
+    other: &mut Outcome,
+)
+    ensures { (t : List Timer) (n : List Counter) →
+        IsPerformed (system_called (system_function_of number) number (passings_at code.now.code at)
+        next a.old (world m.now t n)) next a.old a.new (world m.now t n) (world m.now t n)
+        false other.new }
+{
+    match system_function(number) {
+        Some(params) => call_system_with(
+            number,
+            params.as_slice(),
+            code,
+            at,
+            next,
+            a,
+            m,
+            spare,
+            other,
+        ),
+        None => {}
+    }
+}
+
+// A call that is made.
+fn call_any(
+    c: &Loaded,
+    code: &LoadedCode<'_>,
+    at: u32,
+    block: BlockId,
+    instance: Option<u16>,
+    next: u32,
+    a: &mut Activation,
+    m: &mut Memory,
+    spare: &mut Bindings,
+    other: &mut Outcome,
+) -> bool
+    requires depth { length a.old.running.locals.starts ≡ length (frames_of a.old) }
+    ensures { (t : List Timer) (n : List Counter) →
+        IsPerformed (called (code_of c.now.program) block instance (passings_at code.now.code at) next
+        a.old (world m.old t n)) next a.old a.new (world m.old t n) (world m.new t n)
+        result other.new }
+{
+    if block.kind.is_system_function() {
+        call_function(code, at, block.number, next, a, m, spare, other);
+        false
+    } else {
+        call_code(c, code, at, block, instance, next, a, m, spare, other)
+    }
+}
+
+// CALL, UC and CC.
+#[inline(never)]
+fn call(
+    c: &Loaded,
+    code: &LoadedCode<'_>,
+    at: u32,
+    how: CallOperation,
+    block: BlockId,
+    instance: Option<u16>,
+    next: u32,
+    a: &mut Activation,
+    m: &mut Memory,
+    spare: &mut Bindings,
+    other: &mut Outcome,
+) -> bool
+    requires depth { length a.old.running.locals.starts ≡ length (frames_of a.old) }
+    ensures { (t : List Timer) (n : List Counter) →
+        IsPerformed (step_of (code_of c.now.program)
+        (Calls how block instance (passings_at code.now.code at)) next a.old (world m.old t n)) next
+        a.old a.new (world m.old t n) (world m.new t n) result other.new }
+{
+    if is_called(how, a.running.regs.status.rlo) {
+        call_any(c, code, at, block, instance, next, a, m, spare, other)
+    } else {
+        pass_over_call(next, a);
+        true
+    }
+}
+
+// A return from the innermost block, which is loaded.
+#[tactic(auto, using(crate::proofs::Steps::return_performs, crate::proofs::Steps::return_ends))]
+fn end_loaded(
+    code: &LoadedCode<'_>,
+    a: &mut Activation,
+    m: &mut Memory,
+    other: &mut Outcome,
+) -> bool
+    requires stands { a.old.left ≡ false }
+    ensures { (next : ℕ) (t : List Timer) (n : List Counter) →
+        IsPerformed (returned (Some (head_of code.now)) a.old (world m.old t n)) next
+        a.old a.new (world m.old t n) (world m.new t n) result other.new }
+{
+    if return_from_block(code.params(), a, m) {
+        true
+    } else {
+        *other = Outcome::Ended;
+        false
+    }
+}
+
+// A return that is made.
+fn end_any(c: &Loaded, a: &mut Activation, m: &mut Memory, other: &mut Outcome) -> bool
+    requires stands { a.old.left ≡ false }
+    ensures { (next : ℕ) (t : List Timer) (n : List Counter) →
+        IsPerformed (returned ((code_of c.now.program).head a.old.running.frame.block) a.old
+        (world m.old t n)) next a.old a.new (world m.old t n) (world m.new t n) result other.new }
+{
+    match c.block(a.running.frame.block) {
+        Some(code) => end_loaded(&code, a, m, other),
+        None => false,
+    }
+}
+
+// BE, BEU and BEC.
+#[inline(never)]
+fn end(
+    c: &Loaded,
+    how: EndOperation,
+    next: u32,
+    a: &mut Activation,
+    m: &mut Memory,
+    other: &mut Outcome,
+) -> bool
+    requires stands { a.old.left ≡ false }
+    ensures { (t : List Timer) (n : List Counter) →
+        IsPerformed (step_of (code_of c.now.program) (Returns how) next a.old (world m.old t n)) next
+        a.old a.new (world m.old t n) (world m.new t n) result other.new }
+{
+    if is_ended(how, a.running.regs.status.rlo) {
+        end_any(c, a, m, other)
+    } else {
+        pass_over_end(next, a);
+        true
+    }
+}
+
+// The last op of the statement that begins at `at`, with the data block that the statement opens.
+#[inline(always)]
+fn perform_op(
+    c: &Loaded,
+    code: &LoadedCode<'_>,
+    at: u32,
+    opens: Option<u16>,
+    operation: Operation,
+    operand: &Operand,
+    next: u32,
+    a: &mut Activation,
+    m: &mut Memory,
+    t: &mut Timers,
+    n: &mut Counters,
+    spare: &mut Bindings,
+    other: &mut Outcome,
+) -> bool
+    requires stands { a.old.left ≡ false }
+    requires depth { length a.old.running.locals.starts ≡ length (frames_of a.old) }
+    ensures { IsPerformed (step_of (code_of c.now.program)
+        (instr_of operation operand.now opens (passings_at code.now.code at) next code.now.code) next
+        a.old (world m.old t.old n.old)) next a.old a.new (world m.old t.old n.old)
+        (world m.new t.new n.new) result other.new }
+{
+    match operation {
+        Operation::Jump => match *operand {
+            Operand::Jump { kind, target } => {
+                jump(code, jump_of(kind), target, next, a);
+                true
+            }
+            _ => perform_other(opens, operation, operand, next, a, m, t, n, other),
+        },
+        Operation::Call(how) => match *operand {
+            Operand::Called {
+                kind,
+                number,
+                instance,
+            } => match kind_of_code(kind) {
+                Some(kind) => {
+                    let block = BlockId { kind, number };
+                    let instance = instance_named(instance);
+                    call(c, code, at, how, block, instance, next, a, m, spare, other)
+                }
+                None => perform_other(opens, operation, operand, next, a, m, t, n, other),
+            },
+            _ => perform_other(opens, operation, operand, next, a, m, t, n, other),
+        },
+        Operation::End(how) => end(c, how, next, a, m, other),
+        _ => perform_plain(opens, operation, operand, next, a, m, t, n, other),
+    }
+}
+
+// The same, where nothing is inlined.
+#[inline(never)]
+fn perform_op_apart(
+    c: &Loaded,
+    code: &LoadedCode<'_>,
+    at: u32,
+    opens: Option<u16>,
+    operation: Operation,
+    operand: &Operand,
+    next: u32,
+    a: &mut Activation,
+    m: &mut Memory,
+    t: &mut Timers,
+    n: &mut Counters,
+    spare: &mut Bindings,
+    other: &mut Outcome,
+) -> bool
+    requires stands { a.old.left ≡ false }
+    requires depth { length a.old.running.locals.starts ≡ length (frames_of a.old) }
+    ensures { IsPerformed (step_of (code_of c.now.program)
+        (instr_of operation operand.now opens (passings_at code.now.code at) next code.now.code) next
+        a.old (world m.old t.old n.old)) next a.old a.new (world m.old t.old n.old)
+        (world m.new t.new n.new) result other.new }
+{
+    perform_op(
+        c, code, at, opens, operation, operand, next, a, m, t, n, spare, other,
+    )
+}
+
+/// Performs the instruction of a statement that was found. A synchronous error leaves all as it was.
+#[inline(always)]
+pub(crate) fn perform(
+    c: &Loaded,
+    f: &Fetched<'_>,
+    a: &mut Activation,
+    m: &mut Memory,
+    t: &mut Timers,
+    n: &mut Counters,
+    spare: &mut Bindings,
+    other: &mut Outcome,
+) -> bool
+    requires stands { a.old.left ≡ false }
+    requires depth { length a.old.running.locals.starts ≡ length (frames_of a.old) }
+    ensures { IsPerformed (step_of (code_of c.now.program) f.now.instr f.now.next a.old
+        (world m.old t.old n.old)) f.now.next a.old a.new (world m.old t.old n.old)
+        (world m.new t.new n.new) result other.new }
+{
+    let last = f.last;
+    perform_op(
+        c,
+        f.code,
+        f.at,
+        f.opens,
+        last.operation(),
+        &last.operand,
+        f.next,
+        a,
+        m,
+        t,
+        n,
+        spare,
+        other,
+    )
+}
+
+/// The same, so that the way of those around it stays short.
+#[inline(always)]
+pub(crate) fn perform_apart(
+    c: &Loaded,
+    f: &Fetched<'_>,
+    a: &mut Activation,
+    m: &mut Memory,
+    t: &mut Timers,
+    n: &mut Counters,
+    spare: &mut Bindings,
+    other: &mut Outcome,
+) -> bool
+    requires stands { a.old.left ≡ false }
+    requires depth { length a.old.running.locals.starts ≡ length (frames_of a.old) }
+    ensures { IsPerformed (step_of (code_of c.now.program) f.now.instr f.now.next a.old
+        (world m.old t.old n.old)) f.now.next a.old a.new (world m.old t.old n.old)
+        (world m.new t.new n.new) result other.new }
+{
+    let last = f.last;
+    perform_op_apart(
+        c,
+        f.code,
+        f.at,
+        f.opens,
+        last.operation(),
+        &last.operand,
+        f.next,
+        a,
+        m,
+        t,
+        n,
+        spare,
+        other,
+    )
 }

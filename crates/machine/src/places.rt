@@ -1,7 +1,7 @@
 //! From an operand to its place.
 ghost use Rattle.std.specs.Prelude.{◌≡◌, ◌<◌, ◌^◌, Some, IfOk, IfSome};
 ghost use Rattle.plc_base.specs.Widths.{bit_count};
-ghost use Rattle.machine.specs.Parts.{own_of};
+ghost use Rattle.machine.specs.ExecState.{local_of};
 ghost use Rattle.machine.specs.Places.{error_of, innermost as innermost_of, in_register as in_register_of, in_area as in_area_of, absent as absent_of, number_in, read as read_of, direct as direct_of, pointer as pointer_of, is_aligned as is_aligned_of, at_pointer as at_pointer_of, by_pointer as by_pointer_of, in_named as in_named_of, placed as placed_of, by_crossing as by_crossing_of, moved as moved_of, address as address_of, by_register as by_register_of, of_binding as of_binding_of, located as located_of};
 
 use flat_code::Operand;
@@ -19,7 +19,7 @@ pub enum Access {
 /// A place that an operand means, with its width. For local data `frame` says whose local bytes are
 /// meant, by the place in the list of frames, counted from 0 at the outermost one.
 #[derive(Clone, Copy)]
-pub struct Bound {
+pub struct Location {
     pub place: Place,
     pub width: Width,
     pub frame: u8,
@@ -55,12 +55,12 @@ fn in_register(
     byte: u16,
     bit: u8,
     width: Width,
-) -> Result<Bound, u8>
+) -> Result<Location, u8>
     ensures value { result ≡ in_register_of register error byte bit width }
     ensures wide { IfOk result (λ at. at.width ≡ width) }
 {
     match register {
-        Some(number) => Ok(Bound {
+        Some(number) => Ok(Location {
             place: Place {
                 area: Area::Db,
                 number,
@@ -76,7 +76,7 @@ fn in_register(
 
 #[inline(always)]
 fn innermost(s: &Running) -> u8
-    ensures { result ≡ innermost_of (own_of s.now) }
+    ensures { result ≡ innermost_of (local_of s.now) }
 {
     s.locals.depth().saturating_sub(1) as u8
 }
@@ -90,14 +90,14 @@ pub(crate) fn in_area(
     bit: u8,
     width: Width,
     s: &Running,
-) -> Result<Bound, u8>
-    ensures value { result ≡ in_area_of area byte bit width (own_of s.now) }
+) -> Result<Location, u8>
+    ensures value { result ≡ in_area_of area byte bit width (local_of s.now) }
     ensures wide { IfOk result (λ at. at.width ≡ width) }
 {
     match area {
         Area::Db => in_register(s.frame.db, error_codes::NO_DB_OPEN, byte, bit, width),
         Area::Di => in_register(s.frame.di, error_codes::NO_DI_OPEN, byte, bit, width),
-        Area::L => Ok(Bound {
+        Area::L => Ok(Location {
             place: Place {
                 area,
                 number: 0,
@@ -107,7 +107,7 @@ pub(crate) fn in_area(
             width,
             frame: innermost(s),
         }),
-        _ => Ok(Bound {
+        _ => Ok(Location {
             place: Place {
                 area,
                 number: 0,
@@ -129,8 +129,8 @@ pub(crate) fn placed(
     bit: u8,
     width: Width,
     s: &Running,
-) -> Result<Bound, u8>
-    ensures { result ≡ placed_of access area byte bit width (own_of s.now) }
+) -> Result<Location, u8>
+    ensures { result ≡ placed_of access area byte bit width (local_of s.now) }
 {
     match (area, width) {
         (Area::P, Width::Bit) => Err(access.error(error_codes::BAD_AREA)),
@@ -140,7 +140,7 @@ pub(crate) fn placed(
 
 /// The number at a place, if each of its bits exists.
 #[inline(always)]
-pub(crate) fn number_at(at: &Bound, locals: &Locals, m: &Memory) -> Option<u32>
+pub(crate) fn number_at(at: &Location, locals: &Locals, m: &Memory) -> Option<u32>
     ensures value { result ≡ number_in at.now locals.now m.now }
     ensures fits { IfSome result (λ n. n < 2 ^ bit_count at.now.width) }
 {
@@ -153,8 +153,8 @@ pub(crate) fn number_at(at: &Bound, locals: &Locals, m: &Memory) -> Option<u32>
 /// The number at a place.
 #[tactic(auto, unfolding(crate::specs::Places::read))]
 #[inline(always)]
-pub(crate) fn read(at: &Bound, s: &Running, m: &Memory) -> Result<u32, u8>
-    ensures value { result ≡ read_of at.now (own_of s.now) m.now }
+pub(crate) fn read(at: &Location, s: &Running, m: &Memory) -> Result<u32, u8>
+    ensures value { result ≡ read_of at.now (local_of s.now) m.now }
     ensures fits { IfOk result (λ n. n < 2 ^ bit_count at.now.width) }
 {
     match number_at(at, &s.locals, m) {
@@ -174,7 +174,7 @@ pub(crate) fn direct(
     s: &Running,
     m: &Memory,
 ) -> Result<u32, u8>
-    ensures value { result ≡ direct_of area byte bit width (own_of s.now) m.now }
+    ensures value { result ≡ direct_of area byte bit width (local_of s.now) m.now }
     ensures fits { IfOk result (λ n. n < 2 ^ bit_count width) }
 {
     let at = in_area(area, byte, bit, width, s)?;
@@ -184,14 +184,14 @@ pub(crate) fn direct(
 
 /// The double word at a pointer's own place.
 fn pointer(from: Area, byte: u16, s: &Running, m: &Memory) -> Result<u32, u8>
-    ensures { result ≡ pointer_of from byte Width.Dword (own_of s.now) m.now }
+    ensures { result ≡ pointer_of from byte Width.Dword (local_of s.now) m.now }
 {
     direct(from, byte, 0, Width::Dword, s, m)
 }
 
 /// The word at the own place of the number of a timer, counter or data block.
 pub(crate) fn number_from(from: Area, byte: u16, s: &Running, m: &Memory) -> Result<u16, u8>
-    ensures { result ≡ pointer_of from byte Width.Word (own_of s.now) m.now }
+    ensures { result ≡ pointer_of from byte Width.Word (local_of s.now) m.now }
 {
     let number = direct(from, byte, 0, Width::Word, s, m)?;
     Ok(number as u16)
@@ -206,15 +206,15 @@ fn is_aligned(width: Width, n: u32) -> bool
     }
 }
 
-fn at_pointer(area: Area, width: Width, n: u32, s: &Running) -> Result<Bound, u8>
-    ensures { result ≡ at_pointer_of area width n (own_of s.now) }
+fn at_pointer(area: Area, width: Width, n: u32, s: &Running) -> Result<Location, u8>
+    ensures { result ≡ at_pointer_of area width n (local_of s.now) }
 {
     in_area(area, ((n >> 3) % 0x1_0000) as u16, (n % 8) as u8, width, s)
 }
 
 #[tactic(auto, unfolding(crate::specs::Places::by_pointer))]
-fn by_pointer(access: Access, area: Area, width: Width, n: u32, s: &Running) -> Result<Bound, u8>
-    ensures { result ≡ by_pointer_of access area width n (own_of s.now) }
+fn by_pointer(access: Access, area: Area, width: Width, n: u32, s: &Running) -> Result<Location, u8>
+    ensures { result ≡ by_pointer_of access area width n (local_of s.now) }
 {
     if !is_aligned(width, n) {
         return Err(access.error(error_codes::UNALIGNED));
@@ -222,9 +222,9 @@ fn by_pointer(access: Access, area: Area, width: Width, n: u32, s: &Running) -> 
     at_pointer(area, width, n, s)
 }
 
-fn in_named(access: Access, area: Area, width: Width, n: u32, s: &Running) -> Result<Bound, u8>
+fn in_named(access: Access, area: Area, width: Width, n: u32, s: &Running) -> Result<Location, u8>
     ensures { (named : Place) → named.area ≡ area →
-        result ≡ in_named_of access (Some named) width n (own_of s.now) }
+        result ≡ in_named_of access (Some named) width n (local_of s.now) }
 {
     placed(
         access,
@@ -237,8 +237,14 @@ fn in_named(access: Access, area: Area, width: Width, n: u32, s: &Running) -> Re
 }
 
 #[tactic(auto, unfolding(crate::specs::Places::by_crossing))]
-fn by_crossing(access: Access, width: Width, address: u32, n: u32, s: &Running) -> Result<Bound, u8>
-    ensures { result ≡ by_crossing_of access width address n (own_of s.now) }
+fn by_crossing(
+    access: Access,
+    width: Width,
+    address: u32,
+    n: u32,
+    s: &Running,
+) -> Result<Location, u8>
+    ensures { result ≡ by_crossing_of access width address n (local_of s.now) }
 {
     if !is_aligned(width, n) {
         return Err(access.error(error_codes::UNALIGNED));
@@ -257,7 +263,7 @@ fn moved(address: u32, bits: u32) -> u32
 }
 
 fn address(register: u8, s: &Running) -> u32
-    ensures { result ≡ address_of register (own_of s.now) }
+    ensures { result ≡ address_of register (local_of s.now) }
 {
     if register == 1 {
         s.regs.ar1
@@ -273,8 +279,8 @@ fn by_register(
     address: u32,
     bits: u32,
     s: &Running,
-) -> Result<Bound, u8>
-    ensures { result ≡ by_register_of access area width address bits (own_of s.now) }
+) -> Result<Location, u8>
+    ensures { result ≡ by_register_of access area width address bits (local_of s.now) }
 {
     match area {
         Some(area) => by_pointer(access, area, width, moved(address, bits), s),
@@ -282,7 +288,7 @@ fn by_register(
     }
 }
 
-fn of_binding(binding: Option<Binding>) -> Result<Bound, u8>
+fn of_binding(binding: Option<Binding>) -> Result<Location, u8>
     ensures { result ≡ of_binding_of binding }
 {
     match binding {
@@ -292,7 +298,7 @@ fn of_binding(binding: Option<Binding>) -> Result<Bound, u8>
                 width,
                 frame,
             },
-        ) => Ok(Bound {
+        ) => Ok(Location {
             place,
             width,
             frame,
@@ -309,8 +315,8 @@ pub(crate) fn located(
     operand: &Operand,
     s: &Running,
     m: &Memory,
-) -> Result<Bound, u8>
-    ensures { result ≡ located_of access operand.now (own_of s.now) m.now }
+) -> Result<Location, u8>
+    ensures { result ≡ located_of access operand.now (local_of s.now) m.now }
 {
     match *operand {
         Operand::Direct {

@@ -1,6 +1,6 @@
 //! LAR1, LAR2, TAR1, TAR2, CAR, +AR1, +AR2.
 ghost use Rattle.std.specs.Prelude.{◌≡◌, ◌<◌, ◌^◌};
-ghost use Rattle.machine.specs.Parts.{own_of};
+ghost use Rattle.machine.specs.ExecState.{local_of};
 ghost use Rattle.machine.specs.Outcomes.{Acts};
 ghost use Rattle.machine.specs.Pointers.{address_loaded, address_transferred, offset_added as offset_added_of, address_after as address_after_of, pointed, sign_extended as sign_extended_of};
 
@@ -12,7 +12,7 @@ use plc_mem::Memory;
 use status_word::Regs;
 
 fn load_address(operand: &Operand, s: &Running, m: &Memory) -> Result<u32, u8>
-    ensures { result ≡ address_loaded operand.now (own_of s.now) m.now }
+    ensures { result ≡ address_loaded operand.now (local_of s.now) m.now }
 {
     match *operand {
         Operand::Nothing => Ok(s.regs.a1),
@@ -26,7 +26,7 @@ fn transfer_address(
     s: &mut Running,
     m: &mut Memory,
 ) -> Result<(), u8>
-    ensures { Acts (address_transferred address operand.now (own_of s.old) m.old)
+    ensures { Acts (address_transferred address operand.now (local_of s.old) m.old)
         s.old s.new m.old m.new result }
 {
     match *operand {
@@ -76,7 +76,7 @@ pub(crate) fn point(
     s: &mut Running,
     m: &mut Memory,
 ) -> Result<(), u8>
-    ensures { Acts (pointed what operand.now (own_of s.old) m.old) s.old s.new m.old m.new result }
+    ensures { Acts (pointed what operand.now (local_of s.old) m.old) s.old s.new m.old m.new result }
 {
     match what {
         PointerOperation::Lar1 => {

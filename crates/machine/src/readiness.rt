@@ -4,13 +4,13 @@ ghost use Rattle.frames.specs.Activations.{frames_of};
 ghost use Rattle.flat_code.specs.Instr.{Passing};
 ghost use Rattle.flat_code.specs.Ops.{OpData};
 ghost use Rattle.machine.specs.Flat.{code_of, head_of, instr_of, statement_at};
-ghost use Rattle.machine.specs.Statement.{World, statement as statement_of, Goes};
+ghost use Rattle.machine.specs.Statement.{World, statement as statement_of, IsNotStuck};
 ghost use Rattle.machine.specs.There.{is_callee as is_callee_of, is_there, is_complete, is_ready as is_ready_of};
-ghost use Rattle.machine.specs.Walking.{TellsThere};
 ghost use Rattle.flat_code.specs.Placed.{line_placed};
 
+use crate::fetching::Fetched;
 use crate::system_calls::system_function;
-use crate::walking::{Walk, walk_from};
+use crate::walking::walk_from;
 use flat_code::{Operand, Operation, kind_of_code};
 use frames::Activation;
 use image_file::{Loaded, LoadedCode};
@@ -46,12 +46,12 @@ fn is_op_there(c: &Loaded, own: BlockId, operation: Operation, operand: &Operand
     }
 }
 
-// Whether what the statement needs is there, whatever it passes.
-fn is_walk_there(c: &Loaded, own: BlockId, walk: &Walk) -> bool
-    ensures { is_some ((code_of c.now.program).head own) ≡ true
-        → (ops : List OpData) → TellsThere (code_of c.now.program) own walk.now ops result }
+// The same of a statement that was found.
+fn is_found_there(c: &Loaded, own: BlockId, f: &Fetched<'_>) -> bool
+    requires { is_some ((code_of c.now.program).head own) ≡ true }
+    ensures { result ≡ is_there (code_of c.now.program) f.now.instr own }
 {
-    let last = &walk.last;
+    let last = f.last;
     is_op_there(c, own, last.operation(), &last.operand)
 }
 
@@ -66,13 +66,21 @@ fn is_complete_at(c: &Loaded, code: &LoadedCode<'_>, own: BlockId, at: u32) -> b
     requires { (code_of c.now.program).head own ≡ Some (head_of code.now) }
     ensures { result ≡ is_complete (code_of c.now.program) (statement_at code.now at) own }
 {
-    if has_line(code, at) {
-        match walk_from(code, at) {
-            Some(walk) => is_walk_there(c, own, &walk),
-            None => false,
+    if !has_line(code, at) {
+        return false;
+    }
+    match walk_from(code, at) {
+        Some(walk) => {
+            let found = Fetched {
+                code,
+                at,
+                opens: walk.opens,
+                last: &walk.last,
+                next: walk.next,
+            };
+            is_found_there(c, own, &found)
         }
-    } else {
-        false
+        None => false,
     }
 }
 
@@ -84,7 +92,7 @@ pub fn is_ready(c: &Loaded, a: &Activation) -> bool
     ensures depth { result ≡ true →
         (length a.now.running.locals.starts ≡ length (frames_of a.now)) }
     ensures there { result ≡ true →
-        ((w : World) → Goes (statement_of (code_of c.now.program) a.now w)) }
+        ((w : World) → IsNotStuck (statement_of (code_of c.now.program) a.now w)) }
 {
     if a.left || a.running.locals.depth() != a.depth() {
         return false;

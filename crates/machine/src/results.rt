@@ -2,7 +2,7 @@
 ghost use Rattle.machine.specs.Results.{GivesResult};
 
 use crate::copies::put;
-use crate::places::Bound;
+use crate::places::Location;
 use frames::{Activation, Binding};
 use plc_mem::Memory;
 
@@ -18,7 +18,7 @@ pub fn give_result(m: &mut Memory, a: &mut Activation, to: &Binding, value: u32)
             width,
             frame,
         } => {
-            let at = Bound {
+            let at = Location {
                 place,
                 width,
                 frame,

@@ -1,10 +1,10 @@
 //! Calls of system functions: what they are given, and where their result goes.
 ghost use Rattle.std.specs.Prelude.{◌≡◌, ◌≤◌, ◌++◌, ◌<◌, [], ◌∷◌, length, IfSome};
 ghost use Rattle.std.specs.Option.{option_map};
-ghost use Rattle.machine.specs.Parts.{own_of};
+ghost use Rattle.machine.specs.ExecState.{local_of};
 ghost use Rattle.machine.specs.SystemCalls.{system_function as system_function_of, input_of as input_of_binding, count_inputs, inputs_from, result_from};
 
-use crate::places::{Bound, number_at};
+use crate::places::{Location, number_at};
 use arrayvec::ArrayVec;
 use flat_code::{Param, SECTION_IN, SECTION_OUT, system_function_params};
 use frames::{Binding, Bindings, Running};
@@ -62,7 +62,7 @@ pub(crate) fn system_function(number: u16) -> Option<ArrayVec<Param, 4>>
 }
 
 fn input_of(binding: Option<Binding>, s: &Running, m: &Memory) -> u32
-    ensures { result ≡ input_of_binding binding (own_of s.now) m.now }
+    ensures { result ≡ input_of_binding binding (local_of s.now) m.now }
 {
     match binding {
         Some(
@@ -72,7 +72,7 @@ fn input_of(binding: Option<Binding>, s: &Running, m: &Memory) -> u32
                 frame,
             },
         ) => {
-            let at = Bound {
+            let at = Location {
                 place,
                 width,
                 frame,
@@ -88,7 +88,7 @@ fn input_of(binding: Option<Binding>, s: &Running, m: &Memory) -> u32
 pub(crate) fn inputs_of(params: &[Param], bindings: &Bindings, s: &Running, m: &Memory) -> Inputs
     requires few { length params.now ≤ 4 }
     requires inputs { count_inputs params.now ≤ 3 }
-    ensures { result ≡ inputs_from params.now 0 bindings.now (own_of s.now) m.now }
+    ensures { result ≡ inputs_from params.now 0 bindings.now (local_of s.now) m.now }
 {
     let mut inputs = Inputs::new();
     let mut index = 0u8;

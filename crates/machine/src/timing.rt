@@ -1,6 +1,6 @@
 //! Timers and counters: SP SE SD SS SF, CU, CD, S of a counter, R and FR of both.
 ghost use Rattle.std.specs.Prelude.{◌≡◌};
-ghost use Rattle.machine.specs.Parts.{own_of};
+ghost use Rattle.machine.specs.ExecState.{local_of};
 ghost use Rattle.machine.specs.Timing.{operation_of as word_of_own, string_ended, starting, timer_reset, timer_freed, counting_up, counting_down, counter_set, counter_reset, counter_freed, Times};
 
 use crate::values::{fault_code, number_named};
@@ -20,7 +20,7 @@ fn end_string(r: &mut Regs)
 }
 
 fn operation_of(s: &Running) -> u16
-    ensures { result ≡ word_of_own (own_of s.now) }
+    ensures { result ≡ word_of_own (local_of s.now) }
 {
     (s.regs.a1 % 0x1_0000) as u16
 }
@@ -35,7 +35,7 @@ pub(crate) fn start(
     m: &Memory,
     t: &mut Timers,
 ) -> Result<(), u8>
-    ensures { Times (starting how operand.now (own_of s.old) m.now t.old)
+    ensures { Times (starting how operand.now (local_of s.old) m.now t.old)
         s.old s.new t.old t.new result }
 {
     let number = number_named(operand, s, m)?;
@@ -56,7 +56,7 @@ pub(crate) fn reset_timer(
     m: &Memory,
     t: &mut Timers,
 ) -> Result<(), u8>
-    ensures { Times (timer_reset operand.now (own_of s.old) m.now t.old)
+    ensures { Times (timer_reset operand.now (local_of s.old) m.now t.old)
         s.old s.new t.old t.new result }
 {
     let number = number_named(operand, s, m)?;
@@ -77,7 +77,7 @@ pub(crate) fn free_timer(
     m: &Memory,
     t: &mut Timers,
 ) -> Result<(), u8>
-    ensures { Times (timer_freed operand.now (own_of s.old) m.now t.old)
+    ensures { Times (timer_freed operand.now (local_of s.old) m.now t.old)
         s.old s.new t.old t.new result }
 {
     let number = number_named(operand, s, m)?;
@@ -98,7 +98,7 @@ pub(crate) fn count_up(
     m: &Memory,
     n: &mut Counters,
 ) -> Result<(), u8>
-    ensures { Times (counting_up operand.now (own_of s.old) m.now n.old)
+    ensures { Times (counting_up operand.now (local_of s.old) m.now n.old)
         s.old s.new n.old n.new result }
 {
     let number = number_named(operand, s, m)?;
@@ -119,7 +119,7 @@ pub(crate) fn count_down(
     m: &Memory,
     n: &mut Counters,
 ) -> Result<(), u8>
-    ensures { Times (counting_down operand.now (own_of s.old) m.now n.old)
+    ensures { Times (counting_down operand.now (local_of s.old) m.now n.old)
         s.old s.new n.old n.new result }
 {
     let number = number_named(operand, s, m)?;
@@ -140,7 +140,7 @@ pub(crate) fn set_counter(
     m: &Memory,
     n: &mut Counters,
 ) -> Result<(), u8>
-    ensures { Times (counter_set operand.now (own_of s.old) m.now n.old)
+    ensures { Times (counter_set operand.now (local_of s.old) m.now n.old)
         s.old s.new n.old n.new result }
 {
     let number = number_named(operand, s, m)?;
@@ -161,7 +161,7 @@ pub(crate) fn reset_counter(
     m: &Memory,
     n: &mut Counters,
 ) -> Result<(), u8>
-    ensures { Times (counter_reset operand.now (own_of s.old) m.now n.old)
+    ensures { Times (counter_reset operand.now (local_of s.old) m.now n.old)
         s.old s.new n.old n.new result }
 {
     let number = number_named(operand, s, m)?;
@@ -182,7 +182,7 @@ pub(crate) fn free_counter(
     m: &Memory,
     n: &mut Counters,
 ) -> Result<(), u8>
-    ensures { Times (counter_freed operand.now (own_of s.old) m.now n.old)
+    ensures { Times (counter_freed operand.now (local_of s.old) m.now n.old)
         s.old s.new n.old n.new result }
 {
     let number = number_named(operand, s, m)?;

@@ -2,11 +2,11 @@
 ghost use Rattle.std.specs.Prelude.{◌≡◌, ◌<◌, ◌^◌, ℕ, Err};
 ghost use Rattle.plc_base.specs.Widths.{bit_count};
 ghost use Rattle.flat_code.specs.Kinds.{flag_of as flag_of_condition};
-ghost use Rattle.machine.specs.Parts.{own_of};
+ghost use Rattle.machine.specs.ExecState.{local_of};
 ghost use Rattle.machine.specs.Outcomes.{Acts};
 ghost use Rattle.machine.specs.Values.{number_of_binding as number_of_binding_of, number as number_of, bit_of_numbered as bit_of_numbered_of, value_of_numbered as value_of_numbered_of, bcd_of_numbered as bcd_of_numbered_of, number_named as number_named_of, bcd_loaded as bcd_loaded_of, faulty, tested as tested_of, loaded as loaded_of, is_one, write as write_of};
 
-use crate::places::{Access, Bound, located, number_from, placed, read};
+use crate::places::{Access, Location, located, number_from, placed, read};
 use flat_code::{CONDITIONS, Operand};
 use frames::{Binding, Running};
 use plc_base::{Area, Flag, Width, error_codes};
@@ -14,7 +14,7 @@ use plc_mem::Memory;
 use timers_counters::{Counters, TimerFault, Timers};
 
 fn number_of_binding(binding: Option<Binding>, s: &Running, m: &Memory) -> Result<u32, u8>
-    ensures { result ≡ number_of_binding_of binding (own_of s.now) m.now }
+    ensures { result ≡ number_of_binding_of binding (local_of s.now) m.now }
 {
     match binding {
         Some(
@@ -24,7 +24,7 @@ fn number_of_binding(binding: Option<Binding>, s: &Running, m: &Memory) -> Resul
                 frame,
             },
         ) => {
-            let at = Bound {
+            let at = Location {
                 place,
                 width,
                 frame,
@@ -40,7 +40,7 @@ fn number_of_binding(binding: Option<Binding>, s: &Running, m: &Memory) -> Resul
 #[tactic(auto, unfolding(crate::specs::Values::number))]
 #[inline(never)]
 pub(crate) fn number(operand: &Operand, s: &Running, m: &Memory) -> Result<u32, u8>
-    ensures { result ≡ number_of operand.now (own_of s.now) m.now }
+    ensures { result ≡ number_of operand.now (local_of s.now) m.now }
 {
     match *operand {
         Operand::Literal { value } => Ok(value),
@@ -63,7 +63,7 @@ fn direct_number(
     s: &Running,
     m: &Memory,
 ) -> Result<u32, u8>
-    ensures { result ≡ number_of (Operand.Direct area width byte bit) (own_of s.now) m.now }
+    ensures { result ≡ number_of (Operand.Direct area width byte bit) (local_of s.now) m.now }
 {
     let at = placed(Access::Reading, area, byte, bit, width, s)?;
     let number = read(&at, s, m)?;
@@ -134,7 +134,7 @@ fn bcd_of_numbered(kind: u8, number: u16, t: &Timers, n: &Counters) -> Result<u3
 /// The number of a timer or counter: its own, or the word at a place.
 #[tactic(auto, unfolding(crate::specs::Values::number_named))]
 pub(crate) fn number_named(operand: &Operand, s: &Running, m: &Memory) -> Result<u16, u8>
-    ensures { result ≡ number_named_of operand.now (own_of s.now) m.now }
+    ensures { result ≡ number_named_of operand.now (local_of s.now) m.now }
 {
     match *operand {
         Operand::Numbered { number, .. } => Ok(number),
@@ -154,7 +154,7 @@ fn flag_of(condition: u8) -> Flag
 
 #[inline(never)]
 fn bit(operand: &Operand, s: &Running, m: &Memory) -> Result<bool, u8>
-    ensures { result ≡ is_one (number_of operand.now (own_of s.now) m.now) }
+    ensures { result ≡ is_one (number_of operand.now (local_of s.now) m.now) }
 {
     Ok(number(operand, s, m)? == 1)
 }
@@ -169,7 +169,7 @@ fn tested_elsewhere(
     t: &Timers,
     n: &Counters,
 ) -> Result<bool, u8>
-    ensures { result ≡ tested_of operand.now (own_of s.now) m.now t.now n.now }
+    ensures { result ≡ tested_of operand.now (local_of s.now) m.now t.now n.now }
 {
     match *operand {
         Operand::Numbered { kind, number } => bit_of_numbered(kind, number, t, n),
@@ -187,7 +187,7 @@ fn tested_elsewhere(
 #[inline(always)]
 fn direct_bit(area: Area, byte: u16, bit: u8, s: &Running, m: &Memory) -> Result<bool, u8>
     ensures { result ≡ is_one (number_of (Operand.Direct area Width.Bit byte bit)
-        (own_of s.now) m.now) }
+        (local_of s.now) m.now) }
 {
     let number = match area {
         Area::I => direct_number(Area::I, Width::Bit, byte, bit, s, m),
@@ -211,7 +211,7 @@ pub(crate) fn tested(
     t: &Timers,
     n: &Counters,
 ) -> Result<bool, u8>
-    ensures { result ≡ tested_of operand.now (own_of s.now) m.now t.now n.now }
+    ensures { result ≡ tested_of operand.now (local_of s.now) m.now t.now n.now }
 {
     match *operand {
         Operand::Direct {
@@ -234,7 +234,7 @@ fn loaded_elsewhere(
     t: &Timers,
     n: &Counters,
 ) -> Result<u32, u8>
-    ensures { result ≡ loaded_of operand.now (own_of s.now) m.now t.now n.now }
+    ensures { result ≡ loaded_of operand.now (local_of s.now) m.now t.now n.now }
 {
     match *operand {
         Operand::Numbered { kind, number } => value_of_numbered(kind, number, t, n),
@@ -256,7 +256,7 @@ pub(crate) fn loaded(
     t: &Timers,
     n: &Counters,
 ) -> Result<u32, u8>
-    ensures { result ≡ loaded_of operand.now (own_of s.now) m.now t.now n.now }
+    ensures { result ≡ loaded_of operand.now (local_of s.now) m.now t.now n.now }
 {
     match *operand {
         Operand::Direct {
@@ -278,7 +278,7 @@ pub(crate) fn bcd_loaded(
     t: &Timers,
     n: &Counters,
 ) -> Result<u32, u8>
-    ensures { result ≡ bcd_loaded_of operand.now (own_of s.now) m.now t.now n.now }
+    ensures { result ≡ bcd_loaded_of operand.now (local_of s.now) m.now t.now n.now }
 {
     match *operand {
         Operand::Numbered { kind, number } => bcd_of_numbered(kind, number, t, n),
@@ -293,9 +293,9 @@ pub(crate) fn bcd_loaded(
 /// Writes a number to a place.
 #[tactic(auto, unfolding(crate::specs::Values::write))]
 #[inline(always)]
-pub(crate) fn write(at: &Bound, value: u32, s: &mut Running, m: &mut Memory) -> Result<(), u8>
+pub(crate) fn write(at: &Location, value: u32, s: &mut Running, m: &mut Memory) -> Result<(), u8>
     requires { value < 2 ^ bit_count at.now.width }
-    ensures written { Acts (write_of at.now value (own_of s.old) m.old)
+    ensures written { Acts (write_of at.now value (local_of s.old) m.old)
         s.old s.new m.old m.new result }
     ensures registers { s.new.regs ≡ s.old.regs }
 {

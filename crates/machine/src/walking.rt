@@ -3,11 +3,10 @@ ghost use Rattle.std.specs.Prelude.{◌≡◌, ◌≤◌, length, MatchResult, O
 ghost use Rattle.std.specs.Option.{option_map};
 ghost use Rattle.flat_code.specs.Kinds.{jump_of as jump_of_kind};
 ghost use Rattle.flat_code.specs.Placed.{op_placed};
-ghost use Rattle.machine.specs.Parts.{own_of};
-ghost use Rattle.machine.specs.Bindings.{unsupplied as unsupplied_of};
+ghost use Rattle.machine.specs.ExecState.{local_of};
 ghost use Rattle.machine.specs.Flat.{run_at, most_ops, list_of, most_listed};
 ghost use Rattle.machine.specs.Jumps.{listed};
-ghost use Rattle.machine.specs.Walking.{walk_with, walk_by, opens_after as opens_after_op, bound_by, bound_from};
+ghost use Rattle.machine.specs.Walking.{walk_with, walk_by, opens_after as opens_after_op, bound_all, bound_by};
 
 use crate::bindings::{bind_none, bound_for};
 use flat_code::{JUMPS, JumpOperation, Op, Operand, Param};
@@ -162,8 +161,8 @@ fn bind(
     m: &Memory,
 ) -> Result<(), u8>
     ensures { MatchResult result
-        (λ _. bound_by operand.now params.now bindings.old (own_of s.now) m.now ≡ Ok bindings.new)
-        (λ code. bound_by operand.now params.now bindings.old (own_of s.now) m.now ≡ Err code) }
+        (λ _. bound_by operand.now params.now bindings.old (local_of s.now) m.now ≡ Ok bindings.new)
+        (λ code. bound_by operand.now params.now bindings.old (local_of s.now) m.now ≡ Err code) }
 {
     match *operand {
         Operand::Pass { index, actual } => {
@@ -175,8 +174,8 @@ fn bind(
     }
 }
 
-#[tactic(auto, using(crate::proofs::Walks::bound_stops, crate::proofs::Walks::bound_nowhere, crate::proofs::Walks::bound_ends, crate::proofs::Walks::bound_goes_on, crate::proofs::Walks::bound_fails))]
 /// What the parameters of a block stand for, by the ops of the statement that begins at an offset.
+#[tactic(auto, using(crate::proofs::Walks::bound_stops, crate::proofs::Walks::bound_nowhere, crate::proofs::Walks::bound_ends, crate::proofs::Walks::bound_goes_on, crate::proofs::Walks::bound_fails))]
 pub(crate) fn bind_all(
     code: &LoadedCode<'_>,
     at: u32,
@@ -187,10 +186,8 @@ pub(crate) fn bind_all(
 ) -> Result<(), u8>
     requires { length params.now ≤ 60 }
     ensures { MatchResult result
-        (λ _. bound_from most_ops code.now.code at params.now (unsupplied_of params.now)
-        (own_of s.now) m.now ≡ Ok bindings.new)
-        (λ code_of_error. bound_from most_ops code.now.code at params.now
-        (unsupplied_of params.now) (own_of s.now) m.now ≡ Err code_of_error) }
+        (λ _. bound_all code.now.code at params.now (local_of s.now) m.now ≡ Ok bindings.new)
+        (λ error. bound_all code.now.code at params.now (local_of s.now) m.now ≡ Err error) }
 {
     bind_none(params, bindings);
     let mut at = at;

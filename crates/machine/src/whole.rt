@@ -1,8 +1,8 @@
 //! What an instruction does that touches no position.
 ghost use Rattle.std.specs.Prelude.{◌≡◌};
-ghost use Rattle.machine.specs.Parts.{parts_of};
+ghost use Rattle.machine.specs.ExecState.{exec_state_of};
 ghost use Rattle.machine.specs.Outcomes.{Meets};
-ghost use Rattle.machine.specs.Does.{does as does_of, does_with as does_with_of, kind_named as kind_named_of, set_of, reset_of, free_of, with_db};
+ghost use Rattle.machine.specs.Effect.{effect as does_of, effect_with as does_with_of, kind_named as kind_named_of, set_of, reset_of, free_of, with_db};
 
 use crate::bit_logic::{assign, check, edge, set_bit};
 use crate::data_blocks::{exchange, is_loaded, load_open_block, open};
@@ -42,7 +42,7 @@ fn set(
     n: &mut Counters,
 ) -> Result<(), u8>
     ensures { Meets (set_of (kind_named_of operand.now) operand.now
-        (parts_of s.old m.old t.now n.old))
+        (exec_state_of s.old m.old t.now n.old))
         s.old s.new m.old m.new t.now t.now n.old n.new result }
 {
     match kind_named(operand) {
@@ -62,7 +62,7 @@ fn reset(
     n: &mut Counters,
 ) -> Result<(), u8>
     ensures { Meets (reset_of (kind_named_of operand.now) operand.now
-        (parts_of s.old m.old t.old n.old))
+        (exec_state_of s.old m.old t.old n.old))
         s.old s.new m.old m.new t.old t.new n.old n.new result }
 {
     match kind_named(operand) {
@@ -83,7 +83,7 @@ fn free(
     n: &mut Counters,
 ) -> Result<(), u8>
     ensures { Meets (free_of (kind_named_of operand.now) operand.now
-        (parts_of s.old m.now t.old n.old))
+        (exec_state_of s.old m.now t.old n.old))
         s.old s.new m.now m.now t.old t.new n.old n.new result }
 {
     match kind_named(operand) {
@@ -94,9 +94,9 @@ fn free(
 }
 
 /// An instruction that touches no position.
-#[tactic(auto, unfolding(crate::specs::Does::does), using(crate::proofs::Lifts::checks_meet, crate::proofs::Lifts::changes_meet, crate::proofs::Lifts::turns_meet, crate::proofs::Lifts::acts_meet, crate::proofs::Lifts::times_meet, crate::proofs::Lifts::counts_meet))]
+#[tactic(auto, unfolding(crate::specs::Effect::effect), using(crate::proofs::Lifts::checks_meet, crate::proofs::Lifts::changes_meet, crate::proofs::Lifts::turns_meet, crate::proofs::Lifts::acts_meet, crate::proofs::Lifts::times_meet, crate::proofs::Lifts::counts_meet))]
 #[inline(always)]
-pub(crate) fn does(
+pub(crate) fn effect(
     operation: Operation,
     operand: &Operand,
     s: &mut Running,
@@ -104,7 +104,7 @@ pub(crate) fn does(
     t: &mut Timers,
     n: &mut Counters,
 ) -> Result<(), u8>
-    ensures { Meets (does_of operation operand.now (parts_of s.old m.old t.old n.old))
+    ensures { Meets (does_of operation operand.now (exec_state_of s.old m.old t.old n.old))
         s.old s.new m.old m.new t.old t.new n.old n.new result }
 {
     match operation {
@@ -191,7 +191,7 @@ pub(crate) fn does(
 
 // The rest of a statement whose data block was opened; it is closed again after an error.
 #[inline(never)]
-fn does_opened(
+fn effect_opened(
     number: u16,
     operation: Operation,
     operand: &Operand,
@@ -200,12 +200,12 @@ fn does_opened(
     t: &mut Timers,
     n: &mut Counters,
 ) -> Result<(), u8>
-    ensures { Meets (does_of operation operand.now (with_db number (parts_of s.old m.old t.old n.old)))
+    ensures { Meets (does_of operation operand.now (with_db number (exec_state_of s.old m.old t.old n.old)))
         s.old s.new m.old m.new t.old t.new n.old n.new result }
 {
     let before = s.frame.db;
     s.frame.db = Some(number);
-    match does(operation, operand, s, m, t, n) {
+    match effect(operation, operand, s, m, t, n) {
         Ok(()) => Ok(()),
         Err(code) => {
             s.frame.db = before;
@@ -215,9 +215,9 @@ fn does_opened(
 }
 
 /// An instruction that touches no position, with the data block that its statement opens.
-#[tactic(auto, unfolding(crate::specs::Does::does_with))]
+#[tactic(auto, unfolding(crate::specs::Effect::effect_with))]
 #[inline(always)]
-pub(crate) fn does_with(
+pub(crate) fn effect_with(
     opens: Option<u16>,
     operation: Operation,
     operand: &Operand,
@@ -226,16 +226,16 @@ pub(crate) fn does_with(
     t: &mut Timers,
     n: &mut Counters,
 ) -> Result<(), u8>
-    ensures { Meets (does_with_of opens operation operand.now (parts_of s.old m.old t.old n.old))
+    ensures { Meets (does_with_of opens operation operand.now (exec_state_of s.old m.old t.old n.old))
         s.old s.new m.old m.new t.old t.new n.old n.new result }
 {
     match opens {
-        None => does(operation, operand, s, m, t, n),
+        None => effect(operation, operand, s, m, t, n),
         Some(number) => {
             if !is_loaded(number, m) {
                 return Err(error_codes::NO_DATA_BLOCK);
             }
-            does_opened(number, operation, operand, s, m, t, n)
+            effect_opened(number, operation, operand, s, m, t, n)
         }
     }
 }

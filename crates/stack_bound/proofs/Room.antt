@@ -23,16 +23,16 @@ use Rattle.flat_code.specs.declared.programs.Param.{Param}
 use Rattle.flat_code.specs.Programs.{Program}
 use Rattle.machine.specs.Bindings.{bindings_of}
 use Rattle.machine.specs.Code.{Code, Fetched, Head}
-use Rattle.machine.specs.Does.{does_with}
+use Rattle.machine.specs.Effect.{effect_with}
 use Rattle.machine.specs.Entering.{Call, Fails, Stops, Enters, Callee, supplied, entered_if, called_with, call, fresh, caller_at, going_on}
 use Rattle.machine.specs.Fitting.{FramesFit, FitsBlock, bytes_together}
 use Rattle.machine.specs.Flat.{code_of}
 use Rattle.machine.specs.Jumps.{rlo_tested}
 use Rattle.machine.specs.Lasting.{FitsProgram}
 use Rattle.machine.specs.OpenBrackets.{open_codes}
-use Rattle.machine.specs.Parts.{Parts, own_of, parts_of}
+use Rattle.machine.specs.ExecState.{ExecState, local_of, exec_state_of}
 use Rattle.machine.specs.Returning.{left, given_back, returning}
-use Rattle.machine.specs.Statement.{World, Step, Went, Ended, SyncError, SysCall, Stop, Stuck, went_on, after_call, callee_of, block_called, after_system_call, system_called, called, is_called, not_called, after_return, returned, is_ended, performed, fetched, statement}
+use Rattle.machine.specs.Statement.{World, Step, Went, Ended, SyncError, SysCall, Stop, Stuck, continue_with, after_call, callee_of, block_called, after_system_call, system_called, called, is_called, not_called, after_return, returned, is_ended, step_of, step_found, statement}
 use Rattle.machine.specs.SystemCalls.{Given, system_function, system_call}
 use Rattle.stack_bound.specs.Certificates.{bound_of, CountsItself, CountsCalled}
 use Rattle.stack_bound.proofs.Stacks.{Roomy, counted_frame, stack_of, bytes_below, RoomFor, HasRoom, Certifies}
@@ -123,8 +123,8 @@ if_room : (z : Profile) (test : Bool) (c : List Bound) (s t : Step) → StepHasR
 if_room z true c s t one other = one
 if_room z false c s t one other = other
 
-went_room : (z : Profile) (c : List Bound) (r : Result Parts ℕ) (next : ℕ) (a : Activation) → Roomy z c a
-    → StepHasRoom z c (went_on r next a)
+went_room : (z : Profile) (c : List Bound) (r : Result ExecState ℕ) (next : ℕ) (a : Activation) → Roomy z c a
+    → StepHasRoom z c (continue_with r next a)
 went_room z c (Ok p) next a room = room
 went_room z c (Err code) next a room = room
 
@@ -169,7 +169,7 @@ call_room : (z : Profile) (c : List Bound) (to : Callee) (passings : List Passin
     → CallHasRoom z c a (call to passings next a m)
 unfolding call
 call_room z c to passings next a m stands none more room =
-    call_by z c (bindings_of to.params passings (own_of a.running) m) to next a m stands none more room
+    call_by z c (bindings_of to.params passings (local_of a.running) m) to next a m stands none more room
 
 after_call_room : (z : Profile) (c : List Bound) (k : Call) (next : ℕ) (a : Activation) (w : World)
     → Roomy z c a → CallHasRoom z c a k → StepHasRoom z c (after_call k next a w)
@@ -238,7 +238,7 @@ system_room : (z : Profile) (c : List Bound) (params : Option (List Param)) (num
     → StepHasRoom z c (system_called params number passings next a w)
 system_room z c None number passings next a w room = tt
 system_room z c (Some params) number passings next a w room =
-    after_system_room z c (system_call params passings (own_of a.running) w.memory) number next a room
+    after_system_room z c (system_call params passings (local_of a.running) w.memory) number next a room
 
 calls_room : (z : Profile) (p : Program) (c : List Bound) (block : BlockId) (instance : Option ℕ)
     (passings : List Passing) (next : ℕ) (a : Activation) (w : World)
@@ -274,9 +274,9 @@ performed_room : (z : Profile) (p : Program) (c : List Bound) (i : Instr) (next 
     → Certifies z (code_of p) c → FitsProgram p w.memory a → Roomy z c a
     → ((how : CallOperation) (block : BlockId) (instance : Option ℕ) (passings : List Passing)
     → i ≡ Calls how block instance passings → CallCounts (code_of p) c a block)
-    → StepHasRoom z c (performed (code_of p) i next a w)
+    → StepHasRoom z c (step_of (code_of p) i next a w)
 performed_room z p c (Does use_db word operand) next a w holds fits room counts =
-    went_room z c (does_with use_db word operand (parts_of a.running w.memory w.timers w.counters)) next
+    went_room z c (effect_with use_db word operand (exec_state_of a.running w.memory w.timers w.counters)) next
     a room
 performed_room z p c (Jumps word target) next a w holds fits room counts = room
 performed_room z p c (JumpsByList targets otherwise) next a w holds fits room counts = room
@@ -295,7 +295,7 @@ performed_room z p c (Returns how) next a w holds fits room counts =
 fetched_room : (z : Profile) (p : Program) (c : List Bound) (f : Option Fetched) (a : Activation) (w : World)
     → Certifies z (code_of p) c → FitsProgram p w.memory a → Roomy z c a
     → (code_of p).fetch a.running.frame.block a.running.frame.at ≡ f
-    → StepHasRoom z c (fetched (code_of p) f a w)
+    → StepHasRoom z c (step_found (code_of p) f a w)
 fetched_room z p c None a w holds fits room is = tt
 fetched_room z p c (Some f) a w holds fits room is =
     performed_room z p c f.instr f.next a w holds fits room

@@ -35,18 +35,18 @@ use Rattle.flat_code.specs.declared.operations.Shift.{Shift}
 use Rattle.stl_ast.specs.declared.literals.Literal.TheVariants as literal
 use Rattle.machine.specs.BitLogic as bit_logic
 use Rattle.machine.specs.DataBlocks as data_blocks
-use Rattle.machine.specs.Does as does
+use Rattle.machine.specs.Effect as does
 use Rattle.machine.specs.Loads as loads
 use Rattle.machine.specs.Nesting as nesting
 use Rattle.machine.specs.Numbers as numbers
-use Rattle.machine.specs.Parts.{Own, Parts, Scene, then_ok}
+use Rattle.machine.specs.ExecState.{Local, ExecState, LocalMemory, then_ok}
 use Rattle.machine.specs.Places as places
 use Rattle.machine.specs.Pointers as pointer
 use Rattle.machine.specs.Relay as zones
 use Rattle.machine.specs.Timing as timing
 use Rattle.machine.specs.Values as values
 use Rattle.machine.specs.declared.places.Access.TheVariants.{Writing}
-use Rattle.machine.specs.declared.places.Bound.{Bound}
+use Rattle.machine.specs.declared.places.Location.{Location}
 use Rattle.statement_laws.specs.Effects as own
 use Rattle.statement_laws.specs.Named.{Named, Number, OpenBlock, Spot}
 use Rattle.statement_laws.specs.Named as named
@@ -56,31 +56,31 @@ use Rattle.statement_laws.proofs.PlaceLemmas.{standing_same, then_same, there_sa
 
 -- ---- results
 
-regs_then : {A : Type 0} (p : Parts) (r : Result A ℕ) (f : A → Regs)
+regs_then : {A : Type 0} (p : ExecState) (r : Result A ℕ) (f : A → Regs)
     → does.on_regs p (then_ok r (λ x. Ok (f x))) ≡ then_ok r (λ x. Ok (own.with_regs (f x) p))
 regs_then p (Ok x) f = refl
 regs_then p (Err e) f = refl
 
-scene_then : {A : Type 0} (p : Parts) (r : Result A ℕ) (f : A → Result Scene ℕ)
-    → does.on_scene p (then_ok r f) ≡ then_ok r (λ x. does.on_scene p (f x))
+scene_then : {A : Type 0} (p : ExecState) (r : Result A ℕ) (f : A → Result LocalMemory ℕ)
+    → does.on_local_memory p (then_ok r f) ≡ then_ok r (λ x. does.on_local_memory p (f x))
 scene_then p (Ok x) f = refl
 scene_then p (Err e) f = refl
 
-own_if : (p : Parts) (b : Bool) (after : Own)
-    → does.on_own p (if b then Err 0 else Ok after)
-    ≡ (if b then Err 0 else Ok (record p { own = after }))
+own_if : (p : ExecState) (b : Bool) (after : Local)
+    → does.on_local p (if b then Err 0 else Ok after)
+    ≡ (if b then Err 0 else Ok (record p { local = after }))
 own_if p true after = refl
 own_if p false after = refl
 
 -- ---- bit logic
 
-pub checks_same : (with : Check) (x : Named) (p : Parts) → is_read x ≡ true
-    → does.does (operation.Check with) (flat_of x) p ≡ own.checks with x p
-unfolding does.does bit_logic.checking
+pub checks_same : (with : Check) (x : Named) (p : ExecState) → is_read x ≡ true
+    → does.effect (operation.Check with) (flat_of x) p ≡ own.checks with x p
+unfolding does.effect bit_logic.checking
 checks_same with x p e =
-    regs_then p (values.tested (flat_of x) p.own p.memory p.timers p.counters)
-    (λ b. checked with b p.own.regs)
-    ∙ ap (λ r. then_ok r (λ b. Ok (own.with_regs (checked with b p.own.regs) p)))
+    regs_then p (values.tested (flat_of x) p.local p.memory p.timers p.counters)
+    (λ b. checked with b p.local.regs)
+    ∙ ap (λ r. then_ok r (λ b. Ok (own.with_regs (checked with b p.local.regs) p)))
     (tested_same x p e)
 
 -- O by whether it has an operand
@@ -88,27 +88,27 @@ abbrev pub or_operation : Named → Operation
 or_operation named.Nothing = operation.OrBare
 or_operation _ = operation.Check check.O
 
-pub or_same : (x : Named) (p : Parts) → is_read x ≡ true
-    → does.does (or_operation x) (flat_of x) p ≡ own.checks_or x p
-unfolding does.does
+pub or_same : (x : Named) (p : ExecState) → is_read x ≡ true
+    → does.effect (or_operation x) (flat_of x) p ≡ own.checks_or x p
+unfolding does.effect
 or_same named.Nothing p e = refl
 or_same x p e = checks_same check.O x p e
 
-pub nest_same : (with : Check) (o : Operand) (p : Parts)
-    → does.does (operation.Nest with) o p ≡ own.opens_bracket with p
-unfolding does.does nesting.nesting
+pub nest_same : (with : Check) (o : Operand) (p : ExecState)
+    → does.effect (operation.Nest with) o p ≡ own.opens_bracket with p
+unfolding does.effect nesting.nesting
 nest_same with o p =
-    own_if p (length p.own.inner.brackets == 7)
-    (nesting.with_brackets (entry_of with p.own.regs ∷ p.own.inner.brackets)
-    (record p.own { regs = begun p.own.regs }))
+    own_if p (length p.local.inner.brackets == 7)
+    (nesting.with_brackets (entry_of with p.local.regs ∷ p.local.inner.brackets)
+    (record p.local { regs = begun p.local.regs }))
 
-pub unnest_same : (o : Operand) (p : Parts)
-    → does.does operation.Unnest o p ≡ own.closes_bracket p
-unfolding does.does nesting.unnesting
-unnest_same o p = by p.own.inner.brackets
+pub unnest_same : (o : Operand) (p : ExecState)
+    → does.effect operation.Unnest o p ≡ own.closes_bracket p
+unfolding does.effect nesting.unnesting
+unnest_same o p = by p.local.inner.brackets
   where
     by : (brackets : List Bracket)
-        → does.on_own p (nesting.unnested brackets p.own) ≡ own.closes_one brackets p
+        → does.on_local p (nesting.unnested brackets p.local) ≡ own.closes_one brackets p
     by [] = refl
     by (bracket ∷ rest) = refl
 
@@ -118,90 +118,90 @@ is_written (named.Place spot) = true
 is_written (named.Parameter index w) = true
 is_written _ = false
 
-written_place : (x : Named) (p : Parts) → is_written x ≡ true
-    → places.located Writing (flat_of x) p.own p.memory ≡ reading.place_of_operand Writing x p
+written_place : (x : Named) (p : ExecState) → is_written x ≡ true
+    → places.located Writing (flat_of x) p.local p.memory ≡ reading.place_of_operand Writing x p
 written_place (named.Place spot) p e = place_same Writing (named.Place spot) p refl
 written_place (named.Parameter index w) p e = place_same Writing (named.Parameter index w) p refl
 written_place _ p e = absurd (false≢true e)
 
-put_same : (b : Bound) (value : Bool) (r : Regs) (p : Parts)
-    → does.on_scene p (bit_logic.put_bit b value r p.own p.memory) ≡ own.writes_bit b value r p
+put_same : (b : Location) (value : Bool) (r : Regs) (p : ExecState)
+    → does.on_local_memory p (bit_logic.put_bit b value r p.local p.memory) ≡ own.writes_bit b value r p
 unfolding bit_logic.put_bit
 put_same b value r p =
-    by (values.write b (own.number_of_bit value) p.own p.memory)
+    by (values.write b (own.number_of_bit value) p.local p.memory)
     ∙ ap (λ z. then_ok z (λ q. Ok (own.with_regs r q)))
     (written_same b (own.number_of_bit value) p)
   where
-    by : (z : Result Scene ℕ)
-        → does.on_scene p (then_ok z (λ c. Ok (bit_logic.with_regs r c)))
-        ≡ then_ok (does.on_scene p z) (λ q. Ok (own.with_regs r q))
+    by : (z : Result LocalMemory ℕ)
+        → does.on_local_memory p (then_ok z (λ c. Ok (bit_logic.with_regs r c)))
+        ≡ then_ok (does.on_local_memory p z) (λ q. Ok (own.with_regs r q))
     by (Ok c) = refl
     by (Err e) = refl
 
 -- an instruction that seeks a place to write to
-seek_same : (x : Named) (p : Parts) (f : Bound → Result Scene ℕ) (g : Bound → Result Parts ℕ)
-    → is_written x ≡ true → ((b : Bound) → does.on_scene p (f b) ≡ g b)
-    → does.on_scene p (then_ok (places.located Writing (flat_of x) p.own p.memory) f)
+seek_same : (x : Named) (p : ExecState) (f : Location → Result LocalMemory ℕ) (g : Location → Result ExecState ℕ)
+    → is_written x ≡ true → ((b : Location) → does.on_local_memory p (f b) ≡ g b)
+    → does.on_local_memory p (then_ok (places.located Writing (flat_of x) p.local p.memory) f)
     ≡ then_ok (reading.place_of_operand Writing x p) g
 seek_same x p f g e h =
-    scene_then p (places.located Writing (flat_of x) p.own p.memory) f
-    ∙ then_same (places.located Writing (flat_of x) p.own p.memory) (reading.place_of_operand Writing x p)
-    (λ b. does.on_scene p (f b)) g (written_place x p e) h
+    scene_then p (places.located Writing (flat_of x) p.local p.memory) f
+    ∙ then_same (places.located Writing (flat_of x) p.local p.memory) (reading.place_of_operand Writing x p)
+    (λ b. does.on_local_memory p (f b)) g (written_place x p e) h
 
 -- one that reads the bit there first
-before_same : (b : Bound) (p : Parts) (f : Bool → Result Scene ℕ) (g : Bool → Result Parts ℕ)
-    → ((before : Bool) → does.on_scene p (f before) ≡ g before)
-    → does.on_scene p (then_ok (bit_logic.bit_before b p.own p.memory) f)
+before_same : (b : Location) (p : ExecState) (f : Bool → Result LocalMemory ℕ) (g : Bool → Result ExecState ℕ)
+    → ((before : Bool) → does.on_local_memory p (f before) ≡ g before)
+    → does.on_local_memory p (then_ok (bit_logic.bit_before b p.local p.memory) f)
     ≡ then_ok (own.bit_there b p) g
 unfolding bit_logic.bit_before
 before_same b p f g h =
-    scene_then p (bit_logic.bit_before b p.own p.memory) f
-    ∙ then_same (bit_logic.bit_before b p.own p.memory) (own.bit_there b p)
-    (λ before. does.on_scene p (f before)) g
+    scene_then p (bit_logic.bit_before b p.local p.memory) f
+    ∙ then_same (bit_logic.bit_before b p.local p.memory) (own.bit_there b p)
+    (λ before. does.on_local_memory p (f before)) g
     (ap (λ r. then_ok r (λ n. Ok (n == 1))) (there_same Writing b p)) h
 
-pub assign_same : (x : Named) (p : Parts) → is_written x ≡ true
-    → does.does operation.Assign (flat_of x) p ≡ own.assigns x p
-unfolding does.does bit_logic.assigned
+pub assign_same : (x : Named) (p : ExecState) → is_written x ≡ true
+    → does.effect operation.Assign (flat_of x) p ≡ own.assigns x p
+unfolding does.effect bit_logic.assigned
 assign_same x p e =
-    seek_same x p (λ b. bit_logic.assigned_at b p.own p.memory)
-    (λ b. own.writes_bit b (own.flow p) (stored (own.flow p) p.own.regs) p) e
-    (λ b. put_same b (own.flow p) (stored (own.flow p) p.own.regs) p)
+    seek_same x p (λ b. bit_logic.assigned_at b p.local p.memory)
+    (λ b. own.writes_bit b (own.flow p) (stored (own.flow p) p.local.regs) p) e
+    (λ b. put_same b (own.flow p) (stored (own.flow p) p.local.regs) p)
 
 after_same : (flow value before : Bool)
     → bit_logic.bit_after flow value before ≡ own.bit_after flow value before
 after_same true value before = refl
 after_same false value before = refl
 
-bit_set_same : (value : Bool) (x : Named) (p : Parts) → is_written x ≡ true
-    → does.on_scene p (bit_logic.bit_set value (flat_of x) p.own p.memory) ≡ own.sets_bit value x p
+bit_set_same : (value : Bool) (x : Named) (p : ExecState) → is_written x ≡ true
+    → does.on_local_memory p (bit_logic.bit_set value (flat_of x) p.local p.memory) ≡ own.sets_bit value x p
 unfolding bit_logic.bit_set
 bit_set_same value x p e =
-    let writes : Bound → Bool → Result Parts ℕ =
-    λ b bit. own.writes_bit b bit (stored bit p.own.regs) p in
+    let writes : Location → Bool → Result ExecState ℕ =
+    λ b bit. own.writes_bit b bit (stored bit p.local.regs) p in
     seek_same x p
-    (λ b. then_ok (bit_logic.bit_before b p.own p.memory)
-    (λ before. bit_logic.set_at value b before p.own p.memory))
+    (λ b. then_ok (bit_logic.bit_before b p.local p.memory)
+    (λ before. bit_logic.set_at value b before p.local p.memory))
     (λ b. then_ok (own.bit_there b p) (λ before. writes b (own.bit_after (own.flow p) value before)))
     e
-    (λ b. before_same b p (λ before. bit_logic.set_at value b before p.own p.memory)
+    (λ b. before_same b p (λ before. bit_logic.set_at value b before p.local p.memory)
     (λ before. writes b (own.bit_after (own.flow p) value before))
     (λ before. put_same b (bit_logic.bit_after (own.flow p) value before)
-    (stored (bit_logic.bit_after (own.flow p) value before) p.own.regs) p
+    (stored (bit_logic.bit_after (own.flow p) value before) p.local.regs) p
     ∙ ap (writes b) (after_same (own.flow p) value before)))
 
-pub edge_same : (rising : Bool) (x : Named) (p : Parts) → is_written x ≡ true
-    → does.does (operation.Edge rising) (flat_of x) p ≡ own.tells_edge rising x p
-unfolding does.does bit_logic.edge
+pub edge_same : (rising : Bool) (x : Named) (p : ExecState) → is_written x ≡ true
+    → does.effect (operation.Edge rising) (flat_of x) p ≡ own.tells_edge rising x p
+unfolding does.effect bit_logic.edge
 edge_same rising x p e =
     seek_same x p
-    (λ b. then_ok (bit_logic.bit_before b p.own p.memory)
-    (λ before. bit_logic.edge_at rising b before p.own p.memory))
+    (λ b. then_ok (bit_logic.bit_before b p.local p.memory)
+    (λ before. bit_logic.edge_at rising b before p.local p.memory))
     (λ b. then_ok (own.bit_there b p)
-    (λ before. own.writes_bit b (own.rlo p) (edged rising before p.own.regs) p)) e
-    (λ b. before_same b p (λ before. bit_logic.edge_at rising b before p.own p.memory)
-    (λ before. own.writes_bit b (own.rlo p) (edged rising before p.own.regs) p)
-    (λ before. put_same b (own.rlo p) (edged rising before p.own.regs) p))
+    (λ before. own.writes_bit b (own.rlo p) (edged rising before p.local.regs) p)) e
+    (λ b. before_same b p (λ before. bit_logic.edge_at rising b before p.local p.memory)
+    (λ before. own.writes_bit b (own.rlo p) (edged rising before p.local.regs) p)
+    (λ before. put_same b (own.rlo p) (edged rising before p.local.regs) p))
 
 -- ---- timers and counters
 
@@ -211,8 +211,8 @@ error_same code (Ok x) = refl
 error_same code (Err NoNumber) = refl
 error_same code (Err BadBcd) = refl
 
-timer_same : (f : Timer → Option Timer) (n : Number) (p : Parts)
-    → does.on_timers p (then_ok (values.number_named (flat_number 1 n) p.own p.memory)
+timer_same : (f : Timer → Option Timer) (n : Number) (p : ExecState)
+    → does.on_timers p (then_ok (values.number_named (flat_number 1 n) p.local p.memory)
     (λ which. values.faulty 0x26 (change f p.timers which)))
     ≡ own.on_timer f n p
 timer_same f n p =
@@ -234,8 +234,8 @@ timer_same f n p =
     by (Ok which) = changed (change f p.timers which)
     by (Err e) = refl
 
-counter_same : (f : Counter → Option Counter) (n : Number) (p : Parts)
-    → does.on_counters p (then_ok (values.number_named (flat_number 2 n) p.own p.memory)
+counter_same : (f : Counter → Option Counter) (n : Number) (p : ExecState)
+    → does.on_counters p (then_ok (values.number_named (flat_number 2 n) p.local p.memory)
     (λ which. values.faulty 0x27 (change f p.counters which)))
     ≡ own.on_counter f n p
 counter_same f n p =
@@ -288,9 +288,9 @@ abbrev pub is_freed : Named → Bool
 is_freed (named.Timer n) = true
 is_freed x = is_counter x
 
-pub set_same : (x : Named) (p : Parts) → is_set x ≡ true
-    → does.does operation.Set (flat_of x) p ≡ own.sets x p
-unfolding does.does timing.counter_set
+pub set_same : (x : Named) (p : ExecState) → is_set x ≡ true
+    → does.effect operation.Set (flat_of x) p ≡ own.sets x p
+unfolding does.effect timing.counter_set
 set_same (named.Counter n) p e =
     ap (λ k. does.set_of k (flat_number 2 n) p) (number_kind 2 n)
     ∙ counter_same (counters.set_to (own.rlo p) (own.low_word p)) n p
@@ -300,9 +300,9 @@ set_same (named.Place spot) p e =
 set_same (named.Parameter index w) p e = bit_set_same true (named.Parameter index w) p refl
 set_same _ p e = absurd (false≢true e)
 
-pub reset_same : (x : Named) (p : Parts) → is_reset x ≡ true
-    → does.does operation.Reset (flat_of x) p ≡ own.resets x p
-unfolding does.does timing.counter_reset timing.timer_reset
+pub reset_same : (x : Named) (p : ExecState) → is_reset x ≡ true
+    → does.effect operation.Reset (flat_of x) p ≡ own.resets x p
+unfolding does.effect timing.counter_reset timing.timer_reset
 reset_same (named.Timer n) p e =
     ap (λ k. does.reset_of k (flat_number 1 n) p) (number_kind 1 n)
     ∙ timer_same (λ t. Some (timers.reset_timer (own.rlo p) t)) n p
@@ -315,9 +315,9 @@ reset_same (named.Place spot) p e =
 reset_same (named.Parameter index w) p e = bit_set_same false (named.Parameter index w) p refl
 reset_same _ p e = absurd (false≢true e)
 
-pub free_same : (x : Named) (p : Parts) → is_freed x ≡ true
-    → does.does operation.Free (flat_of x) p ≡ own.frees x p
-unfolding does.does timing.counter_freed timing.timer_freed
+pub free_same : (x : Named) (p : ExecState) → is_freed x ≡ true
+    → does.effect operation.Free (flat_of x) p ≡ own.frees x p
+unfolding does.effect timing.counter_freed timing.timer_freed
 free_same (named.Timer n) p e =
     ap (λ k. does.free_of k (flat_number 1 n) p) (number_kind 1 n)
     ∙ timer_same (λ t. Some (timers.freed_timer (own.rlo p) t)) n p
@@ -326,44 +326,44 @@ free_same (named.Counter n) p e =
     ∙ counter_same (λ k. Some (counters.freed_counter (own.rlo p) k)) n p
 free_same _ p e = absurd (false≢true e)
 
-pub start_same : (how : TimerKind) (x : Named) (p : Parts) → is_timer x ≡ true
-    → does.does (operation.Start how) (flat_of x) p ≡ own.starts how x p
-unfolding does.does timing.starting
+pub start_same : (how : TimerKind) (x : Named) (p : ExecState) → is_timer x ≡ true
+    → does.effect (operation.Start how) (flat_of x) p ≡ own.starts how x p
+unfolding does.effect timing.starting
 start_same how (named.Timer n) p e =
     timer_same (timers.started how (own.rlo p) (own.low_word p)) n p
 start_same how _ p e = absurd (false≢true e)
 
-pub up_same : (x : Named) (p : Parts) → is_counter x ≡ true
-    → does.does operation.CountUp (flat_of x) p ≡ own.counts counters.counted_up x p
-unfolding does.does timing.counting_up
+pub up_same : (x : Named) (p : ExecState) → is_counter x ≡ true
+    → does.effect operation.CountUp (flat_of x) p ≡ own.counts counters.counted_up x p
+unfolding does.effect timing.counting_up
 up_same (named.Counter n) p e =
     counter_same (λ k. Some (counters.counted_up (own.rlo p) k)) n p
 up_same _ p e = absurd (false≢true e)
 
-pub down_same : (x : Named) (p : Parts) → is_counter x ≡ true
-    → does.does operation.CountDown (flat_of x) p ≡ own.counts counters.counted_down x p
-unfolding does.does timing.counting_down
+pub down_same : (x : Named) (p : ExecState) → is_counter x ≡ true
+    → does.effect operation.CountDown (flat_of x) p ≡ own.counts counters.counted_down x p
+unfolding does.effect timing.counting_down
 down_same (named.Counter n) p e =
     counter_same (λ k. Some (counters.counted_down (own.rlo p) k)) n p
 down_same _ p e = absurd (false≢true e)
 
 -- ---- the master control relay
 
-pub open_zone_same : (o : Operand) (p : Parts)
-    → does.does (operation.Relay relay.Open) o p ≡ own.opens_zone p
-unfolding does.does zones.opening_zone
+pub open_zone_same : (o : Operand) (p : ExecState)
+    → does.effect (operation.Relay relay.Open) o p ≡ own.opens_zone p
+unfolding does.effect zones.opening_zone
 open_zone_same o p =
-    own_if p (length p.own.inner.relay.zones == 8)
-    (zones.with_zones (zone_opened p.own.regs.status.rlo p.own.inner.relay) p.own)
+    own_if p (length p.local.inner.relay.zones == 8)
+    (zones.with_zones (zone_opened p.local.regs.status.rlo p.local.inner.relay) p.local)
 
-pub end_zone_same : (o : Operand) (p : Parts)
-    → does.does (operation.Relay relay.Close) o p ≡ own.ends_zone p
-unfolding does.does zones.ending_zone
-end_zone_same o p = by p.own.inner.relay.zones
+pub end_zone_same : (o : Operand) (p : ExecState)
+    → does.effect (operation.Relay relay.Close) o p ≡ own.ends_zone p
+unfolding does.effect zones.ending_zone
+end_zone_same o p = by p.local.inner.relay.zones
   where
     by : (open_zones : List Bool)
-        → does.on_own p (if is_empty open_zones then Err 0
-        else Ok (zones.with_zones (zone_ended p.own.inner.relay) p.own))
+        → does.on_local p (if is_empty open_zones then Err 0
+        else Ok (zones.with_zones (zone_ended p.local.inner.relay) p.local))
         ≡ own.ends_zone_of open_zones p
     by [] = refl
     by (value ∷ around) = refl
@@ -385,14 +385,14 @@ open_length_same : (o : Option ℕ) (m : Areas) → data_blocks.len_opened o m �
 open_length_same None m = refl
 open_length_same (Some n) m = length_same (map.get m.data_blocks n)
 
-plain_load : (x : Named) (p : Parts) → is_read x ≡ true
-    → does.does operation.Load (flat_of x) p
+plain_load : (x : Named) (p : ExecState) → is_read x ≡ true
+    → does.effect operation.Load (flat_of x) p
     ≡ then_ok (reading.number_to_load x p) (λ n. own.on_regs (own.with_loaded n) p)
-unfolding does.does loads.loading
+unfolding does.effect loads.loading
 plain_load x p e =
-    regs_then p (values.loaded (flat_of x) p.own p.memory p.timers p.counters)
-    (λ n. own.with_loaded n p.own.regs)
-    ∙ ap (λ r. then_ok r (λ n. Ok (own.with_regs (own.with_loaded n p.own.regs) p)))
+    regs_then p (values.loaded (flat_of x) p.local p.memory p.timers p.counters)
+    (λ n. own.with_loaded n p.local.regs)
+    ∙ ap (λ r. then_ok r (λ n. Ok (own.with_regs (own.with_loaded n p.local.regs) p)))
     (loaded_same x p e)
 
 -- what L takes
@@ -400,36 +400,36 @@ abbrev pub is_loaded : Named → Bool
 is_loaded (named.Opened what) = true
 is_loaded x = is_read x
 
-pub load_same : (x : Named) (p : Parts) → is_loaded x ≡ true
-    → does.does (load_operation x) (flat_of x) p ≡ own.loads x p
-unfolding does.does loads.status_loaded data_blocks.loading_open_block data_blocks.open_block_fact
+pub load_same : (x : Named) (p : ExecState) → is_loaded x ≡ true
+    → does.effect (load_operation x) (flat_of x) p ≡ own.loads x p
+unfolding does.effect loads.status_loaded data_blocks.loading_open_block data_blocks.open_block_fact
     reading.number_to_load reading.number_of_operand
 load_same named.StatusWord p e = refl
 load_same (named.Opened named.DbLength) p e =
-    ap (λ n. Ok (own.with_regs (own.with_loaded n p.own.regs) p))
-    (open_length_same p.own.inner.db p.memory)
+    ap (λ n. Ok (own.with_regs (own.with_loaded n p.local.regs) p))
+    (open_length_same p.local.inner.db p.memory)
 load_same (named.Opened named.DbNumber) p e = refl
 load_same (named.Opened named.DiLength) p e =
-    ap (λ n. Ok (own.with_regs (own.with_loaded n p.own.regs) p))
-    (open_length_same p.own.inner.di p.memory)
+    ap (λ n. Ok (own.with_regs (own.with_loaded n p.local.regs) p))
+    (open_length_same p.local.inner.di p.memory)
 load_same (named.Opened named.DiNumber) p e = refl
 load_same named.SecondRegister p e = refl
 load_same x p e = plain_load x p e
 
-pub load_bcd_same : (x : Named) (p : Parts)
-    → does.does operation.LoadBcd (flat_of x) p ≡ own.loads_bcd x p
-unfolding does.does loads.loading_bcd
+pub load_bcd_same : (x : Named) (p : ExecState)
+    → does.effect operation.LoadBcd (flat_of x) p ≡ own.loads_bcd x p
+unfolding does.effect loads.loading_bcd
 load_bcd_same x p =
-    regs_then p (values.bcd_loaded (flat_of x) p.own p.memory p.timers p.counters)
-    (λ n. own.with_loaded n p.own.regs)
-    ∙ ap (λ r. then_ok r (λ n. Ok (own.with_regs (own.with_loaded n p.own.regs) p)))
+    regs_then p (values.bcd_loaded (flat_of x) p.local p.memory p.timers p.counters)
+    (λ n. own.with_loaded n p.local.regs)
+    ∙ ap (λ r. then_ok r (λ n. Ok (own.with_regs (own.with_loaded n p.local.regs) p)))
     (bcd_same x p)
 
-puts_same : (n : ℕ) (x : Named) (p : Parts) → is_written x ≡ true
-    → does.on_scene p (loads.transferred n (flat_of x) p.own p.memory) ≡ own.puts n x p
+puts_same : (n : ℕ) (x : Named) (p : ExecState) → is_written x ≡ true
+    → does.on_local_memory p (loads.transferred n (flat_of x) p.local p.memory) ≡ own.puts n x p
 unfolding loads.transferred
 puts_same n x p e =
-    seek_same x p (λ b. values.write b (n % 2 ^ bit_count b.width) p.own p.memory)
+    seek_same x p (λ b. values.write b (n % 2 ^ bit_count b.width) p.local p.memory)
     (λ b. reading.with_number_at b (n % 2 ^ bit_count b.width) p) e
     (λ b. written_same b (n % 2 ^ bit_count b.width) p)
 
@@ -444,14 +444,14 @@ abbrev pub is_transferred : Named → Bool
 is_transferred named.StatusWord = true
 is_transferred x = is_written x
 
-pub transfer_same : (x : Named) (p : Parts) → is_transferred x ≡ true
-    → does.does (transfer_operation x) (flat_of x) p ≡ own.transfers x p
-unfolding does.does loads.status_transferred
+pub transfer_same : (x : Named) (p : ExecState) → is_transferred x ≡ true
+    → does.effect (transfer_operation x) (flat_of x) p ≡ own.transfers x p
+unfolding does.effect loads.status_transferred
 transfer_same named.StatusWord p e = refl
 transfer_same (named.Place spot) p e =
-    puts_same (if own.is_relay_closed p then 0 else p.own.regs.a1) (named.Place spot) p refl
+    puts_same (if own.is_relay_closed p then 0 else p.local.regs.a1) (named.Place spot) p refl
 transfer_same (named.Parameter index w) p e =
-    puts_same (if own.is_relay_closed p then 0 else p.own.regs.a1) (named.Parameter index w) p refl
+    puts_same (if own.is_relay_closed p then 0 else p.local.regs.a1) (named.Parameter index w) p refl
 transfer_same _ p e = absurd (false≢true e)
 
 -- ---- address registers
@@ -463,8 +463,8 @@ is_address (named.Pointer value) = true
 is_address (named.Place spot) = true
 is_address _ = false
 
-address_same : (x : Named) (p : Parts) → is_address x ≡ true
-    → pointer.address_loaded (flat_of x) p.own p.memory ≡ own.address_to_load x p
+address_same : (x : Named) (p : ExecState) → is_address x ≡ true
+    → pointer.address_loaded (flat_of x) p.local p.memory ≡ own.address_to_load x p
 address_same named.Nothing p e = refl
 address_same (named.Pointer value) p e = number_same (named.Pointer value) p refl
 address_same (named.Place (named.Fixed a w byte bit)) p e =
@@ -476,13 +476,13 @@ address_same (named.Place (named.ByRegister a w register count)) p e =
 address_same _ p e = absurd (false≢true e)
 
 -- with another address in AR1, in AR2
-address_to : (f : ℕ → Regs) (x : Named) (p : Parts) → is_address x ≡ true
-    → does.on_scene p (then_ok (pointer.address_loaded (flat_of x) p.own p.memory)
-    (λ n. Ok (pointer.regs_set (f n) p.own p.memory)))
+address_to : (f : ℕ → Regs) (x : Named) (p : ExecState) → is_address x ≡ true
+    → does.on_local_memory p (then_ok (pointer.address_loaded (flat_of x) p.local p.memory)
+    (λ n. Ok (pointer.regs_set (f n) p.local p.memory)))
     ≡ then_ok (own.address_to_load x p) (λ n. Ok (own.with_regs (f n) p))
 address_to f x p e =
-    scene_then p (pointer.address_loaded (flat_of x) p.own p.memory)
-    (λ n. Ok (pointer.regs_set (f n) p.own p.memory))
+    scene_then p (pointer.address_loaded (flat_of x) p.local p.memory)
+    (λ n. Ok (pointer.regs_set (f n) p.local p.memory))
     ∙ ap (λ r. then_ok r (λ n. Ok (own.with_regs (f n) p))) (address_same x p e)
 
 abbrev pub load_address_operation : Named → Operation
@@ -495,21 +495,21 @@ abbrev pub is_first_address : Named → Bool
 is_first_address named.SecondRegister = true
 is_first_address x = is_address x
 
-pub lar1_same : (x : Named) (p : Parts) → is_first_address x ≡ true
-    → does.does (load_address_operation x) (flat_of x) p ≡ own.loads_ar1 x p
-unfolding does.does pointer.pointed
+pub lar1_same : (x : Named) (p : ExecState) → is_first_address x ≡ true
+    → does.effect (load_address_operation x) (flat_of x) p ≡ own.loads_ar1 x p
+unfolding does.effect pointer.pointed
 lar1_same named.SecondRegister p e = refl
-lar1_same named.Nothing p e = address_to (λ n. record p.own.regs { ar1 = n }) named.Nothing p e
+lar1_same named.Nothing p e = address_to (λ n. record p.local.regs { ar1 = n }) named.Nothing p e
 lar1_same (named.Pointer value) p e =
-    address_to (λ n. record p.own.regs { ar1 = n }) (named.Pointer value) p e
+    address_to (λ n. record p.local.regs { ar1 = n }) (named.Pointer value) p e
 lar1_same (named.Place spot) p e =
-    address_to (λ n. record p.own.regs { ar1 = n }) (named.Place spot) p e
+    address_to (λ n. record p.local.regs { ar1 = n }) (named.Place spot) p e
 lar1_same _ p e = absurd (false≢true e)
 
-pub lar2_same : (x : Named) (p : Parts) → is_address x ≡ true
-    → does.does (operation.Pointer pointers.Lar2) (flat_of x) p ≡ own.loads_ar2 x p
-unfolding does.does pointer.pointed
-lar2_same x p e = address_to (λ n. record p.own.regs { ar2 = n }) x p e
+pub lar2_same : (x : Named) (p : ExecState) → is_address x ≡ true
+    → does.effect (operation.Pointer pointers.Lar2) (flat_of x) p ≡ own.loads_ar2 x p
+unfolding does.effect pointer.pointed
+lar2_same x p e = address_to (λ n. record p.local.regs { ar2 = n }) x p e
 
 -- TAR1 and TAR2
 abbrev pub is_address_place : Named → Bool
@@ -517,8 +517,8 @@ is_address_place named.Nothing = true
 is_address_place (named.Place spot) = true
 is_address_place _ = false
 
-puts_address_same : (n : ℕ) (x : Named) (p : Parts) → is_address_place x ≡ true
-    → does.on_scene p (pointer.address_transferred n (flat_of x) p.own p.memory)
+puts_address_same : (n : ℕ) (x : Named) (p : ExecState) → is_address_place x ≡ true
+    → does.on_local_memory p (pointer.address_transferred n (flat_of x) p.local p.memory)
     ≡ own.puts_address n x p
 puts_address_same n named.Nothing p e = refl
 puts_address_same n (named.Place (named.Fixed a w byte bit)) p e =
@@ -539,37 +539,37 @@ abbrev pub is_first_address_place : Named → Bool
 is_first_address_place named.SecondRegister = true
 is_first_address_place x = is_address_place x
 
-pub tar1_same : (x : Named) (p : Parts) → is_first_address_place x ≡ true
-    → does.does (store_address_operation x) (flat_of x) p ≡ own.stores_ar1 x p
-unfolding does.does pointer.pointed
+pub tar1_same : (x : Named) (p : ExecState) → is_first_address_place x ≡ true
+    → does.effect (store_address_operation x) (flat_of x) p ≡ own.stores_ar1 x p
+unfolding does.effect pointer.pointed
 tar1_same named.SecondRegister p e = refl
-tar1_same named.Nothing p e = puts_address_same p.own.regs.ar1 named.Nothing p e
-tar1_same (named.Place spot) p e = puts_address_same p.own.regs.ar1 (named.Place spot) p e
+tar1_same named.Nothing p e = puts_address_same p.local.regs.ar1 named.Nothing p e
+tar1_same (named.Place spot) p e = puts_address_same p.local.regs.ar1 (named.Place spot) p e
 tar1_same _ p e = absurd (false≢true e)
 
-pub tar2_same : (x : Named) (p : Parts) → is_address_place x ≡ true
-    → does.does (operation.Pointer pointers.Tar2) (flat_of x) p
-    ≡ own.puts_address p.own.regs.ar2 x p
-unfolding does.does pointer.pointed
-tar2_same x p e = puts_address_same p.own.regs.ar2 x p e
+pub tar2_same : (x : Named) (p : ExecState) → is_address_place x ≡ true
+    → does.effect (operation.Pointer pointers.Tar2) (flat_of x) p
+    ≡ own.puts_address p.local.regs.ar2 x p
+unfolding does.effect pointer.pointed
+tar2_same x p e = puts_address_same p.local.regs.ar2 x p e
 
 abbrev pub is_added_address : Named → Bool
 is_added_address named.Nothing = true
 is_added_address (named.Pointer value) = true
 is_added_address _ = false
 
-pub add_ar1_same : (x : Named) (p : Parts) → is_added_address x ≡ true
-    → does.does (operation.Pointer pointers.AddAr1) (flat_of x) p
-    ≡ Ok (own.with_ar1 (own.address_after p.own.regs.ar1 (own.added_bits x p)) p)
-unfolding does.does pointer.pointed pointer.address_after
+pub add_ar1_same : (x : Named) (p : ExecState) → is_added_address x ≡ true
+    → does.effect (operation.Pointer pointers.AddAr1) (flat_of x) p
+    ≡ Ok (own.with_ar1 (own.address_after p.local.regs.ar1 (own.added_bits x p)) p)
+unfolding does.effect pointer.pointed pointer.address_after
 add_ar1_same named.Nothing p e = refl
 add_ar1_same (named.Pointer value) p e = refl
 add_ar1_same _ p e = absurd (false≢true e)
 
-pub add_ar2_same : (x : Named) (p : Parts) → is_added_address x ≡ true
-    → does.does (operation.Pointer pointers.AddAr2) (flat_of x) p
-    ≡ Ok (own.with_ar2 (own.address_after p.own.regs.ar2 (own.added_bits x p)) p)
-unfolding does.does pointer.pointed pointer.address_after
+pub add_ar2_same : (x : Named) (p : ExecState) → is_added_address x ≡ true
+    → does.effect (operation.Pointer pointers.AddAr2) (flat_of x) p
+    ≡ Ok (own.with_ar2 (own.address_after p.local.regs.ar2 (own.added_bits x p)) p)
+unfolding does.effect pointer.pointed pointer.address_after
 add_ar2_same named.Nothing p e = refl
 add_ar2_same (named.Pointer value) p e = refl
 add_ar2_same _ p e = absurd (false≢true e)
@@ -580,46 +580,46 @@ abbrev pub is_data_block : Named → Bool
 is_data_block (named.DataBlock di n) = true
 is_data_block _ = false
 
-opened_same : (di : Bool) (n : ℕ) (p : Parts)
-    → does.on_own p (data_blocks.opened_if (data_blocks.is_loaded n p.memory) (if di then 2 else 1) n p.own)
+opened_same : (di : Bool) (n : ℕ) (p : ExecState)
+    → does.on_local p (data_blocks.opened_if (data_blocks.is_loaded n p.memory) (if di then 2 else 1) n p.local)
     ≡ own.opens_number di n p
 opened_same true n p = by (data_blocks.is_loaded n p.memory)
   where
-    by : (b : Bool) → does.on_own p (data_blocks.opened_if b 2 n p.own)
+    by : (b : Bool) → does.on_local p (data_blocks.opened_if b 2 n p.local)
         ≡ (if b then Ok (own.with_open true n p) else Err 0x3A)
     by true = refl
     by false = refl
 opened_same false n p = by (data_blocks.is_loaded n p.memory)
   where
-    by : (b : Bool) → does.on_own p (data_blocks.opened_if b 1 n p.own)
+    by : (b : Bool) → does.on_local p (data_blocks.opened_if b 1 n p.local)
         ≡ (if b then Ok (own.with_open false n p) else Err 0x3A)
     by true = refl
     by false = refl
 
-own_then : {A : Type 0} (p : Parts) (r : Result A ℕ) (f : A → Result Own ℕ)
-    → does.on_own p (then_ok r f) ≡ then_ok r (λ x. does.on_own p (f x))
+own_then : {A : Type 0} (p : ExecState) (r : Result A ℕ) (f : A → Result Local ℕ)
+    → does.on_local p (then_ok r f) ≡ then_ok r (λ x. does.on_local p (f x))
 own_then p (Ok x) f = refl
 own_then p (Err e) f = refl
 
-pub open_same : (x : Named) (p : Parts) → is_data_block x ≡ true
-    → does.does operation.OpenBlock (flat_of x) p ≡ own.opens x p
-unfolding does.does data_blocks.opening reading.number_of_item
+pub open_same : (x : Named) (p : ExecState) → is_data_block x ≡ true
+    → does.effect operation.OpenBlock (flat_of x) p ≡ own.opens x p
+unfolding does.effect data_blocks.opening reading.number_of_item
 open_same (named.DataBlock di (named.Written n)) p e = opened_same di n p
 open_same (named.DataBlock di (named.InWord from byte)) p e =
-    own_then p (places.pointer from byte widths.Word p.own p.memory)
-    (λ n. data_blocks.opened_if (data_blocks.is_loaded n p.memory) (if di then 2 else 1) n p.own)
-    ∙ then_same (places.pointer from byte widths.Word p.own p.memory)
+    own_then p (places.pointer from byte widths.Word p.local p.memory)
+    (λ n. data_blocks.opened_if (data_blocks.is_loaded n p.memory) (if di then 2 else 1) n p.local)
+    ∙ then_same (places.pointer from byte widths.Word p.local p.memory)
     (reading.stored_number from byte widths.Word p)
-    (λ n. does.on_own p (data_blocks.opened_if (data_blocks.is_loaded n p.memory) (if di then 2 else 1) n p.own))
+    (λ n. does.on_local p (data_blocks.opened_if (data_blocks.is_loaded n p.memory) (if di then 2 else 1) n p.local))
     (λ n. own.opens_number di n p)
     (standing_same from byte widths.Word p) (λ n. opened_same di n p)
 open_same _ p e = absurd (false≢true e)
 
 -- ---- number instructions
 
-pub bcd_number_same : (f : Regs → Option Regs) (p : Parts)
-    → does.on_regs p (ok_or (f p.own.regs) 0x21) ≡ own.on_bcd f p
-bcd_number_same f p = by (ok_or (f p.own.regs) 0x21)
+pub bcd_number_same : (f : Regs → Option Regs) (p : ExecState)
+    → does.on_regs p (ok_or (f p.local.regs) 0x21) ≡ own.on_bcd f p
+bcd_number_same f p = by (ok_or (f p.local.regs) 0x21)
   where
     by : (r : Result Regs ℕ) → does.on_regs p r ≡ then_ok r (λ z. Ok (own.with_regs z p))
     by (Ok z) = refl
@@ -639,23 +639,23 @@ abbrev pub add_operation : Named → Operation
 add_operation (named.Constant (literal.Long value)) = operation.Add adding.Dword
 add_operation _ = operation.Add adding.Word
 
-pub inc_same : (x : Named) (p : Parts) → is_constant x ≡ true
-    → does.does (operation.Add adding.Inc) (flat_of x) p
+pub inc_same : (x : Named) (p : ExecState) → is_constant x ≡ true
+    → does.effect (operation.Add adding.Inc) (flat_of x) p
     ≡ own.on_regs (accumulators.increased 8 (own.count 8 x)) p
-unfolding does.does numbers.with_constant
+unfolding does.effect numbers.with_constant
 inc_same (named.Constant value) p e = refl
 inc_same _ p e = absurd (false≢true e)
 
-pub dec_same : (x : Named) (p : Parts) → is_constant x ≡ true
-    → does.does (operation.Add adding.Dec) (flat_of x) p
+pub dec_same : (x : Named) (p : ExecState) → is_constant x ≡ true
+    → does.effect (operation.Add adding.Dec) (flat_of x) p
     ≡ own.on_regs (accumulators.decreased 8 (own.count 8 x)) p
-unfolding does.does numbers.with_constant
+unfolding does.effect numbers.with_constant
 dec_same (named.Constant value) p e = refl
 dec_same _ p e = absurd (false≢true e)
 
-pub add_same : (x : Named) (p : Parts) → is_constant x ≡ true
-    → does.does (add_operation x) (flat_of x) p ≡ own.on_regs (own.adds_by x) p
-unfolding does.does numbers.with_constant
+pub add_same : (x : Named) (p : ExecState) → is_constant x ≡ true
+    → does.effect (add_operation x) (flat_of x) p ≡ own.on_regs (own.adds_by x) p
+unfolding does.effect numbers.with_constant
 add_same (named.Constant (literal.Long value)) p e = refl
 add_same (named.Constant _) p e = refl
 add_same _ p e = absurd (false≢true e)
@@ -667,22 +667,22 @@ constant_same w named.Nothing e = refl
 constant_same w (named.Constant value) e = refl
 constant_same w _ e = absurd (false≢true e)
 
-pub logic_same : (what : Logic) (w : ℕ) (f : Option ℕ → Regs → Regs) (x : Named) (p : Parts)
+pub logic_same : (what : Logic) (w : ℕ) (f : Option ℕ → Regs → Regs) (x : Named) (p : ExecState)
     → is_count x ≡ true
-    → ((o : Operand) → numbers.combined what o p.own.regs ≡ f (numbers.constant w o) p.own.regs)
-    → does.does (operation.Logic what) (flat_of x) p ≡ own.on_regs (f (own.constant w x)) p
-unfolding does.does
+    → ((o : Operand) → numbers.combined what o p.local.regs ≡ f (numbers.constant w o) p.local.regs)
+    → does.effect (operation.Logic what) (flat_of x) p ≡ own.on_regs (f (own.constant w x)) p
+unfolding does.effect
 logic_same what w f x p e h =
     ap (λ r. Ok (own.with_regs r p))
-    (h (flat_of x) ∙ ap (λ k. f k p.own.regs) (constant_same w x e))
+    (h (flat_of x) ∙ ap (λ k. f k p.local.regs) (constant_same w x e))
 
-pub shift_same : (what : Shift) (f : ℕ → Regs → Regs) (x : Named) (p : Parts)
+pub shift_same : (what : Shift) (f : ℕ → Regs → Regs) (x : Named) (p : ExecState)
     → is_count x ≡ true
-    → ((o : Operand) → numbers.shifted what o p.own.regs
-    ≡ f (unwrap_or (numbers.constant 8 o) (p.own.regs.a2 % 2 ^ 8)) p.own.regs)
-    → does.does (operation.Shift what) (flat_of x) p ≡ own.on_regs (f (own.places x p)) p
-unfolding does.does
+    → ((o : Operand) → numbers.shifted what o p.local.regs
+    ≡ f (unwrap_or (numbers.constant 8 o) (p.local.regs.a2 % 2 ^ 8)) p.local.regs)
+    → does.effect (operation.Shift what) (flat_of x) p ≡ own.on_regs (f (own.places x p)) p
+unfolding does.effect
 shift_same what f x p e h =
     ap (λ r. Ok (own.with_regs r p))
     (h (flat_of x)
-    ∙ ap (λ k. f (unwrap_or k (p.own.regs.a2 % 2 ^ 8)) p.own.regs) (constant_same 8 x e))
+    ∙ ap (λ k. f (unwrap_or k (p.local.regs.a2 % 2 ^ 8)) p.local.regs) (constant_same 8 x e))

@@ -54,13 +54,13 @@ use Rattle.machine.specs.Bindings as bindings
 use Rattle.machine.specs.Code.{Code, Head}
 use Rattle.machine.specs.DataBlocks as data_blocks
 use Rattle.machine.specs.Entering as entering
-use Rattle.machine.specs.Parts.{Parts, own_of, parts_of, then_ok}
+use Rattle.machine.specs.ExecState.{ExecState, local_of, exec_state_of, then_ok}
 use Rattle.machine.specs.Places as places
 use Rattle.machine.specs.Statement as machine
-use Rattle.machine.specs.Statement.{Step, Went, World, performed}
+use Rattle.machine.specs.Statement.{Step, Went, World, step_of}
 use Rattle.machine.specs.SystemCalls as system
 use Rattle.machine.specs.declared.places.Access.{Access}
-use Rattle.machine.specs.declared.places.Bound.{Bound}
+use Rattle.machine.specs.declared.places.Location.{Location}
 use Rattle.statement_laws.specs.Calls as own
 use Rattle.statement_laws.specs.Jumps.{rlo_set, standing_at}
 use Rattle.statement_laws.specs.Laws.{CallsAct, IsNamedActual, is_call}
@@ -74,13 +74,13 @@ use Rattle.statement_laws.proofs.VariableLemmas.{view_same}
 
 -- ---- what a parameter stands for
 
-if_bound_same : (access : Access) (b : Bound) (o : Option ℕ)
+if_bound_same : (access : Access) (b : Location) (o : Option ℕ)
     → bindings.bound_if access b o ≡ own.binding_if access b o
 if_bound_same access b None = ap Err (absent_same access b.place.area)
 if_bound_same access b (Some n) = refl
 
-bound_at_same : (access : Access) (b : Bound) (p : Parts)
-    → bindings.bound_place access b p.own p.memory ≡ own.binding_at access b p
+bound_at_same : (access : Access) (b : Location) (p : ExecState)
+    → bindings.bound_place access b p.local p.memory ≡ own.binding_at access b p
 unfolding bindings.bound_place
 bound_at_same access b p =
     ap (bindings.bound_if access b) (of_area b.place.area b p)
@@ -102,17 +102,17 @@ abbrev there : Option Passed → Passed
 there (Some actual) = actual
 there None = passed.Literal 0
 
-direct_same : (access : Access) (a : Area) (w : Width) (byte bit : ℕ) (p : Parts)
-    → bindings.bound_actual access (passed.Direct a w byte bit) p.own p.memory
+direct_same : (access : Access) (a : Area) (w : Width) (byte bit : ℕ) (p : ExecState)
+    → bindings.bound_actual access (passed.Direct a w byte bit) p.local p.memory
     ≡ own.binding_of access (named.Place (named.Fixed a w byte bit)) p
 unfolding bindings.bound_actual own.binding_of
 direct_same access a w byte bit p =
-    then_same (places.placed access a byte bit w p.own) (reading.fixed_place access a w byte bit p)
-    (λ b. bindings.bound_place access b p.own p.memory) (λ b. own.binding_at access b p)
+    then_same (places.placed access a byte bit w p.local) (reading.fixed_place access a w byte bit p)
+    (λ b. bindings.bound_place access b p.local p.memory) (λ b. own.binding_at access b p)
     (fixed_same access a w byte bit p) (λ b. bound_at_same access b p)
 
-in_block_bound : (access : Access) (n : ℕ) (w : Width) (byte bit : ℕ) (p : Parts)
-    → bindings.bound_actual access (passed.InBlock n area.Db w byte bit) p.own p.memory
+in_block_bound : (access : Access) (n : ℕ) (w : Width) (byte bit : ℕ) (p : ExecState)
+    → bindings.bound_actual access (passed.InBlock n area.Db w byte bit) p.local p.memory
     ≡ own.binding_of access (named.PlaceIn n w byte bit) p
 unfolding bindings.bound_actual own.binding_of
 in_block_bound access n w byte bit p =
@@ -123,28 +123,28 @@ access_same : (param : Param) → bindings.access_of param ≡ own.access_of par
 access_same param = refl
 
 -- for a parameter by its index
-for_same : (o : Option Param) (actual : Passed) (x : Named) (p : Parts)
-    → ((access : Access) → bindings.bound_actual access actual p.own p.memory ≡ own.binding_of access x p)
-    → bindings.bound_for o actual p.own p.memory ≡ own.binding_for o x p
+for_same : (o : Option Param) (actual : Passed) (x : Named) (p : ExecState)
+    → ((access : Access) → bindings.bound_actual access actual p.local p.memory ≡ own.binding_of access x p)
+    → bindings.bound_for o actual p.local p.memory ≡ own.binding_for o x p
 for_same None actual x p h = refl
 for_same (Some param) actual x p h = h (own.access_of param)
 
 -- one passing, and those behind it
 step_same : (params : List Param) (index : ℕ) (actual : Passed) (x : Named) (rest : List Passing)
-    (before : List Binding) (p : Parts)
-    → ((access : Access) → bindings.bound_actual access actual p.own p.memory ≡ own.binding_of access x p)
-    → bindings.bound_params params (record { index = index; actual = actual } ∷ rest) before p.own p.memory
+    (before : List Binding) (p : ExecState)
+    → ((access : Access) → bindings.bound_actual access actual p.local p.memory ≡ own.binding_of access x p)
+    → bindings.bound_params params (record { index = index; actual = actual } ∷ rest) before p.local p.memory
     ≡ own.binds (Some x) (slice_get params index) index before p
-    (λ more. bindings.bound_params params rest more p.own p.memory)
+    (λ more. bindings.bound_params params rest more p.local p.memory)
 step_same params index actual x rest before p h =
-    ap (λ r. then_ok r (λ b. bindings.bound_params params rest (set_at before index b) p.own p.memory))
+    ap (λ r. then_ok r (λ b. bindings.bound_params params rest (set_at before index b) p.local p.memory))
     (for_same (slice_get params index) actual x p h)
 
 passing_same : (params : List Param) (index : ℕ) (x : Named) (rest : List Passing)
-    (before : List Binding) (p : Parts)
-    → bindings.bound_params params (with_index index (flat_passed x) ++ rest) before p.own p.memory
+    (before : List Binding) (p : ExecState)
+    → bindings.bound_params params (with_index index (flat_passed x) ++ rest) before p.local p.memory
     ≡ own.binds (own.if_passable x) (slice_get params index) index before p
-    (λ more. bindings.bound_params params rest more p.own p.memory)
+    (λ more. bindings.bound_params params rest more p.local p.memory)
 unfolding bindings.bound_actual own.binding_of
 passing_same params index (named.Constant value) rest before p =
     step_same params index (passed.Literal (reading.bits value)) (named.Constant value) rest before p
@@ -157,7 +157,7 @@ passing_same params index (named.PlaceIn n w byte bit) rest before p =
     before p (λ access. in_block_bound access n w byte bit p)
 passing_same params index (named.Parameter k w) rest before p =
     step_same params index (passed.Parameter k w) (named.Parameter k w) rest before p
-    (λ access. passed_on_same (slice_get p.own.inner.bindings k))
+    (λ access. passed_on_same (slice_get p.local.inner.bindings k))
 passing_same params index _ rest before p = refl
 
 -- ---- what is passed
@@ -247,19 +247,19 @@ found_same c name (a ∷ actuals) h =
     by false more = more
 
 one_same : (c : Context) (params : List Param) (index : ℕ) (o : Option Actual) (rest : List Passing)
-    (before : List Binding) (p : Parts) → Known c o
-    → bindings.bound_params params (passed_actual c index o ++ rest) before p.own p.memory
+    (before : List Binding) (p : ExecState) → Known c o
+    → bindings.bound_params params (passed_actual c index o ++ rest) before p.local p.memory
     ≡ own.binds (own.named_in_call c o) (slice_get params index) index before p
-    (λ more. bindings.bound_params params rest more p.own p.memory)
+    (λ more. bindings.bound_params params rest more p.local p.memory)
 one_same c params index None rest before p known = refl
 one_same c params index (Some a) rest before p known =
-    ap (λ z. bindings.bound_params params (with_index index z ++ rest) before p.own p.memory)
+    ap (λ z. bindings.bound_params params (with_index index z ++ rest) before p.local p.memory)
     (actual_passed c a known)
     ∙ passing_same params index known.named rest before p
     ∙ ap (λ z. own.binds (option_and_then own.if_passable z) (slice_get params index) index before p
-    (λ more. bindings.bound_params params rest more p.own p.memory)) (sym known.names)
+    (λ more. bindings.bound_params params rest more p.local p.memory)) (sym known.names)
 
-binds_same : (o : Option Named) (param : Option Param) (index : ℕ) (before : List Binding) (p : Parts)
+binds_same : (o : Option Named) (param : Option Param) (index : ℕ) (before : List Binding) (p : ExecState)
     (f g : List Binding → Result (List Binding) ℕ) → ((more : List Binding) → f more ≡ g more)
     → own.binds o param index before p f ≡ own.binds o param index before p g
 binds_same None param index before p f g h = h before
@@ -269,19 +269,19 @@ binds_same (Some x) param index before p f g h =
     (λ b. h (set_at before index b))
 
 all_same : (c : Context) (actuals : List Actual) (params : List Param) (index : ℕ)
-    (formals : List Formal) (before : List Binding) (p : Parts)
+    (formals : List Formal) (before : List Binding) (p : ExecState)
     → AllByRecursion (IsNamedActual c) actuals
-    → bindings.bound_params params (passings_from c actuals index formals) before p.own p.memory
+    → bindings.bound_params params (passings_from c actuals index formals) before p.local p.memory
     ≡ own.bindings_from params c actuals index (map (λ f. f.name) formals) before p
 all_same c actuals params index [] before p h = refl
 all_same c actuals params index (f ∷ fs) before p h =
     let found = found_same c f.name actuals h in
     ap (λ o. bindings.bound_params params
-    (passed_actual c index o ++ passings_from c actuals (suc index) fs) before p.own p.memory) found.0
+    (passed_actual c index o ++ passings_from c actuals (suc index) fs) before p.local p.memory) found.0
     ∙ one_same c params index (own.actual_for f.name actuals) (passings_from c actuals (suc index) fs)
     before p found.1
     ∙ binds_same (own.named_in_call c (own.actual_for f.name actuals)) (slice_get params index) index before p
-    (λ more. bindings.bound_params params (passings_from c actuals (suc index) fs) more p.own p.memory)
+    (λ more. bindings.bound_params params (passings_from c actuals (suc index) fs) more p.local p.memory)
     (λ more. own.bindings_from params c actuals (suc index) (map (λ f. f.name) fs) more p)
     (λ more. all_same c actuals params (suc index) fs more p h)
 
@@ -499,14 +499,14 @@ call_same code.Cc e = (how_called.Cc, record { no_jump = refl; is = refl; made =
 call_same _ e = absurd (false≢true e)
 
 -- what passings bind is what is bound
-abbrev Binds : List Passing → (List Param → Parts → Result (List Binding) ℕ) → Activation → World → Type 0
+abbrev Binds : List Passing → (List Param → ExecState → Result (List Binding) ℕ) → Activation → World → Type 0
 Binds passings bind a w =
     (params : List Param)
-    → bindings.bindings_of params passings (own_of a.running) w.memory
-    ≡ bind params (parts_of a.running w.memory w.timers w.counters)
+    → bindings.bindings_of params passings (local_of a.running) w.memory
+    ≡ bind params (exec_state_of a.running w.memory w.timers w.counters)
 
 block_entered : (h : Option Head) (id : BlockId) (instance : Option ℕ) (passings : List Passing)
-    (bind : List Param → Parts → Result (List Binding) ℕ) (next : ℕ) (a : Activation) (w : World)
+    (bind : List Param → ExecState → Result (List Binding) ℕ) (next : ℕ) (a : Activation) (w : World)
     → Binds passings bind a w
     → machine.block_called h id instance passings next a w ≡ own.enters_block h id instance bind next a w
 unfolding entering.call
@@ -517,7 +517,7 @@ block_entered (Some h) id instance passings bind next a w same =
     (same h.params)
 
 system_entered : (o : Option (List Param)) (n : ℕ) (passings : List Passing)
-    (bind : List Param → Parts → Result (List Binding) ℕ) (next : ℕ) (a : Activation) (w : World)
+    (bind : List Param → ExecState → Result (List Binding) ℕ) (next : ℕ) (a : Activation) (w : World)
     → Binds passings bind a w
     → machine.system_called o n passings next a w ≡ own.enters_system o n bind next a w
 unfolding system.system_call
@@ -528,7 +528,7 @@ system_entered (Some params) n passings bind next a w same =
     (same params)
 
 called_same : (program : Code) (id : BlockId) (instance : Option ℕ) (passings : List Passing)
-    (bind : List Param → Parts → Result (List Binding) ℕ) (next : ℕ) (a : Activation) (w : World)
+    (bind : List Param → ExecState → Result (List Binding) ℕ) (next : ℕ) (a : Activation) (w : World)
     → Binds passings bind a w
     → machine.called program id instance passings next a w
     ≡ (if is_system_function id.kind
@@ -540,8 +540,8 @@ called_same program id instance passings bind next a w same =
     (block_entered (program.head id) id instance passings bind next a w same)
 
 all_bound : (c : Context) (actuals : List Actual) (formals : List Formal) (these : List (List ℕ))
-    (params : List Param) (p : Parts) → AllByRecursion (IsNamedActual c) actuals → names formals ≡ these
-    → bindings.bindings_of params (passings_from c actuals 0 formals) p.own p.memory
+    (params : List Param) (p : ExecState) → AllByRecursion (IsNamedActual c) actuals → names formals ≡ these
+    → bindings.bindings_of params (passings_from c actuals 0 formals) p.local p.memory
     ≡ own.bindings_of c actuals these params p
 unfolding bindings.bindings_of
 all_bound c actuals formals these params p h e =
@@ -551,7 +551,7 @@ all_bound c actuals formals these params p h e =
 pub calls_act : CallsAct
 unfolding instruction
 calls_act c body n s v name db id instance callee is o e names known actuals program next a w =
-    ap (λ i. performed program i next a w)
+    ap (λ i. step_of program i next a w)
     (ap (instr_by c body n s) same.no_jump ∙ ap (resolved_instr c s) e
     ∙ ap (view_instr c s v) same.is ∙ ap (call_instr c s how) viewed
     ∙ ap (λ z. Calls how id instance (passings_to c s z)) (ap (callee_of c) o ∙ known))
@@ -561,7 +561,7 @@ calls_act c body n s v name db id instance callee is o e names known actuals pro
     (called_same program id instance (passings_to c s (Some callee))
     (own.bindings_of c s.actuals (own.parameter_names c id)) next a w
     (λ params. all_bound c s.actuals (in_order (block_at c.blocks callee.place) callee.formals)
-    (own.parameter_names c id) params (parts_of a.running w.memory w.timers w.counters) actuals
+    (own.parameter_names c id) params (exec_state_of a.running w.memory w.timers w.counters) actuals
     (names_same c name db id instance callee names known)))
   where
     how : CallOperation

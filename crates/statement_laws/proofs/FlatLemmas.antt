@@ -16,7 +16,7 @@ use Rattle.frames.specs.declared.bindings.Binding.TheVariants as binding
 use Rattle.flat_code.specs.Kinds.{condition_of, flag_of}
 use Rattle.flat_code.specs.declared.operands.Operand.{Operand}
 use Rattle.flat_code.specs.declared.operands.Operand.TheVariants as flat
-use Rattle.machine.specs.Parts.{Parts, then_ok}
+use Rattle.machine.specs.ExecState.{ExecState, then_ok}
 use Rattle.machine.specs.Places as places
 use Rattle.machine.specs.Values as values
 use Rattle.machine.specs.declared.places.Access.{Access}
@@ -64,20 +64,20 @@ flat_of _ = flat.Nothing
 
 -- ---- places
 
-found_same : (access : Access) (spot : Spot) (p : Parts)
-    → places.located access (flat_spot spot) p.own p.memory ≡ own.place_of_spot access spot p
+found_same : (access : Access) (spot : Spot) (p : ExecState)
+    → places.located access (flat_spot spot) p.local p.memory ≡ own.place_of_spot access spot p
 unfolding places.located own.place_of_spot
 found_same access (named.Fixed a w byte bit) p = fixed_same access a w byte bit p
 found_same access (named.ByMemory a w from byte) p =
-    then_same (places.pointer from byte widths.Dword p.own p.memory)
+    then_same (places.pointer from byte widths.Dword p.local p.memory)
     (own.stored_number from byte widths.Dword p)
-    (λ n. places.by_pointer access a w n p.own) (λ n. own.place_of_pointer access a w n p)
+    (λ n. places.by_pointer access a w n p.local) (λ n. own.place_of_pointer access a w n p)
     (standing_same from byte widths.Dword p) (λ n. pointed_same access a w n p)
 found_same access (named.ByRegister None w register count) p =
-    crossing_same access w (places.address register p.own)
-    (places.moved (places.address register p.own) count) p
+    crossing_same access w (places.address register p.local)
+    (places.moved (places.address register p.local) count) p
 found_same access (named.ByRegister (Some a) w register count) p =
-    pointed_same access a w (places.moved (places.address register p.own) count) p
+    pointed_same access a w (places.moved (places.address register p.local) count) p
 
 bound_same : (o : Option Binding) → places.of_binding o ≡ own.place_of_binding o
 bound_same None = refl
@@ -89,12 +89,12 @@ abbrev pub is_open : Named → Bool
 is_open (named.PlaceIn block w byte bit) = false
 is_open _ = true
 
-pub place_same : (access : Access) (x : Named) (p : Parts) → is_open x ≡ true
-    → places.located access (flat_of x) p.own p.memory ≡ own.place_of_operand access x p
+pub place_same : (access : Access) (x : Named) (p : ExecState) → is_open x ≡ true
+    → places.located access (flat_of x) p.local p.memory ≡ own.place_of_operand access x p
 unfolding places.located own.place_of_operand
 place_same access (named.Place spot) p e = found_same access spot p
 place_same access (named.PlaceIn block w byte bit) p e = absurd (false≢true e)
-place_same access (named.Parameter index w) p e = bound_same (slice_get p.own.inner.bindings index)
+place_same access (named.Parameter index w) p e = bound_same (slice_get p.local.inner.bindings index)
 place_same access (named.Timer (named.Written n)) p e = refl
 place_same access (named.Timer (named.InWord from byte)) p e = refl
 place_same access (named.Counter (named.Written n)) p e = refl
@@ -109,8 +109,8 @@ place_same access _ p e = refl
 
 -- ---- numbers
 
-bound_number_same : (o : Option Binding) (p : Parts)
-    → values.number_of_binding o p.own p.memory ≡ own.number_of_binding o p
+bound_number_same : (o : Option Binding) (p : ExecState)
+    → values.number_of_binding o p.local p.memory ≡ own.number_of_binding o p
 bound_number_same None p = refl
 bound_number_same (Some (binding.Bound place w frame)) p =
     read_same (record { place = place; width = w; frame = frame }) p
@@ -123,32 +123,32 @@ is_read (named.PlaceIn block w byte bit) = false
 is_read (named.Opened what) = false
 is_read _ = true
 
-spot_read : (spot : Spot) (p : Parts)
-    → then_ok (places.located Reading (flat_spot spot) p.own p.memory)
-    (λ b. places.read b p.own p.memory)
+spot_read : (spot : Spot) (p : ExecState)
+    → then_ok (places.located Reading (flat_spot spot) p.local p.memory)
+    (λ b. places.read b p.local p.memory)
     ≡ then_ok (own.place_of_spot Reading spot p) (λ b. own.number_or_error Reading b p)
 spot_read spot p =
-    then_same (places.located Reading (flat_spot spot) p.own p.memory) (own.place_of_spot Reading spot p)
-    (λ b. places.read b p.own p.memory) (λ b. own.number_or_error Reading b p)
+    then_same (places.located Reading (flat_spot spot) p.local p.memory) (own.place_of_spot Reading spot p)
+    (λ b. places.read b p.local p.memory) (λ b. own.number_or_error Reading b p)
     (found_same Reading spot p) (λ b. read_same b p)
 
-spot_number : (spot : Spot) (p : Parts)
-    → values.number (flat_spot spot) p.own p.memory
-    ≡ then_ok (places.located Reading (flat_spot spot) p.own p.memory)
-    (λ b. places.read b p.own p.memory)
+spot_number : (spot : Spot) (p : ExecState)
+    → values.number (flat_spot spot) p.local p.memory
+    ≡ then_ok (places.located Reading (flat_spot spot) p.local p.memory)
+    (λ b. places.read b p.local p.memory)
 unfolding values.number
 spot_number (named.Fixed a w byte bit) p = refl
 spot_number (named.ByMemory a w from byte) p = refl
 spot_number (named.ByRegister a w register count) p = refl
 
-pub number_same : (x : Named) (p : Parts) → is_read x ≡ true
-    → values.number (flat_of x) p.own p.memory ≡ own.number_of_operand x p
+pub number_same : (x : Named) (p : ExecState) → is_read x ≡ true
+    → values.number (flat_of x) p.local p.memory ≡ own.number_of_operand x p
 unfolding values.number own.number_of_operand places.located
 number_same (named.Place spot) p e = spot_number spot p ∙ spot_read spot p
 number_same (named.PlaceIn block w byte bit) p e = absurd (false≢true e)
 number_same (named.Opened what) p e = absurd (false≢true e)
 number_same (named.Parameter index w) p e =
-    bound_number_same (slice_get p.own.inner.bindings index) p
+    bound_number_same (slice_get p.local.inner.bindings index) p
 number_same (named.Timer (named.Written n)) p e = refl
 number_same (named.Timer (named.InWord from byte)) p e = refl
 number_same (named.Counter (named.Written n)) p e = refl
@@ -159,8 +159,8 @@ number_same _ p e = refl
 
 -- ---- timers and counters
 
-pub numbered_same : (kind : ℕ) (n : Number) (p : Parts)
-    → values.number_named (flat_number kind n) p.own p.memory ≡ own.number_of_item n p
+pub numbered_same : (kind : ℕ) (n : Number) (p : ExecState)
+    → values.number_named (flat_number kind n) p.local p.memory ≡ own.number_of_item n p
 unfolding values.number_named own.number_of_item
 numbered_same kind (named.Written n) p = refl
 numbered_same kind (named.InWord from byte) p = standing_same from byte widths.Word p
@@ -193,28 +193,28 @@ one_same (Ok n) = refl
 one_same (Err code) = refl
 
 -- of a timer or a counter by its number in a word
-in_word : {A B : Type 0} (code : ℕ) (read : A → B) (all : List A) (from : Area) (byte : ℕ) (p : Parts)
-    → then_ok (places.pointer from byte widths.Word p.own p.memory)
+in_word : {A B : Type 0} (code : ℕ) (read : A → B) (all : List A) (from : Area) (byte : ℕ) (p : ExecState)
+    → then_ok (places.pointer from byte widths.Word p.local p.memory)
     (λ n. values.faulty code (reading read all n))
     ≡ then_ok (own.stored_number from byte widths.Word p)
     (λ n. ok_or (option_map read (slice_get all n)) code)
 in_word code read all from byte p =
-    then_same (places.pointer from byte widths.Word p.own p.memory)
+    then_same (places.pointer from byte widths.Word p.local p.memory)
     (own.stored_number from byte widths.Word p)
     (λ n. values.faulty code (reading read all n))
     (λ n. ok_or (option_map read (slice_get all n)) code)
     (standing_same from byte widths.Word p) (λ n. faulty_same code read all n)
 
-spot_tested : (spot : Spot) (p : Parts)
-    → values.tested (flat_spot spot) p.own p.memory p.timers p.counters
-    ≡ values.is_one (values.number (flat_spot spot) p.own p.memory)
+spot_tested : (spot : Spot) (p : ExecState)
+    → values.tested (flat_spot spot) p.local p.memory p.timers p.counters
+    ≡ values.is_one (values.number (flat_spot spot) p.local p.memory)
 unfolding values.tested
 spot_tested (named.Fixed a w byte bit) p = refl
 spot_tested (named.ByMemory a w from byte) p = refl
 spot_tested (named.ByRegister a w register count) p = refl
 
-pub tested_same : (x : Named) (p : Parts) → is_read x ≡ true
-    → values.tested (flat_of x) p.own p.memory p.timers p.counters ≡ own.bit_of_operand x p
+pub tested_same : (x : Named) (p : ExecState) → is_read x ≡ true
+    → values.tested (flat_of x) p.local p.memory p.timers p.counters ≡ own.bit_of_operand x p
 unfolding values.tested values.bit_of_numbered own.bit_of_operand own.number_of_item
 tested_same (named.Place spot) p e =
     spot_tested spot p
@@ -228,7 +228,7 @@ tested_same (named.Timer (named.InWord from byte)) p e =
     in_word 0x26 (λ (timer : Timer). timer.output) p.timers from byte p
 tested_same (named.Counter (named.Written n)) p e = faulty_same 0x27 is_counting p.counters n
 tested_same (named.Counter (named.InWord from byte)) p e = in_word 0x27 is_counting p.counters from byte p
-tested_same (named.Condition f) p e = ap (λ g. Ok (flag_value g p.own.regs.status)) (flag_same f)
+tested_same (named.Condition f) p e = ap (λ g. Ok (flag_value g p.local.regs.status)) (flag_same f)
 tested_same (named.DataBlock di (named.Written n)) p e =
     ap values.is_one (number_same (named.DataBlock di (named.Written n)) p e)
     ∙ one_same (own.number_of_operand (named.DataBlock di (named.Written n)) p)
@@ -237,16 +237,16 @@ tested_same (named.DataBlock di (named.InWord from byte)) p e =
     ∙ one_same (own.number_of_operand (named.DataBlock di (named.InWord from byte)) p)
 tested_same x p e = ap values.is_one (number_same x p e) ∙ one_same (own.number_of_operand x p)
 
-spot_loaded : (spot : Spot) (p : Parts)
-    → values.loaded (flat_spot spot) p.own p.memory p.timers p.counters
-    ≡ values.number (flat_spot spot) p.own p.memory
+spot_loaded : (spot : Spot) (p : ExecState)
+    → values.loaded (flat_spot spot) p.local p.memory p.timers p.counters
+    ≡ values.number (flat_spot spot) p.local p.memory
 unfolding values.loaded
 spot_loaded (named.Fixed a w byte bit) p = refl
 spot_loaded (named.ByMemory a w from byte) p = refl
 spot_loaded (named.ByRegister a w register count) p = refl
 
-pub loaded_same : (x : Named) (p : Parts) → is_read x ≡ true
-    → values.loaded (flat_of x) p.own p.memory p.timers p.counters ≡ own.number_to_load x p
+pub loaded_same : (x : Named) (p : ExecState) → is_read x ≡ true
+    → values.loaded (flat_of x) p.local p.memory p.timers p.counters ≡ own.number_to_load x p
 unfolding values.loaded values.value_of_numbered own.number_to_load own.number_of_item
 loaded_same (named.Place spot) p e = spot_loaded spot p ∙ number_same (named.Place spot) p e
 loaded_same (named.PlaceIn block w byte bit) p e = absurd (false≢true e)
@@ -264,8 +264,8 @@ loaded_same (named.DataBlock di (named.InWord from byte)) p e =
     number_same (named.DataBlock di (named.InWord from byte)) p e
 loaded_same x p e = number_same x p e
 
-pub bcd_same : (x : Named) (p : Parts)
-    → values.bcd_loaded (flat_of x) p.own p.memory p.timers p.counters ≡ own.bcd_to_load x p
+pub bcd_same : (x : Named) (p : ExecState)
+    → values.bcd_loaded (flat_of x) p.local p.memory p.timers p.counters ≡ own.bcd_to_load x p
 unfolding values.bcd_loaded values.bcd_of_numbered own.bcd_to_load own.number_of_item
 bcd_same (named.Timer (named.Written n)) p = faulty_same 0x26 time_left p.timers n
 bcd_same (named.Timer (named.InWord from byte)) p = in_word 0x26 time_left p.timers from byte p

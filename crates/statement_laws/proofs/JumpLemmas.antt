@@ -17,7 +17,7 @@ use Rattle.stl_types.specs.Lists.{has_label}
 use Rattle.stl_codegen.specs.Instruction.{counted, end_instr, instr_by, instruction, jump_instr, numbers_from, resolved_instr, target_in, target_of, view_instr}
 use Rattle.stl_codegen.specs.Operations.{call_of, end_of, jump_of}
 use Rattle.machine.specs.Jumps as machine
-use Rattle.machine.specs.Statement.{Went, is_ended, performed, returned}
+use Rattle.machine.specs.Statement.{Went, is_ended, step_of, returned}
 use Rattle.statement_laws.specs.Jumps as own
 use Rattle.statement_laws.specs.Laws.{EndsAct, JumpListsAct, PlainJumpsAct, is_end, is_plain_jump}
 
@@ -94,7 +94,7 @@ jump_same _ e = absurd (false≢true e)
 pub plain_jumps_act : PlainJumpsAct
 unfolding instruction
 plain_jumps_act c body n s name is o program next a w =
-    ap (λ i. performed program i next a w)
+    ap (λ i. step_of program i next a w)
     (ap (instr_by c body n s) same.is
     ∙ same.goes n (target_of body s.operand)
     ∙ ap (Jumps how) (target_same body s.operand name o))
@@ -137,7 +137,7 @@ numbers_same m (suc count) (suc k) otherwise =
 pub jump_lists_act : JumpListsAct
 unfolding instruction machine.listed
 jump_lists_act c body n s name is o program next a w =
-    ap (λ i. performed program i next a w)
+    ap (λ i. step_of program i next a w)
     (ap (λ m. instr_by c body n s (jump_of m)) is
     ∙ ap (jump_instr jump.Jl n) (target_same body s.operand name o))
     ∙ ap (λ at. Went (own.standing_at at a.running.regs a) w)
@@ -166,7 +166,7 @@ end_same _ e = absurd (false≢true e)
 pub ends_act : EndsAct
 unfolding instruction
 ends_act c body n s v is e program next a w =
-    ap (λ i. performed program i next a w)
+    ap (λ i. step_of program i next a w)
     (ap (instr_by c body n s) same.no_jump ∙ ap (resolved_instr c s) e
     ∙ ap (view_instr c s v) same.no_call ∙ ap (end_instr s v) same.is)
     ∙ ap (λ (b : Bool). if b then returned (program.head a.running.frame.block) a w

@@ -10,13 +10,13 @@ use Rattle.plc_mem.specs.Areas.{Areas}
 use Rattle.plc_mem.specs.Number.{number_at}
 use Rattle.plc_mem.specs.Writing as memory
 use Rattle.frames.specs.Locals.{LocalData, local_number, local_written}
-use Rattle.machine.specs.Does.{on_scene}
-use Rattle.machine.specs.Parts.{Parts, Scene, then_ok}
+use Rattle.machine.specs.Effect.{on_local_memory}
+use Rattle.machine.specs.ExecState.{ExecState, LocalMemory, then_ok}
 use Rattle.machine.specs.Places as places
 use Rattle.machine.specs.Values as values
 use Rattle.machine.specs.declared.places.Access.{Access}
 use Rattle.machine.specs.declared.places.Access.TheVariants.{Reading, Writing}
-use Rattle.machine.specs.declared.places.Bound.{Bound}
+use Rattle.machine.specs.declared.places.Location.{Location}
 use Rattle.statement_laws.specs.Reading as own
 
 -- what comes of two equal results by equal steps
@@ -33,11 +33,11 @@ open_same : (o : Option ℕ) (e byte bit : ℕ) (w : Width)
 open_same None e byte bit w = refl
 open_same (Some number) e byte bit w = refl
 
-pub lying_same : (a : Area) (byte bit : ℕ) (w : Width) (p : Parts)
-    → places.in_area a byte bit w p.own ≡ own.place_in_area a byte bit w p
+pub lying_same : (a : Area) (byte bit : ℕ) (w : Width) (p : ExecState)
+    → places.in_area a byte bit w p.local ≡ own.place_in_area a byte bit w p
 unfolding places.in_area own.place_in_area
-lying_same area.Db byte bit w p = open_same p.own.inner.db 0x32 byte bit w
-lying_same area.Di byte bit w p = open_same p.own.inner.di 0x33 byte bit w
+lying_same area.Db byte bit w p = open_same p.local.inner.db 0x32 byte bit w
+lying_same area.Di byte bit w p = open_same p.local.inner.di 0x33 byte bit w
 lying_same area.L byte bit w p = refl
 lying_same area.I byte bit w p = refl
 lying_same area.Q byte bit w p = refl
@@ -51,30 +51,30 @@ absent_same Reading _ = refl
 absent_same Writing area.P = refl
 absent_same Writing _ = refl
 
-pub of_area : (a : Area) (b : Bound) (p : Parts)
-    → (if places.is_local a then local_number p.own.locals b.frame b.place.byte b.place.bit b.width
+pub of_area : (a : Area) (b : Location) (p : ExecState)
+    → (if places.is_local a then local_number p.local.locals b.frame b.place.byte b.place.bit b.width
     else number_at p.memory b.place b.width)
     ≡ own.number_at_bound a b p
 of_area area.L b p = refl
 of_area _ b p = refl
 
-pub there_same : (access : Access) (b : Bound) (p : Parts)
-    → ok_or (places.number_in b p.own.locals p.memory) (places.absent access b.place.area)
+pub there_same : (access : Access) (b : Location) (p : ExecState)
+    → ok_or (places.number_in b p.local.locals p.memory) (places.absent access b.place.area)
     ≡ own.number_or_error access b p
 there_same access b p =
     ap₂ ok_or (of_area b.place.area b p) (absent_same access b.place.area)
 
-pub read_same : (b : Bound) (p : Parts)
-    → places.read b p.own p.memory ≡ own.number_or_error Reading b p
+pub read_same : (b : Location) (p : ExecState)
+    → places.read b p.local p.memory ≡ own.number_or_error Reading b p
 unfolding places.read
 read_same b p = there_same Reading b p
 
-pub standing_same : (from : Area) (byte : ℕ) (w : Width) (p : Parts)
-    → places.pointer from byte w p.own p.memory ≡ own.stored_number from byte w p
+pub standing_same : (from : Area) (byte : ℕ) (w : Width) (p : ExecState)
+    → places.pointer from byte w p.local p.memory ≡ own.stored_number from byte w p
 unfolding places.direct
 standing_same from byte w p =
-    then_same (places.in_area from byte 0 w p.own) (own.place_in_area from byte 0 w p)
-    (λ b. places.read b p.own p.memory) (λ b. own.number_or_error Reading b p)
+    then_same (places.in_area from byte 0 w p.local) (own.place_in_area from byte 0 w p)
+    (λ b. places.read b p.local p.memory) (λ b. own.number_or_error Reading b p)
     (lying_same from byte 0 w p) (λ b. read_same b p)
 
 -- ---- pointers
@@ -97,12 +97,12 @@ if_same b b' x x' y y' e f g =
     ap (λ z. if z then x else y) e ∙ ap (λ z. if b' then z else y) f
     ∙ ap (λ z. if b' then x' else z) g
 
-pub pointed_same : (access : Access) (a : Area) (w : Width) (n : ℕ) (p : Parts)
-    → places.by_pointer access a w n p.own ≡ own.place_of_pointer access a w n p
+pub pointed_same : (access : Access) (a : Area) (w : Width) (n : ℕ) (p : ExecState)
+    → places.by_pointer access a w n p.local ≡ own.place_of_pointer access a w n p
 unfolding places.by_pointer own.place_of_pointer
 pointed_same access a w n p =
     if_same (places.is_aligned w n) (own.is_whole w n)
-    (places.at_pointer a w n p.own) (own.place_in_area a (own.byte_of n) (own.bit_of n) w p)
+    (places.at_pointer a w n p.local) (own.place_in_area a (own.byte_of n) (own.bit_of n) w p)
     (Err (places.error_of access 0x28)) (Err (own.bad_bit access))
     (whole_same w n) (lying_same a (own.byte_of n) (own.bit_of n) w p) (ap Err (bit_error access))
 
@@ -112,28 +112,28 @@ peripheral_same area.P widths.Bit = refl
 peripheral_same area.P _ = refl
 peripheral_same _ w = refl
 
-pub fixed_same : (access : Access) (a : Area) (w : Width) (byte bit : ℕ) (p : Parts)
-    → places.placed access a byte bit w p.own ≡ own.fixed_place access a w byte bit p
+pub fixed_same : (access : Access) (a : Area) (w : Width) (byte bit : ℕ) (p : ExecState)
+    → places.placed access a byte bit w p.local ≡ own.fixed_place access a w byte bit p
 unfolding own.fixed_place
 fixed_same access a w byte bit p =
     if_same (places.is_peripheral a && places.is_bit w) (own.is_peripheral_bit a w)
     (Err (places.error_of access 0x24)) (Err (own.bad_area access))
-    (places.in_area a byte bit w p.own) (own.place_in_area a byte bit w p)
+    (places.in_area a byte bit w p.local) (own.place_in_area a byte bit w p)
     (peripheral_same a w) (ap Err (area_error access)) (lying_same a byte bit w p)
 
-named_same : (access : Access) (o : Option Place) (w : Width) (n : ℕ) (p : Parts)
-    → places.in_named access o w n p.own
+named_same : (access : Access) (o : Option Place) (w : Width) (n : ℕ) (p : ExecState)
+    → places.in_named access o w n p.local
     ≡ own.in_area_of access (option_map (λ place. place.area) o) w n p
 named_same access None w n p = ap Err (area_error access)
 named_same access (Some place) w n p =
     fixed_same access place.area w (own.byte_of n) (own.bit_of n) p
 
-pub crossing_same : (access : Access) (w : Width) (address n : ℕ) (p : Parts)
-    → places.by_crossing access w address n p.own ≡ own.place_of_crossing access w address n p
+pub crossing_same : (access : Access) (w : Width) (address n : ℕ) (p : ExecState)
+    → places.by_crossing access w address n p.local ≡ own.place_of_crossing access w address n p
 unfolding places.by_crossing own.place_of_crossing
 crossing_same access w address n p =
     if_same (places.is_aligned w n) (own.is_whole w n)
-    (places.in_named access (place_of address) w n p.own)
+    (places.in_named access (place_of address) w n p.local)
     (own.in_area_of access (own.area_of address) w n p)
     (Err (places.error_of access 0x28)) (Err (own.bad_bit access))
     (whole_same w n) (named_same access (place_of address) w n p) (ap Err (bit_error access))
@@ -141,42 +141,42 @@ crossing_same access w address n p =
 -- ---- writing
 
 -- a scene by its parts
-abbrev pub with_scene : Parts → Scene → Parts
-with_scene p c = record p { own = c.own; memory = c.memory }
+abbrev pub with_scene : ExecState → LocalMemory → ExecState
+with_scene p c = record p { local = c.local; memory = c.memory }
 
-written_in_same : (a : Area) (b : Bound) (n : ℕ) (p : Parts)
+written_in_same : (a : Area) (b : Location) (n : ℕ) (p : ExecState)
     → option_map (with_scene p)
     (if places.is_local a
-    then option_map (λ l. record { own = values.with_locals p.own l; memory = p.memory })
-    (local_written p.own.locals b.frame b.place.byte b.place.bit b.width n)
-    else option_map (λ m. record { own = p.own; memory = m })
+    then option_map (λ l. record { local = values.with_locals p.local l; memory = p.memory })
+    (local_written p.local.locals b.frame b.place.byte b.place.bit b.width n)
+    else option_map (λ m. record { local = p.local; memory = m })
     (memory.written p.memory b.place b.width n))
     ≡ own.written_in a b n p
-written_in_same area.L b n p = by (local_written p.own.locals b.frame b.place.byte b.place.bit b.width n)
+written_in_same area.L b n p = by (local_written p.local.locals b.frame b.place.byte b.place.bit b.width n)
   where
     by : (o : Option LocalData)
         → option_map (with_scene p)
-        (option_map (λ l. record { own = values.with_locals p.own l; memory = p.memory }) o)
+        (option_map (λ l. record { local = values.with_locals p.local l; memory = p.memory }) o)
         ≡ option_map (λ l. own.with_locals l p) o
     by None = refl
     by (Some l) = refl
 written_in_same _ b n p = by (memory.written p.memory b.place b.width n)
   where
     by : (o : Option Areas)
-        → option_map (with_scene p) (option_map (λ m. record { own = p.own; memory = m }) o)
+        → option_map (with_scene p) (option_map (λ m. record { local = p.local; memory = m }) o)
         ≡ option_map (λ m. own.with_memory m p) o
     by None = refl
     by (Some m) = refl
 
-pub written_same : (b : Bound) (n : ℕ) (p : Parts)
-    → on_scene p (values.write b n p.own p.memory) ≡ own.with_number_at b n p
+pub written_same : (b : Location) (n : ℕ) (p : ExecState)
+    → on_local_memory p (values.write b n p.local p.memory) ≡ own.with_number_at b n p
 unfolding values.write own.with_number_at
 written_same b n p =
-    by (values.stored_at b n p.own p.memory)
+    by (values.stored_at b n p.local p.memory)
     ∙ ap₂ ok_or (written_in_same b.place.area b n p) (absent_same Writing b.place.area)
   where
-    by : (o : Option Scene)
-        → on_scene p (ok_or o (places.absent Writing b.place.area))
+    by : (o : Option LocalMemory)
+        → on_local_memory p (ok_or o (places.absent Writing b.place.area))
         ≡ ok_or (option_map (with_scene p) o) (places.absent Writing b.place.area)
     by None = refl
     by (Some c) = refl

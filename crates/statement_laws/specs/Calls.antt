@@ -27,12 +27,12 @@ use Rattle.flat_code.specs.Records.{section_out}
 use Rattle.flat_code.specs.declared.programs.Param.{Param}
 use Rattle.machine.specs.Code.{Code, Head}
 use Rattle.machine.specs.Entering.{called_with}
-use Rattle.machine.specs.Parts.{Parts, parts_of, then_ok}
+use Rattle.machine.specs.ExecState.{ExecState, exec_state_of, then_ok}
 use Rattle.machine.specs.Statement.{Step, Stuck, Went, World, after_call, after_system_call, callee_of}
 use Rattle.machine.specs.SystemCalls.{given_now, system_function}
 use Rattle.machine.specs.declared.places.Access.{Access}
 use Rattle.machine.specs.declared.places.Access.TheVariants.{Reading, Writing}
-use Rattle.machine.specs.declared.places.Bound.{Bound}
+use Rattle.machine.specs.declared.places.Location.{Location}
 use Rattle.statement_laws.specs.Effects.{is_loaded}
 use Rattle.statement_laws.specs.Jumps.{rlo_set, standing_at}
 use Rattle.statement_laws.specs.Named.{Named}
@@ -116,11 +116,11 @@ named_in_call c (Some a) = option_and_then if_passable (named_by c a.value)
 -- ---- what it stands for
 
 -- a place is bound where it exists: 22 and 23, in the peripheral area 42 and 43
-abbrev pub binding_if : Access → Bound → Option ℕ → Result Binding ℕ
+abbrev pub binding_if : Access → Location → Option ℕ → Result Binding ℕ
 binding_if access b None = Err (no_place access b.place.area)
 binding_if access b (Some n) = Ok (binding.Bound b.place b.width b.frame)
 
-abbrev pub binding_at : Access → Bound → Parts → Result Binding ℕ
+abbrev pub binding_at : Access → Location → ExecState → Result Binding ℕ
 binding_at access b p = binding_if access b (number_at_bound b.place.area b p)
 
 -- what a parameter of the caller stands for
@@ -130,13 +130,13 @@ binding_passed_on None = Err 0
 
 -- a constant by its value, a place as it is at the call; a place in a data block that is named opens
 -- nothing: 3A where the block isn't loaded
-unfoldable pub binding_of : Access → Named → Parts → Result Binding ℕ
+unfoldable pub binding_of : Access → Named → ExecState → Result Binding ℕ
 binding_of access (named.Constant value) p = Ok (binding.Constant (bits value))
 binding_of access (named.Place (named.Fixed a w byte bit)) p =
     then_ok (fixed_place access a w byte bit p) (λ b. binding_at access b p)
 binding_of access (named.PlaceIn block w byte bit) p =
     if is_loaded block p then binding_at access (at area.Db block byte bit w 0) p else Err 0x3A
-binding_of access (named.Parameter index w) p = binding_passed_on (slice_get p.own.inner.bindings index)
+binding_of access (named.Parameter index w) p = binding_passed_on (slice_get p.local.inner.bindings index)
 binding_of access _ p = Err 0
 
 -- of the sections OUT alone is tested as written
@@ -144,13 +144,13 @@ abbrev pub access_of : Param → Access
 access_of param = if nat_eq param.section section_out then Writing else Reading
 
 -- for the parameter of an index; no block has another one
-abbrev pub binding_for : Option Param → Named → Parts → Result Binding ℕ
+abbrev pub binding_for : Option Param → Named → ExecState → Result Binding ℕ
 binding_for (Some param) x p = binding_of (access_of param) x p
 binding_for None x p = Err 0
 
 -- the parameter of an index stands for what is passed, if something is
 abbrev pub binds :
-    Option Named → Option Param → (index : ℕ) → List Binding → Parts
+    Option Named → Option Param → (index : ℕ) → List Binding → ExecState
     → (List Binding → Result (List Binding) ℕ) → Result (List Binding) ℕ
 binds None param index bindings p next = next bindings
 binds (Some x) param index bindings p next =
@@ -158,7 +158,7 @@ binds (Some x) param index bindings p next =
 
 -- one after the other, by the order of the parameters; the first that can't be bound is the error
 abbrev pub bindings_from :
-    List Param → Context → List Actual → (index : ℕ) → List (List ℕ) → List Binding → Parts
+    List Param → Context → List Actual → (index : ℕ) → List (List ℕ) → List Binding → ExecState
     → Result (List Binding) ℕ
 bindings_from params c actuals index [] bindings p = Ok bindings
 bindings_from params c actuals index (name ∷ names) bindings p =
@@ -167,7 +167,7 @@ bindings_from params c actuals index (name ∷ names) bindings p =
 
 -- before, none is supplied
 abbrev pub bindings_of :
-    Context → List Actual → List (List ℕ) → List Param → Parts → Result (List Binding) ℕ
+    Context → List Actual → List (List ℕ) → List Param → ExecState → Result (List Binding) ℕ
 bindings_of c actuals names params p =
     bindings_from params c actuals 0 names (replicate (length params) binding.Unsupplied) p
 
@@ -185,29 +185,29 @@ at_call r =
 
 -- a block of the program is entered, by its head
 abbrev pub enters_block :
-    Option Head → BlockId → Option ℕ → (List Param → Parts → Result (List Binding) ℕ) → (next : ℕ)
+    Option Head → BlockId → Option ℕ → (List Param → ExecState → Result (List Binding) ℕ) → (next : ℕ)
     → Activation → World → Step
 enters_block None id instance bind next a w = Stuck
 enters_block (Some h) id instance bind next a w =
     after_call
-    (called_with (bind h.params (parts_of a.running w.memory w.timers w.counters))
+    (called_with (bind h.params (exec_state_of a.running w.memory w.timers w.counters))
     (callee_of id instance h) next a w.memory)
     next a w
 
 -- a system function is called, by its parameters
 abbrev pub enters_system :
-    Option (List Param) → (number : ℕ) → (List Param → Parts → Result (List Binding) ℕ) → (next : ℕ)
+    Option (List Param) → (number : ℕ) → (List Param → ExecState → Result (List Binding) ℕ) → (next : ℕ)
     → Activation → World → Step
 enters_system None number bind next a w = Stuck
 enters_system (Some params) number bind next a w =
     after_system_call
-    (then_ok (bind params (parts_of a.running w.memory w.timers w.counters))
+    (then_ok (bind params (exec_state_of a.running w.memory w.timers w.counters))
     (λ bindings. Ok (given_now params bindings a w.memory)))
     number next a
 
 -- a call that is made; CC with RLO 0 sets the four bits and RLO 1, and goes on
 abbrev pub calls :
-    Mnemonic → BlockId → Option ℕ → (List Param → Parts → Result (List Binding) ℕ) → Code → (next : ℕ)
+    Mnemonic → BlockId → Option ℕ → (List Param → ExecState → Result (List Binding) ℕ) → Code → (next : ℕ)
     → Activation → World → Step
 calls m id instance bind program next a w =
     if is_made m a.running.regs.status.rlo

@@ -40,9 +40,9 @@ use Rattle.frames.specs.declared.relay.Relay.{Relay}
 use Rattle.stl_ast.specs.declared.literals.Literal.TheVariants as literal
 use Rattle.stl_ast.specs.declared.mnemonics.Mnemonic.{Mnemonic}
 use Rattle.stl_ast.specs.declared.mnemonics.Mnemonic.TheVariants as code
-use Rattle.machine.specs.Parts.{Parts, then_ok}
+use Rattle.machine.specs.ExecState.{ExecState, then_ok}
 use Rattle.machine.specs.declared.places.Access.TheVariants.{Writing}
-use Rattle.machine.specs.declared.places.Bound.{Bound}
+use Rattle.machine.specs.declared.places.Location.{Location}
 use Rattle.statement_laws.specs.Named.{Named, Number, OpenBlock}
 use Rattle.statement_laws.specs.Named as named
 use Rattle.statement_laws.specs.Reading.{bcd_to_load, bit_of_operand, bits, number_of_item, number_of_operand, number_or_error, number_to_load, place_of_operand, with_number_at}
@@ -50,77 +50,77 @@ use Rattle.statement_laws.specs.Reading.{bcd_to_load, bit_of_operand, bits, numb
 -- ---- registers, and what the block holds
 
 -- the registers, and others in their place
-abbrev pub regs : Parts → Regs
-regs p = p.own.regs
+abbrev pub regs : ExecState → Regs
+regs p = p.local.regs
 
-abbrev pub with_regs : Regs → Parts → Parts
-with_regs r p = record p { own = record p.own { regs = r } }
+abbrev pub with_regs : Regs → ExecState → ExecState
+with_regs r p = record p { local = record p.local { regs = r } }
 
 -- an instruction on the registers alone
-abbrev pub on_regs : (Regs → Regs) → Parts → Result Parts ℕ
+abbrev pub on_regs : (Regs → Regs) → ExecState → Result ExecState ℕ
 on_regs f p = Ok (with_regs (f (regs p)) p)
 
 -- with other data blocks, brackets or another relay
-abbrev pub with_inner : FrameData → Parts → Parts
-with_inner i p = record p { own = record p.own { inner = i } }
+abbrev pub with_inner : FrameData → ExecState → ExecState
+with_inner i p = record p { local = record p.local { inner = i } }
 
 -- RLO, and the RLO that the relay lets through: 0 while it is closed
-abbrev pub rlo : Parts → Bool
+abbrev pub rlo : ExecState → Bool
 rlo p = (regs p).status.rlo
 
-abbrev pub is_relay_closed : Parts → Bool
-is_relay_closed p = is_closed p.own.inner.relay
+abbrev pub is_relay_closed : ExecState → Bool
+is_relay_closed p = is_closed p.local.inner.relay
 
-abbrev pub flow : Parts → Bool
+abbrev pub flow : ExecState → Bool
 flow p = rlo p && not (is_relay_closed p)
 
 -- the low word of accumulator 1
-abbrev pub low_word : Parts → ℕ
+abbrev pub low_word : ExecState → ℕ
 low_word p = (regs p).a1 % 2 ^ 16
 
 -- ---- bit logic
 
 -- A AN O ON X XN: the bit is read and checked
-abbrev pub checks : Check → Named → Parts → Result Parts ℕ
+abbrev pub checks : Check → Named → ExecState → Result ExecState ℕ
 checks with x p = then_ok (bit_of_operand x p) (λ b. on_regs (checked with b) p)
 
 -- O without operand: AND before OR
-abbrev pub checks_or : Named → Parts → Result Parts ℕ
+abbrev pub checks_or : Named → ExecState → Result ExecState ℕ
 checks_or named.Nothing p = on_regs or_bare p
 checks_or x p = checks check.O x p
 
 -- A( to XN(: at most seven are open
-abbrev pub with_brackets : List Bracket → Parts → Parts
-with_brackets brackets p = with_inner (record p.own.inner { brackets = brackets }) p
+abbrev pub with_brackets : List Bracket → ExecState → ExecState
+with_brackets brackets p = with_inner (record p.local.inner { brackets = brackets }) p
 
-abbrev pub opens_bracket : Check → Parts → Result Parts ℕ
+abbrev pub opens_bracket : Check → ExecState → Result ExecState ℕ
 opens_bracket with p =
-    if length p.own.inner.brackets == 7 then Err 0
-    else on_regs begun (with_brackets (entry_of with (regs p) ∷ p.own.inner.brackets) p)
+    if length p.local.inner.brackets == 7 then Err 0
+    else on_regs begun (with_brackets (entry_of with (regs p) ∷ p.local.inner.brackets) p)
 
 -- ): the last one
-abbrev pub closes_one : List Bracket → Parts → Result Parts ℕ
+abbrev pub closes_one : List Bracket → ExecState → Result ExecState ℕ
 closes_one [] p = Err 0
 closes_one (bracket ∷ rest) p = on_regs (closed bracket) (with_brackets rest p)
 
-abbrev pub closes_bracket : Parts → Result Parts ℕ
-closes_bracket p = closes_one p.own.inner.brackets p
+abbrev pub closes_bracket : ExecState → Result ExecState ℕ
+closes_bracket p = closes_one p.local.inner.brackets p
 
 -- a bit as a number
 abbrev pub number_of_bit : Bool → ℕ
 number_of_bit b = if b then 1 else 0
 
 -- a bit is written, and the registers become these
-abbrev pub writes_bit : Bound → Bool → Regs → Parts → Result Parts ℕ
+abbrev pub writes_bit : Location → Bool → Regs → ExecState → Result ExecState ℕ
 writes_bit b value r p =
     then_ok (with_number_at b (number_of_bit value) p) (λ q. Ok (with_regs r q))
 
 -- the bit at a place that is to be written
-abbrev pub bit_there : Bound → Parts → Result Bool ℕ
+abbrev pub bit_there : Location → ExecState → Result Bool ℕ
 bit_there b p = then_ok (number_or_error Writing b p) (λ n. Ok (n == 1))
 
 -- =: the RLO that the relay lets through
-abbrev pub assigns : Named → Parts → Result Parts ℕ
+abbrev pub assigns : Named → ExecState → Result ExecState ℕ
 assigns x p =
     then_ok (place_of_operand Writing x p) (λ b. writes_bit b (flow p) (stored (flow p) (regs p)) p)
 
@@ -129,7 +129,7 @@ abbrev pub bit_after : (flow value before : Bool) → Bool
 bit_after true value before = value
 bit_after false value before = before
 
-abbrev pub sets_bit : (value : Bool) → Named → Parts → Result Parts ℕ
+abbrev pub sets_bit : (value : Bool) → Named → ExecState → Result ExecState ℕ
 sets_bit value x p =
     then_ok (place_of_operand Writing x p) (λ b.
     then_ok (bit_there b p) (λ before.
@@ -137,34 +137,34 @@ sets_bit value x p =
     (stored (bit_after (flow p) value before) (regs p)) p))
 
 -- FP and FN: the operand is the edge bit, which gets the RLO
-abbrev pub tells_edge : (rising : Bool) → Named → Parts → Result Parts ℕ
+abbrev pub tells_edge : (rising : Bool) → Named → ExecState → Result ExecState ℕ
 tells_edge rising x p =
     then_ok (place_of_operand Writing x p) (λ b.
     then_ok (bit_there b p) (λ before. writes_bit b (rlo p) (edged rising before (regs p)) p))
 
 -- ---- the master control relay
 
-abbrev pub with_relay : Relay → Parts → Parts
-with_relay r p = with_inner (record p.own.inner { relay = r }) p
+abbrev pub with_relay : Relay → ExecState → ExecState
+with_relay r p = with_inner (record p.local.inner { relay = r }) p
 
 -- MCRA, MCRD
-abbrev pub activates : Bool → Parts → Result Parts ℕ
-activates active p = Ok (with_relay (record p.own.inner.relay { active = active }) p)
+abbrev pub activates : Bool → ExecState → Result ExecState ℕ
+activates active p = Ok (with_relay (record p.local.inner.relay { active = active }) p)
 
 -- MCR(: at most eight zones are open
-abbrev pub opens_zone : Parts → Result Parts ℕ
+abbrev pub opens_zone : ExecState → Result ExecState ℕ
 opens_zone p =
-    if length p.own.inner.relay.zones == 8 then Err 0
-    else on_regs (stored true) (with_relay (zone_opened (rlo p) p.own.inner.relay) p)
+    if length p.local.inner.relay.zones == 8 then Err 0
+    else on_regs (stored true) (with_relay (zone_opened (rlo p) p.local.inner.relay) p)
 
 -- )MCR
-abbrev pub ends_zone_of : List Bool → Parts → Result Parts ℕ
+abbrev pub ends_zone_of : List Bool → ExecState → Result ExecState ℕ
 ends_zone_of [] p = Err 0
 ends_zone_of (value ∷ around) p =
-    on_regs (stored true) (with_relay (zone_ended p.own.inner.relay) p)
+    on_regs (stored true) (with_relay (zone_ended p.local.inner.relay) p)
 
-abbrev pub ends_zone : Parts → Result Parts ℕ
-ends_zone p = ends_zone_of p.own.inner.relay.zones p
+abbrev pub ends_zone : ExecState → Result ExecState ℕ
+ends_zone p = ends_zone_of p.local.inner.relay.zones p
 
 -- ---- loading and transferring
 
@@ -182,62 +182,62 @@ open_length None m = 0
 open_length (Some n) m = length_of (map.get m.data_blocks n)
 
 -- the number and the length of the open data blocks
-abbrev pub open_fact : OpenBlock → Parts → ℕ
-open_fact named.DbLength p = open_length p.own.inner.db p.memory
-open_fact named.DbNumber p = unwrap_or p.own.inner.db 0
-open_fact named.DiLength p = open_length p.own.inner.di p.memory
-open_fact named.DiNumber p = unwrap_or p.own.inner.di 0
+abbrev pub open_fact : OpenBlock → ExecState → ℕ
+open_fact named.DbLength p = open_length p.local.inner.db p.memory
+open_fact named.DbNumber p = unwrap_or p.local.inner.db 0
+open_fact named.DiLength p = open_length p.local.inner.di p.memory
+open_fact named.DiNumber p = unwrap_or p.local.inner.di 0
 
 -- L
-abbrev pub loads : Named → Parts → Result Parts ℕ
+abbrev pub loads : Named → ExecState → Result ExecState ℕ
 loads named.StatusWord p = on_regs (with_loaded (number_of (shown (regs p).status))) p
 loads (named.Opened what) p = on_regs (with_loaded (open_fact what p)) p
 loads x p = then_ok (number_to_load x p) (λ n. on_regs (with_loaded n) p)
 
 -- LC
-abbrev pub loads_bcd : Named → Parts → Result Parts ℕ
+abbrev pub loads_bcd : Named → ExecState → Result ExecState ℕ
 loads_bcd x p = then_ok (bcd_to_load x p) (λ n. on_regs (with_loaded n) p)
 
 -- the lowest bits of a number go to a place, as many as it has
-abbrev pub puts : ℕ → Named → Parts → Result Parts ℕ
+abbrev pub puts : ℕ → Named → ExecState → Result ExecState ℕ
 puts n x p = then_ok (place_of_operand Writing x p) (λ b. with_number_at b (n % 2 ^ bit_count b.width) p)
 
 -- T: accumulator 1, and 0 while the relay is closed
-abbrev pub transfers : Named → Parts → Result Parts ℕ
+abbrev pub transfers : Named → ExecState → Result ExecState ℕ
 transfers named.StatusWord p = on_regs (λ r. record r { status = status_of r.a1 }) p
 transfers x p = puts (if is_relay_closed p then 0 else (regs p).a1) x p
 
 -- ---- address registers
 
-abbrev pub with_ar1 : ℕ → Parts → Parts
+abbrev pub with_ar1 : ℕ → ExecState → ExecState
 with_ar1 n p = with_regs (record (regs p) { ar1 = n }) p
 
-abbrev pub with_ar2 : ℕ → Parts → Parts
+abbrev pub with_ar2 : ℕ → ExecState → ExecState
 with_ar2 n p = with_regs (record (regs p) { ar2 = n }) p
 
 -- LAR1 and LAR2: accumulator 1, or the operand
-abbrev pub address_to_load : Named → Parts → Result ℕ ℕ
+abbrev pub address_to_load : Named → ExecState → Result ℕ ℕ
 address_to_load named.Nothing p = Ok (regs p).a1
 address_to_load x p = number_of_operand x p
 
-abbrev pub loads_ar1 : Named → Parts → Result Parts ℕ
+abbrev pub loads_ar1 : Named → ExecState → Result ExecState ℕ
 loads_ar1 named.SecondRegister p = Ok (with_ar1 (regs p).ar2 p)
 loads_ar1 x p = then_ok (address_to_load x p) (λ n. Ok (with_ar1 n p))
 
-abbrev pub loads_ar2 : Named → Parts → Result Parts ℕ
+abbrev pub loads_ar2 : Named → ExecState → Result ExecState ℕ
 loads_ar2 x p = then_ok (address_to_load x p) (λ n. Ok (with_ar2 n p))
 
 -- TAR1 and TAR2: to accumulator 1, whose contents go to accumulator 2, or to the operand
-abbrev pub puts_address : ℕ → Named → Parts → Result Parts ℕ
+abbrev pub puts_address : ℕ → Named → ExecState → Result ExecState ℕ
 puts_address n named.Nothing p = on_regs (with_loaded n) p
 puts_address n x p = puts n x p
 
-abbrev pub stores_ar1 : Named → Parts → Result Parts ℕ
+abbrev pub stores_ar1 : Named → ExecState → Result ExecState ℕ
 stores_ar1 named.SecondRegister p = Ok (with_ar2 (regs p).ar1 p)
 stores_ar1 x p = puts_address (regs p).ar1 x p
 
 -- CAR
-abbrev pub exchanges_addresses : Parts → Result Parts ℕ
+abbrev pub exchanges_addresses : ExecState → Result ExecState ℕ
 exchanges_addresses p = on_regs (λ r. record r { ar1 = r.ar2; ar2 = r.ar1 }) p
 
 -- an integer of 16 bits in 24 bits
@@ -245,7 +245,7 @@ abbrev pub widened_to_24 : (word : ℕ) → ℕ
 widened_to_24 word = if nat_lt word (2 ^ 15) then word else word + (2 ^ 24 - 2 ^ 16)
 
 -- +AR1 and +AR2: the constant, or the integer in the low word of accumulator 1
-abbrev pub added_bits : Named → Parts → ℕ
+abbrev pub added_bits : Named → ExecState → ℕ
 added_bits (named.Pointer value) p = value
 added_bits x p = widened_to_24 (low_word p)
 
@@ -256,7 +256,7 @@ address_after address count = accumulators.with_low 24 address ((address + count
 -- ---- number instructions
 
 -- an instruction that may find no BCD number: 21
-abbrev pub on_bcd : (Regs → Option Regs) → Parts → Result Parts ℕ
+abbrev pub on_bcd : (Regs → Option Regs) → ExecState → Result ExecState ℕ
 on_bcd f p = then_ok (ok_or (f (regs p)) 0x21) (λ r. Ok (with_regs r p))
 
 -- the constant of an operand in so many bits, where there is one
@@ -275,7 +275,7 @@ adds_by (named.Constant (literal.Long value)) =
 adds_by x = accumulators.increased 16 (count 16 x)
 
 -- so many places: the constant, or the lowest byte of accumulator 2
-abbrev pub places : Named → Parts → ℕ
+abbrev pub places : Named → ExecState → ℕ
 places x p = unwrap_or (constant 8 x) ((regs p).a2 % 2 ^ 8)
 
 -- ---- timers and counters
@@ -291,41 +291,41 @@ or_error code (Err NoNumber) = Err code
 or_error code (Err BadBcd) = Err 0x21
 
 -- an instruction on a timer, on a counter; it may find a digit above 9
-abbrev pub on_timer : (timers.Timer → Option timers.Timer) → Number → Parts → Result Parts ℕ
+abbrev pub on_timer : (timers.Timer → Option timers.Timer) → Number → ExecState → Result ExecState ℕ
 on_timer f n p =
     then_ok (number_of_item n p) (λ which.
     then_ok (or_error 0x26 (change f p.timers which)) (λ all.
     on_regs string_ended (record p { timers = all })))
 
-abbrev pub on_counter : (counters.Counter → Option counters.Counter) → Number → Parts → Result Parts ℕ
+abbrev pub on_counter : (counters.Counter → Option counters.Counter) → Number → ExecState → Result ExecState ℕ
 on_counter f n p =
     then_ok (number_of_item n p) (λ which.
     then_ok (or_error 0x27 (change f p.counters which)) (λ all.
     on_regs string_ended (record p { counters = all })))
 
 -- SP SE SD SS SF
-abbrev pub starts : TimerKind → Named → Parts → Result Parts ℕ
+abbrev pub starts : TimerKind → Named → ExecState → Result ExecState ℕ
 starts how (named.Timer n) p = on_timer (timers.started how (rlo p) (low_word p)) n p
 starts how x p = Err 0
 
 -- CU, CD
-abbrev pub counts : (Bool → counters.Counter → counters.Counter) → Named → Parts → Result Parts ℕ
+abbrev pub counts : (Bool → counters.Counter → counters.Counter) → Named → ExecState → Result ExecState ℕ
 counts f (named.Counter n) p = on_counter (λ k. Some (f (rlo p) k)) n p
 counts f x p = Err 0
 
 -- S of a counter, and of a bit
-abbrev pub sets : Named → Parts → Result Parts ℕ
+abbrev pub sets : Named → ExecState → Result ExecState ℕ
 sets (named.Counter n) p = on_counter (counters.set_to (rlo p) (low_word p)) n p
 sets x p = sets_bit true x p
 
 -- R of a timer, of a counter, and of a bit
-abbrev pub resets : Named → Parts → Result Parts ℕ
+abbrev pub resets : Named → ExecState → Result ExecState ℕ
 resets (named.Timer n) p = on_timer (λ t. Some (timers.reset_timer (rlo p) t)) n p
 resets (named.Counter n) p = on_counter (λ k. Some (counters.reset_counter (rlo p) k)) n p
 resets x p = sets_bit false x p
 
 -- FR of a timer and of a counter
-abbrev pub frees : Named → Parts → Result Parts ℕ
+abbrev pub frees : Named → ExecState → Result ExecState ℕ
 frees (named.Timer n) p = on_timer (λ t. Some (timers.freed_timer (rlo p) t)) n p
 frees (named.Counter n) p = on_counter (λ k. Some (counters.freed_counter (rlo p) k)) n p
 frees x p = Err 0
@@ -333,33 +333,33 @@ frees x p = Err 0
 -- ---- data blocks
 
 -- a data block is loaded
-abbrev pub is_loaded : ℕ → Parts → Bool
+abbrev pub is_loaded : ℕ → ExecState → Bool
 is_loaded n p = is_some (map.get p.memory.data_blocks n)
 
 -- it is open in the DI register, or in the DB register
-abbrev pub with_open : (di : Bool) → ℕ → Parts → Parts
-with_open true n p = with_inner (record p.own.inner { di = Some n }) p
-with_open false n p = with_inner (record p.own.inner { db = Some n }) p
+abbrev pub with_open : (di : Bool) → ℕ → ExecState → ExecState
+with_open true n p = with_inner (record p.local.inner { di = Some n }) p
+with_open false n p = with_inner (record p.local.inner { db = Some n }) p
 
 -- it is opened; 3A where it isn't loaded
-abbrev pub opens_number : (di : Bool) → ℕ → Parts → Result Parts ℕ
+abbrev pub opens_number : (di : Bool) → ℕ → ExecState → Result ExecState ℕ
 opens_number di n p = if is_loaded n p then Ok (with_open di n p) else Err 0x3A
 
 -- OPN
-abbrev pub opens : Named → Parts → Result Parts ℕ
+abbrev pub opens : Named → ExecState → Result ExecState ℕ
 opens (named.DataBlock di n) p = then_ok (number_of_item n p) (λ which. opens_number di which p)
 opens x p = Err 0
 
 -- CDB
-abbrev pub exchanges_blocks : Parts → Result Parts ℕ
+abbrev pub exchanges_blocks : ExecState → Result ExecState ℕ
 exchanges_blocks p =
-    Ok (with_inner (record p.own.inner { db = p.own.inner.di; di = p.own.inner.db }) p)
+    Ok (with_inner (record p.local.inner { db = p.local.inner.di; di = p.local.inner.db }) p)
 
 -- ---- the instructions
 
 -- what an instruction does with what its operand names; the empty statement, jumps, calls and the ends
 -- of a block aren't here
-unfoldable pub action : Mnemonic → Named → Parts → Result Parts ℕ
+unfoldable pub action : Mnemonic → Named → ExecState → Result ExecState ℕ
 action code.Nop x p = Ok p
 action code.Bld x p = Ok p
 action code.A x p = checks check.A x p
@@ -466,7 +466,7 @@ action _ x p = Err 0
 
 -- a place in a data block that the statement opens first: 3A where that isn't loaded, and else the place
 -- in the DB register
-unfoldable pub effect : Mnemonic → Named → Parts → Result Parts ℕ
+unfoldable pub effect : Mnemonic → Named → ExecState → Result ExecState ℕ
 effect m (named.PlaceIn block width byte bit) p =
     then_ok (opens_number false block p) (λ q.
     action m (named.Place (named.Fixed area.Db width byte bit)) q)

@@ -28,8 +28,8 @@ use Rattle.flat_code.specs.Instr.{Instr, Returns}
 use Rattle.flat_code.specs.declared.operations.EndOperation.TheVariants as end_word
 use Rattle.frames.specs.declared.Activation.{Activation}
 use Rattle.machine.specs.Code.{Code}
-use Rattle.machine.specs.Parts.{Parts, parts_of}
-use Rattle.machine.specs.Statement.{World, performed, went_on}
+use Rattle.machine.specs.ExecState.{ExecState, exec_state_of}
+use Rattle.machine.specs.Statement.{World, step_of, continue_with}
 use Rattle.statement_laws.specs.Calls.{bindings_of, calls, parameter_names}
 use Rattle.statement_laws.specs.Named.{Named}
 use Rattle.statement_laws.specs.Named as named
@@ -39,11 +39,11 @@ use Rattle.statement_laws.specs.Jumps.{count_of, ends_block, jumps, jumps_by_lis
 
 -- in every program, activation and memory the instruction does this and goes on to the next statement;
 -- after an error it does nothing but that
-abbrev pub Acts : Instr → (Parts → Result Parts ℕ) → Type 0
+abbrev pub Acts : Instr → (ExecState → Result ExecState ℕ) → Type 0
 Acts i f =
     (program : Code) (next : ℕ) (a : Activation) (w : World)
-    → performed program i next a w
-    ≡ went_on (f (parts_of a.running w.memory w.timers w.counters)) next a
+    → step_of program i next a w
+    ≡ continue_with (f (exec_state_of a.running w.memory w.timers w.counters)) next a
 
 -- each statement with such a mnemonic whose operand its instruction takes, and names this, does what the
 -- mnemonic says with it
@@ -247,7 +247,7 @@ PlainJumpsAct =
     (c : Context) (body : List Statement) (n : ℕ) (s : Statement) (name : List ℕ)
     → is_plain_jump s.code ≡ true → s.operand ≡ operand.Label name
     → (program : Code) (next : ℕ) (a : Activation) (w : World)
-    → performed program (instruction c body n s) next a w
+    → step_of program (instruction c body n s) next a w
     ≡ jumps s.code (number_of_label name body) next a w
 
 -- JL, the statement of number n, goes by the jumps behind it up to its label
@@ -256,7 +256,7 @@ JumpListsAct =
     (c : Context) (body : List Statement) (n : ℕ) (s : Statement) (name : List ℕ)
     → s.code ≡ code.Jl → s.operand ≡ operand.Label name
     → (program : Code) (next : ℕ) (a : Activation) (w : World)
-    → performed program (instruction c body n s) next a w
+    → step_of program (instruction c body n s) next a w
     ≡ jumps_by_list n (number_of_label name body) a w
 
 -- ---- ends of a block
@@ -273,7 +273,7 @@ EndsAct =
     (c : Context) (body : List Statement) (n : ℕ) (s : Statement) (v : ResolvedOperand)
     → is_end s.code ≡ true → resolved c s ≡ Some v
     → (program : Code) (next : ℕ) (a : Activation) (w : World)
-    → performed program (instruction c body n s) next a w ≡ ends_block s.code program next a w
+    → step_of program (instruction c body n s) next a w ≡ ends_block s.code program next a w
 
 -- ---- what is named
 
@@ -348,7 +348,7 @@ CallsAct =
     → callee_of c (operand.Called name db) ≡ Some callee
     → AllByRecursion (IsNamedActual c) s.actuals
     → (program : Code) (next : ℕ) (a : Activation) (w : World)
-    → performed program (instruction c body n s) next a w
+    → step_of program (instruction c body n s) next a w
     ≡ calls s.code id instance (bindings_of c s.actuals (parameter_names c id)) program next a w
 
 -- ---- numbers of statements

@@ -21,10 +21,10 @@ use Rattle.frames.specs.declared.bindings.Binding.{Binding}
 use Rattle.frames.specs.declared.bindings.Binding.TheVariants as binding
 use Rattle.stl_ast.specs.declared.literals.Literal.{Literal}
 use Rattle.stl_ast.specs.declared.literals.Literal.TheVariants as literal
-use Rattle.machine.specs.Parts.{Parts, then_ok}
+use Rattle.machine.specs.ExecState.{ExecState, then_ok}
 use Rattle.machine.specs.declared.places.Access.{Access}
 use Rattle.machine.specs.declared.places.Access.TheVariants.{Reading, Writing}
-use Rattle.machine.specs.declared.places.Bound.{Bound}
+use Rattle.machine.specs.declared.places.Location.{Location}
 use Rattle.statement_laws.specs.Named.{Named, Number, Spot}
 use Rattle.statement_laws.specs.Named as named
 
@@ -63,7 +63,7 @@ bits (literal.Bytes bytes) = number_behind 0 bytes
 -- ---- places
 
 -- a place of an area; `frame` says whose local bytes are meant, the number which data block
-abbrev pub at : Area → (number byte bit : ℕ) → Width → (frame : ℕ) → Bound
+abbrev pub at : Area → (number byte bit : ℕ) → Width → (frame : ℕ) → Location
 at a number byte bit width frame = record {
   place = record { area = a; number = number; byte = byte; bit = bit };
   width = width;
@@ -71,16 +71,16 @@ at a number byte bit width frame = record {
 }
 
 -- a place in the data block that a register has open; the error of a register with none
-abbrev pub place_in_open_block : Option ℕ → (error byte bit : ℕ) → Width → Result Bound ℕ
+abbrev pub place_in_open_block : Option ℕ → (error byte bit : ℕ) → Width → Result Location ℕ
 place_in_open_block None error byte bit width = Err error
 place_in_open_block (Some number) error byte bit width = Ok (at area.Db number byte bit width 0)
 
 -- where a byte or bit of an area lies: in DB and DI in the open data block, where none is open 32 and
 -- 33; in L in the local bytes of the innermost frame; else in memory
-unfoldable pub place_in_area : Area → (byte bit : ℕ) → Width → Parts → Result Bound ℕ
-place_in_area area.Db byte bit width p = place_in_open_block p.own.inner.db 0x32 byte bit width
-place_in_area area.Di byte bit width p = place_in_open_block p.own.inner.di 0x33 byte bit width
-place_in_area area.L byte bit width p = Ok (at area.L 0 byte bit width (length p.own.locals.starts - 1))
+unfoldable pub place_in_area : Area → (byte bit : ℕ) → Width → ExecState → Result Location ℕ
+place_in_area area.Db byte bit width p = place_in_open_block p.local.inner.db 0x32 byte bit width
+place_in_area area.Di byte bit width p = place_in_open_block p.local.inner.di 0x33 byte bit width
+place_in_area area.L byte bit width p = Ok (at area.L 0 byte bit width (length p.local.locals.starts - 1))
 place_in_area a byte bit width p = Ok (at a 0 byte bit width 0)
 
 -- no such place: 22 where it is read, 23 where it is written; in the peripheral area 42 and 43
@@ -91,18 +91,18 @@ no_place Writing area.P = 0x43
 no_place Writing _ = 0x23
 
 -- the number at a place, in local bytes or in memory
-abbrev pub number_at_bound : Area → Bound → Parts → Option ℕ
-number_at_bound area.L b p = local_number p.own.locals b.frame b.place.byte b.place.bit b.width
+abbrev pub number_at_bound : Area → Location → ExecState → Option ℕ
+number_at_bound area.L b p = local_number p.local.locals b.frame b.place.byte b.place.bit b.width
 number_at_bound _ b p = number_at p.memory b.place b.width
 
 -- the same, or the error of a place that isn't there
-abbrev pub number_or_error : Access → Bound → Parts → Result ℕ ℕ
+abbrev pub number_or_error : Access → Location → ExecState → Result ℕ ℕ
 number_or_error access b p = ok_or (number_at_bound b.place.area b p) (no_place access b.place.area)
 
 -- ---- pointers
 
 -- what stands in a word or a double word at a byte of an area
-abbrev pub stored_number : Area → (byte : ℕ) → Width → Parts → Result ℕ ℕ
+abbrev pub stored_number : Area → (byte : ℕ) → Width → ExecState → Result ℕ ℕ
 stored_number from byte width p =
     then_ok (place_in_area from byte 0 width p) (λ b. number_or_error Reading b p)
 
@@ -129,7 +129,7 @@ bad_area Reading = 0x24
 bad_area Writing = 0x25
 
 -- where a pointer leads in an area
-unfoldable pub place_of_pointer : Access → Area → Width → (pointer : ℕ) → Parts → Result Bound ℕ
+unfoldable pub place_of_pointer : Access → Area → Width → (pointer : ℕ) → ExecState → Result Location ℕ
 place_of_pointer access a width pointer p =
     if is_whole width pointer then place_in_area a (byte_of pointer) (bit_of pointer) width p
     else Err (bad_bit access)
@@ -140,7 +140,7 @@ is_peripheral_bit area.P widths.Bit = true
 is_peripheral_bit a width = false
 
 -- a place of an area that the operand or a pointer names
-unfoldable pub fixed_place : Access → Area → Width → (byte bit : ℕ) → Parts → Result Bound ℕ
+unfoldable pub fixed_place : Access → Area → Width → (byte bit : ℕ) → ExecState → Result Location ℕ
 fixed_place access a width byte bit p =
     if is_peripheral_bit a width then Err (bad_area access) else place_in_area a byte bit width p
 
@@ -149,19 +149,19 @@ abbrev pub area_of : (address : ℕ) → Option Area
 area_of address = option_map (λ place. place.area) (place_of address)
 
 -- where a pointer leads in the area of an address (manual: area-crossing)
-abbrev pub in_area_of : Access → Option Area → Width → (pointer : ℕ) → Parts → Result Bound ℕ
+abbrev pub in_area_of : Access → Option Area → Width → (pointer : ℕ) → ExecState → Result Location ℕ
 in_area_of access None width pointer p = Err (bad_area access)
 in_area_of access (Some a) width pointer p =
     fixed_place access a width (byte_of pointer) (bit_of pointer) p
 
-unfoldable pub place_of_crossing : Access → Width → (address pointer : ℕ) → Parts → Result Bound ℕ
+unfoldable pub place_of_crossing : Access → Width → (address pointer : ℕ) → ExecState → Result Location ℕ
 place_of_crossing access width address pointer p =
     if is_whole width pointer then in_area_of access (area_of address) width pointer p
     else Err (bad_bit access)
 
 -- what AR1 or AR2 holds
-abbrev pub address_in : (register : ℕ) → Parts → ℕ
-address_in register p = if register == 1 then p.own.regs.ar1 else p.own.regs.ar2
+abbrev pub address_in : (register : ℕ) → ExecState → ℕ
+address_in register p = if register == 1 then p.local.regs.ar1 else p.local.regs.ar2
 
 -- an address so many bits further on, in bits 0 to 18
 abbrev pub address_moved : (address count : ℕ) → ℕ
@@ -169,7 +169,7 @@ address_moved address count = (address % 2 ^ 19 + count % 2 ^ 19) % 2 ^ 19
 
 -- ---- the place of an operand
 
-unfoldable pub place_of_spot : Access → Spot → Parts → Result Bound ℕ
+unfoldable pub place_of_spot : Access → Spot → ExecState → Result Location ℕ
 place_of_spot access (named.Fixed a width byte bit) p = fixed_place access a width byte bit p
 place_of_spot access (named.ByMemory a width from byte) p =
     then_ok (stored_number from byte widths.Dword p) (λ pointer. place_of_pointer access a width pointer p)
@@ -179,88 +179,88 @@ place_of_spot access (named.ByRegister None width register count) p =
     place_of_crossing access width (address_in register p) (address_moved (address_in register p) count) p
 
 -- the place that a parameter stands for
-abbrev pub place_of_binding : Option Binding → Result Bound ℕ
+abbrev pub place_of_binding : Option Binding → Result Location ℕ
 place_of_binding (Some (binding.Bound place width frame)) =
     Ok (record { place = place; width = width; frame = frame })
 place_of_binding _ = Err 0
 
 -- the place of what an operand names
-unfoldable pub place_of_operand : Access → Named → Parts → Result Bound ℕ
+unfoldable pub place_of_operand : Access → Named → ExecState → Result Location ℕ
 place_of_operand access (named.Place spot) p = place_of_spot access spot p
 place_of_operand access (named.Parameter index width) p =
-    place_of_binding (slice_get p.own.inner.bindings index)
+    place_of_binding (slice_get p.local.inner.bindings index)
 place_of_operand access _ p = Err 0
 
 -- ---- numbers and bits
 
 -- the number that a parameter stands for
-abbrev pub number_of_binding : Option Binding → Parts → Result ℕ ℕ
+abbrev pub number_of_binding : Option Binding → ExecState → Result ℕ ℕ
 number_of_binding (Some (binding.Bound place width frame)) p =
     number_or_error Reading (record { place = place; width = width; frame = frame }) p
 number_of_binding (Some (binding.Constant value)) p = Ok value
 number_of_binding _ p = Err 0
 
 -- the number of a timer, counter or data block
-unfoldable pub number_of_item : Number → Parts → Result ℕ ℕ
+unfoldable pub number_of_item : Number → ExecState → Result ℕ ℕ
 number_of_item (named.Written number) p = Ok number
 number_of_item (named.InWord from byte) p = stored_number from byte widths.Word p
 
 -- what is read of a timer; 26 where there is none of the number
-abbrev pub of_timer : {A : Type 0} → (Timer → A) → Number → Parts → Result A ℕ
+abbrev pub of_timer : {A : Type 0} → (Timer → A) → Number → ExecState → Result A ℕ
 of_timer read n p =
     then_ok (number_of_item n p) (λ number. ok_or (option_map read (slice_get p.timers number)) 0x26)
 
 -- and of a counter; 27
-abbrev pub of_counter : {A : Type 0} → (Counter → A) → Number → Parts → Result A ℕ
+abbrev pub of_counter : {A : Type 0} → (Counter → A) → Number → ExecState → Result A ℕ
 of_counter read n p =
     then_ok (number_of_item n p) (λ number. ok_or (option_map read (slice_get p.counters number)) 0x27)
 
 -- the number at a place or of a constant
-unfoldable pub number_of_operand : Named → Parts → Result ℕ ℕ
+unfoldable pub number_of_operand : Named → ExecState → Result ℕ ℕ
 number_of_operand (named.Place spot) p =
     then_ok (place_of_spot Reading spot p) (λ b. number_or_error Reading b p)
 number_of_operand (named.Parameter index width) p =
-    number_of_binding (slice_get p.own.inner.bindings index) p
+    number_of_binding (slice_get p.local.inner.bindings index) p
 number_of_operand (named.Constant value) p = Ok (bits value)
 number_of_operand (named.Pointer value) p = Ok value
 number_of_operand _ p = Err 0
 
 -- what L reads: of a timer the time left in units of its base, of a counter its value
-unfoldable pub number_to_load : Named → Parts → Result ℕ ℕ
+unfoldable pub number_to_load : Named → ExecState → Result ℕ ℕ
 number_to_load (named.Timer n) p = of_timer units_left n p
 number_to_load (named.Counter n) p = of_counter (λ (counter : Counter). counter.value) n p
 number_to_load x p = number_of_operand x p
 
 -- what LC reads: the same in BCD
-unfoldable pub bcd_to_load : Named → Parts → Result ℕ ℕ
+unfoldable pub bcd_to_load : Named → ExecState → Result ℕ ℕ
 bcd_to_load (named.Timer n) p = of_timer time_left n p
 bcd_to_load (named.Counter n) p = of_counter count_bcd n p
 bcd_to_load _ p = Err 0
 
 -- the bit that a bit logic instruction reads: of a timer its output, of a counter whether its value is
 -- above 0
-unfoldable pub bit_of_operand : Named → Parts → Result Bool ℕ
+unfoldable pub bit_of_operand : Named → ExecState → Result Bool ℕ
 bit_of_operand (named.Timer n) p = of_timer (λ (timer : Timer). timer.output) n p
 bit_of_operand (named.Counter n) p = of_counter is_counting n p
-bit_of_operand (named.Condition flag) p = Ok (flag_value flag p.own.regs.status)
+bit_of_operand (named.Condition flag) p = Ok (flag_value flag p.local.regs.status)
 bit_of_operand x p = then_ok (number_of_operand x p) (λ n. Ok (n == 1))
 
 -- ---- writing
 
 -- with other local bytes, with another memory
-abbrev pub with_locals : LocalData → Parts → Parts
-with_locals l p = record p { own = record p.own { locals = l } }
+abbrev pub with_locals : LocalData → ExecState → ExecState
+with_locals l p = record p { local = record p.local { locals = l } }
 
-abbrev pub with_memory : Areas → Parts → Parts
+abbrev pub with_memory : Areas → ExecState → ExecState
 with_memory m p = record p { memory = m }
 
 -- a number at a place, in local bytes or in memory; none where there is no such place
-abbrev pub written_in : Area → Bound → ℕ → Parts → Option Parts
+abbrev pub written_in : Area → Location → ℕ → ExecState → Option ExecState
 written_in area.L b n p =
     option_map (λ l. with_locals l p)
-    (local_written p.own.locals b.frame b.place.byte b.place.bit b.width n)
+    (local_written p.local.locals b.frame b.place.byte b.place.bit b.width n)
 written_in _ b n p =
     option_map (λ m. with_memory m p) (memory.written p.memory b.place b.width n)
 
-unfoldable pub with_number_at : Bound → ℕ → Parts → Result Parts ℕ
+unfoldable pub with_number_at : Location → ℕ → ExecState → Result ExecState ℕ
 with_number_at b n p = ok_or (written_in b.place.area b n p) (no_place Writing b.place.area)

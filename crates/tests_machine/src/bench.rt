@@ -11,7 +11,7 @@
 ghost use Rattle.std.specs.Prelude.{◌≡◌, ◌<◌, ◌^◌};
 ghost use Rattle.plc_base.specs.Widths.{bit_count};
 
-use frames::{Activation, Binding, Frame};
+use frames::{Activation, Binding, Bindings, Frame};
 use image_file::{Loaded, load};
 use machine::{Outcome, give_result, is_ready, statement};
 use plc_base::{Area, BlockId, BlockKind, Place, Profile, Width};
@@ -277,12 +277,14 @@ impl Bench {
             self.seen.stop = NOT_READY;
             return false;
         }
+        let mut spare = Bindings::new();
         let outcome = statement(
             &self.loaded,
             &mut self.memory,
             &mut self.timers,
             &mut self.counters,
             &mut self.activation,
+            &mut spare,
         );
         match outcome {
             Outcome::Went => true,

@@ -1,5 +1,5 @@
 use Rattle.std.proofs.Common.{◌≡◌, ◌+◌, ◌≤◌, ◌++◌, length, drop}
-use Rattle.machine.specs.Parts.{own_of}
+use Rattle.machine.specs.ExecState.{local_of}
 use Rattle.machine.specs.SystemCalls.{inputs_from, count_inputs}
 use Rattle.machine.proofs.system_calls.inputs_of.Given as goal
 
@@ -7,6 +7,6 @@ abbrev pub invariant-loop-param : goal.invariant-loop-param
 invariant-loop-param l = record {
   count : l.index ≡ l.param-index;
   few : length l.inputs + count_inputs (drop l.param-index l.params) ≤ 3;
-  rest : inputs_from l.params 0 l.bindings (own_of l.s) l.m
-      ≡ l.inputs ++ inputs_from (drop l.param-index l.params) l.param-index l.bindings (own_of l.s) l.m;
+  rest : inputs_from l.params 0 l.bindings (local_of l.s) l.m
+      ≡ l.inputs ++ inputs_from (drop l.param-index l.params) l.param-index l.bindings (local_of l.s) l.m;
 }

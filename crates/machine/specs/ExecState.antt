@@ -1,0 +1,49 @@
+-- What an instruction may see and change: never a block, nor a position in one.
+use Rattle.std.specs.Prelude.{ℕ, List, Result, Ok, Err}
+use Rattle.status_word.specs.declared.Regs.{Regs}
+use Rattle.plc_mem.specs.Areas.{Areas}
+use Rattle.timers_counters.specs.Timer.{Timer}
+use Rattle.timers_counters.specs.Counter.{Counter}
+use Rattle.frames.specs.FrameData.{FrameData, inner_of, with_inner}
+use Rattle.frames.specs.Locals.{LocalData}
+use Rattle.frames.specs.declared.running.Running.{Running}
+
+-- what an activation has of its own: registers, the innermost frame but for its block, position and
+-- length, and the local bytes of all frames
+pub record Local : Type 0 where
+  pub regs : Regs
+  pub inner : FrameData
+  pub locals : LocalData
+
+-- that, and memory
+pub record LocalMemory : Type 0 where
+  pub local : Local
+  pub memory : Areas
+
+-- that, and timers and counters
+pub record ExecState : Type 0 where
+  pub local : Local
+  pub memory : Areas
+  pub timers : List Timer
+  pub counters : List Counter
+
+-- of the running block, all but which block it is, its position and how many local bytes it has
+abbrev pub local_of : Running → Local
+local_of s = record { regs = s.regs; inner = inner_of s.frame; locals = s.locals }
+
+-- a running block and the memory that its instructions read and write
+abbrev pub local_memory_of : Running → Areas → LocalMemory
+local_memory_of s m = record { local = local_of s; memory = m }
+
+-- a running block, memory, timers and counters: all that an instruction may work on
+abbrev pub exec_state_of : Running → Areas → List Timer → List Counter → ExecState
+exec_state_of s m t n = record { local = local_of s; memory = m; timers = t; counters = n }
+
+-- the running block with these parts; its block and position stay
+abbrev pub with_local : Running → Local → Running
+with_local s o = record s { regs = o.regs; frame = with_inner s.frame o.inner; locals = o.locals }
+
+-- what comes of a first result, or its error
+abbrev pub then_ok : {A B : Type 0} → Result A ℕ → (A → Result B ℕ) → Result B ℕ
+then_ok (Ok x) f = f x
+then_ok (Err e) f = Err e

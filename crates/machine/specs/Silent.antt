@@ -1,0 +1,145 @@
+-- Statements one after another that leave the peripheral outputs as they are, and after each of which
+-- the activation goes on.
+use Rattle.std.specs.Prelude.{◌≡◌, ℕ, zero, suc, Bool, true, false, not, ◌||◌, ◌&&◌, List, [], ◌∷◌, slice_get, Option, Some, None, is_some}
+use Rattle.plc_base.specs.Kinds.{is_system_function}
+use Rattle.plc_base.specs.declared.Area.{Area}
+use Rattle.frames.specs.declared.Activation.{Activation}
+use Rattle.frames.specs.declared.frame.Frame.{Frame}
+use Rattle.frames.specs.declared.bindings.Binding.{Binding}
+use Rattle.frames.specs.declared.bindings.Binding.TheVariants as binding
+use Rattle.flat_code.specs.Instr.{Instr, Does, Jumps, Calls, Returns}
+use Rattle.flat_code.specs.Programs.{Program}
+use Rattle.flat_code.specs.declared.operands.Operand.{Operand}
+use Rattle.flat_code.specs.declared.operands.Operand.TheVariants as operand
+use Rattle.flat_code.specs.declared.operations.Operation.{Operation}
+use Rattle.flat_code.specs.declared.operations.Operation.TheVariants as operation
+use Rattle.machine.specs.Code.{Code, Fetched}
+use Rattle.machine.specs.declared.running.Silent.{Silent}
+use Rattle.machine.specs.declared.running.Silent.TheVariants as silent
+use Rattle.machine.specs.Flat.{code_of}
+use Rattle.machine.specs.Lasting.{IsReady}
+use Rattle.machine.specs.Places.{is_peripheral}
+use Rattle.machine.specs.Statement.{World, Step, Went, is_called, is_ended, statement}
+
+-- the activation goes on, with no change of the peripheral outputs
+pub record GoesSilently (step : Step) (w : World) (next : Activation) (after : World) : Type 0 where
+  pub goes : step ≡ Went next after
+  pub outputs : after.memory.peripheral_outputs ≡ w.memory.peripheral_outputs
+
+-- so many statements of this kind, one after another
+abbrev pub RunsSilently : Code → (count : ℕ) → (a b : Activation) (w after : World) → Type 0
+RunsSilently code zero a b w after = (b ≡ a) × (after ≡ w)
+RunsSilently code (suc count) a b w after =
+    (next : Activation) × (mid : World) × GoesSilently (statement code a w) w next mid
+    × RunsSilently code count next b mid after
+
+-- after however many of them `statement` may be called
+abbrev pub StaysReady : Program → Activation → World → Type 0
+StaysReady p a w =
+    (count : ℕ) (b : Activation) (after : World)
+    → RunsSilently (code_of p) count a b w after → IsReady p b
+
+-- the instructions that write to the place of their operand
+abbrev pub may_write : Operation → Bool
+may_write operation.Transfer = true
+may_write operation.Assign = true
+may_write operation.Set = true
+may_write operation.Reset = true
+may_write (operation.Edge rising) = true
+may_write (operation.Pointer what) = true
+may_write _ = false
+
+-- an area that is not the peripheral one
+abbrev pub is_inside : Area → Bool
+is_inside area = not (is_peripheral area)
+
+-- what a parameter stands for: no peripheral place; a constant has no place at all
+abbrev pub is_bound_inside : Option Binding → Bool
+is_bound_inside (Some (binding.Bound place width frame)) = is_inside place.area
+is_bound_inside _ = true
+
+-- without an area in the operand the address register names it, so nothing is sure
+abbrev pub is_named_inside : Option Area → Bool
+is_named_inside (Some area) = is_inside area
+is_named_inside None = false
+
+-- whether it is sure, by the operand and what parameters stand for, that no place in the peripheral
+-- area is written
+abbrev pub has_place_inside : Operand → List Binding → Bool
+has_place_inside (operand.Direct area width byte bit) bindings = is_inside area
+has_place_inside (operand.ByMemory area width from byte) bindings = is_inside area
+has_place_inside (operand.ByRegister area width register bits) bindings = is_named_inside area
+has_place_inside (operand.Parameter index width) bindings =
+    is_bound_inside (slice_get bindings index)
+has_place_inside _ bindings = true
+
+-- an instruction that surely leaves the peripheral outputs as they are
+abbrev pub keeps_outputs : Operation → Operand → List Binding → Bool
+keeps_outputs w o bindings = not (may_write w) || has_place_inside o bindings
+
+-- ---- before which statements it stops
+
+-- not after a synchronous error, a system function, a stop or the end of the organization block
+abbrev pub goes_on : Step → Bool
+goes_on (Went a w) = true
+goes_on _ = false
+
+-- an instruction that jumps, calls or returns
+abbrev pub moves : Operation → Bool
+moves operation.Jump = true
+moves (operation.Call how) = true
+moves (operation.End how) = true
+moves _ = false
+
+-- a frame below the innermost one, to which a return goes; the outermost block has none
+abbrev pub has_caller : List Frame → Bool
+has_caller [] = false
+has_caller (caller ∷ rest) = true
+
+-- the peripheral outputs surely stay as they are: an instruction that stays in its block and writes no
+-- peripheral place; a jump but JL; a call that is made of a function or function block; a return that
+-- is made from a block without an instance to its caller
+abbrev pub is_silent : Instr → Activation → Bool
+is_silent (Does use_db w o) a = not (moves w) && keeps_outputs w o a.running.frame.bindings
+is_silent (Jumps w target) a = true
+is_silent (Calls how block instance passings) a =
+    is_called how a.running.regs.status.rlo && not (is_system_function block.kind)
+is_silent (Returns how) a =
+    is_ended how a.running.regs.status.rlo && not (is_some a.running.frame.instance)
+    && has_caller a.below
+is_silent _ a = false
+
+-- after an instruction with which the activation goes on its block is surely the running one still
+abbrev pub stays_in_block : Instr → Bool
+stays_in_block (Calls how block instance passings) = false
+stays_in_block (Returns how) = false
+stays_in_block _ = true
+
+-- the statement has an instruction of a kind
+abbrev pub is_of : (Instr → Activation → Bool) → Option Fetched → Activation → Bool
+is_of kind None a = false
+is_of kind (Some f) a = kind f.instr a
+
+-- the next statement is of a kind
+abbrev pub is_next : (Instr → Activation → Bool) → Code → Activation → Bool
+is_next kind code a = is_of kind (code.fetch a.running.frame.block a.running.frame.at) a
+
+-- and the activation goes on after it
+abbrev pub goes_as : (Instr → Activation → Bool) → Code → Activation → World → Bool
+goes_as kind code a w = is_next kind code a && goes_on (statement code a w)
+
+-- one such statement was executed, or nothing was done, since it isn't of the kind or doesn't go on
+abbrev pub GoesOrStays : Step → (kind : Bool) → (old new : Activation) (w after : World) → Bool → Type 0
+GoesOrStays step kind old new w after true = GoesSilently step w new after
+GoesOrStays step kind old new w after false =
+    (new ≡ old) × (after ≡ w) × ((kind && goes_on step) ≡ false)
+
+-- what came of a statement that was tried: whether it was executed
+abbrev pub shows_nothing : Silent → Bool
+shows_nothing silent.Not = false
+shows_nothing _ = true
+
+-- and whether its block is surely the running one still
+abbrev pub is_still_inside : Silent → Bool
+is_still_inside silent.Inside = true
+is_still_inside _ = false
