@@ -1,5 +1,5 @@
 -- What is found of the blocks before they are laid out.
-use Rattle.std.specs.Prelude.{◌≡◌, List, [], map}
+use Rattle.std.specs.Prelude.{◌≡◌, ℕ, Bool, List, [], map}
 use Rattle.stl_ast.specs.declared.blocks.Block.{Block}
 use Rattle.block_layout.specs.declared.building.Facts.{Facts}
 use Rattle.block_layout.specs.declared.outlines.Outline.{Outline}
@@ -18,3 +18,9 @@ pub record AreFacts (y : Types) (blocks : List Block) (f : Facts) : Type 0 where
   pub in_itself : f.in_itself.items ≡ flagged (contains_itself y blocks) [] blocks
   pub local_lens : f.local_lens.items ≡ map (local_len y) blocks
   pub lengths : f.lengths.items ≡ map (length_of y blocks) blocks
+
+-- the same of one block, before which some of the blocks stand
+pub record AreFactsOf (y : Types) (blocks some : List Block) (b : Block) (in_itself : Bool) (local len : ℕ) : Type 0 where
+  pub in_itself : in_itself ≡ contains_itself y blocks some b
+  pub local : local ≡ local_len y b
+  pub len : len ≡ length_of y blocks b

@@ -1,9 +1,9 @@
 ghost use Rattle.std.specs.Prelude.{◌≡◌, ◌<◌, ◌^◌, ◌-◌, ◌||◌, List, [], ◌∷◌};
 ghost use Rattle.stl_ast.specs.declared.blocks.Block.{Block};
 ghost use Rattle.block_layout.specs.Before.{IsBefore};
+ghost use Rattle.block_layout.specs.Facts.{AreFactsOf};
 ghost use Rattle.block_layout.specs.Layouts.{is_broken};
-ghost use Rattle.block_layout.specs.Lengths.{length_of, local_len};
-ghost use Rattle.block_layout.specs.Rule43.{contains_itself};
+ghost use Rattle.block_layout.specs.Lengths.{length_of};
 ghost use Rattle.block_layout.specs.Types.{Types};
 
 use crate::rules::rule_22::is_block_twice;
@@ -74,8 +74,7 @@ pub(crate) fn is_broken(
     len: u64,
 ) -> bool
     ensures { (blocks some : List Block)
-        → in_itself ≡ contains_itself types.now blocks some block.now
-        → local ≡ local_len types.now block.now → len ≡ length_of types.now blocks block.now
+        → AreFactsOf types.now blocks some block.now in_itself local len
         → IsBefore types.now blocks some before
         → result ≡ is_broken types.now blocks some block.now }
 {

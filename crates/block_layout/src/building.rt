@@ -1,10 +1,9 @@
 ghost use Rattle.std.specs.Prelude.{◌≡◌, List, map, Some, IfOk};
 ghost use Rattle.stl_ast.specs.declared.blocks.Block.{Block};
 ghost use Rattle.block_layout.specs.Before.{IsBefore};
-ghost use Rattle.block_layout.specs.Facts.{AreFacts, outline_of};
+ghost use Rattle.block_layout.specs.Facts.{AreFacts, AreFactsOf, outline_of};
 ghost use Rattle.block_layout.specs.Layouts.{block_layout, is_broken, layouts_by};
-ghost use Rattle.block_layout.specs.Lengths.{length_of, local_len, shape_of};
-ghost use Rattle.block_layout.specs.Rule43.{contains_itself};
+ghost use Rattle.block_layout.specs.Lengths.{shape_of};
 
 use crate::blocks::BlockLayout;
 use crate::broken::{Before, is_broken, nothing_before, with_block};
@@ -55,8 +54,7 @@ fn block_layout(
     len: u64,
 ) -> BlockLayout
     ensures { (blocks some : List Block) → outline ≡ outline_of types.now block.now
-        → in_itself ≡ contains_itself types.now blocks some block.now
-        → local ≡ local_len types.now block.now → len ≡ length_of types.now blocks block.now
+        → AreFactsOf types.now blocks some block.now in_itself local len
         → IsBefore types.now blocks some before
         → result ≡ block_layout types.now blocks some block.now }
 {

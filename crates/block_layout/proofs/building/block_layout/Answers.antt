@@ -18,8 +18,8 @@ made y blocks some b i broken s o local len is_id is_broken_ is_shape is_outline
     rw is_id (rw is_broken_ (rw is_shape (rw is_outline (rw is_local (rw is_len refl)))))
 
 pub returns : goal.returns
-returns c = λ blocks some outline in_itself local len before.
+returns c = λ blocks some outline facts before.
     made c.args.types.now blocks some c.args.block.now c.id_of.result c.is_broken-broken.result c.shape_of.result c.args.outline c.args.local c.args.len
     (c.id_of.ensures ∙ ap (λ (t : Types). id_of t.symbols c.args.block.now) c.types.view_is)
-    (c.is_broken-broken.ensures blocks some in_itself local len before)
-    c.shape_of.ensures outline local len
+    (c.is_broken-broken.ensures blocks some facts before)
+    c.shape_of.ensures outline facts.local facts.len
