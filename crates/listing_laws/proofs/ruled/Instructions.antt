@@ -214,7 +214,7 @@ leap_word f m jump.Jmz n target h = jump_words_found m jump.Jmz h
 leap_word f m jump.Juo n target h = jump_words_found m jump.Juo h
 leap_word f m jump.Loop n target h = jump_words_found m jump.Loop h
 
-leap_operand : (sur : Surroundings) (k : ℕ) (f : ℕ → ℕ) (how : JumpOperation) (n target : ℕ) → (statement sur k (run_of f (leap how n target))).operand ≡ operand.Label (label_of (number_at sur.starts (f target)))
+pub leap_operand : (sur : Surroundings) (k : ℕ) (f : ℕ → ℕ) (how : JumpOperation) (n target : ℕ) → (statement sur k (run_of f (leap how n target))).operand ≡ operand.Label (label_of (number_at sur.starts (f target)))
 unfolding operand_by
 leap_operand sur k f jump.Jl n target = refl
 leap_operand sur k f _ n target = refl
