@@ -61,7 +61,7 @@ use Rattle.listing_laws.proofs.ruled.Within.{Stays, resolved_stays, stated_count
 
 -- ---- a statement that is settled
 
-labels_seen : (c : Context) (name : List ℕ) → seen c (operand.Label name) ≡ Resolved view.Label
+pub labels_seen : (c : Context) (name : List ℕ) → seen c (operand.Label name) ≡ Resolved view.Label
 unfolding seen
 labels_seen c name = refl
 

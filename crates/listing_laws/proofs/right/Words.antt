@@ -28,7 +28,7 @@ use Rattle.listing_laws.specs.Statements.{offset_in}
 use Rattle.listing_laws.proofs.right.Numbered.{landings_kept, lists_kept}
 use Rattle.listing_laws.proofs.right.Placed.{body_again, body_is, listed_as, source_block}
 
-right_from : (body : List Statement) → IsSoundBody body → AreRightFrom body [] body
+pub right_from : (body : List Statement) → IsSoundBody body → AreRightFrom body [] body
 right_from body h = right_body body (record {
   by_26 = h.by_26;
   by_29 = h.by_29;

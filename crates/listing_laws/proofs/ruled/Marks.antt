@@ -40,7 +40,7 @@ use Rattle.listing_laws.proofs.ruled.Rules.{taken_view}
 abbrev pub IsWorded : (ℕ → ℕ) → Mnemonic → Instr → Type 0
 IsWorded f m i = mnemonic_of (run_of f i).op ≡ m
 
-calls_block : (m : Mnemonic) (how : CallOperation) → call_of m ≡ Some how → is_call m ≡ true
+pub calls_block : (m : Mnemonic) (how : CallOperation) → call_of m ≡ Some how → is_call m ≡ true
 calls_block code.Call how h = refl
 calls_block code.Uc how h = refl
 calls_block code.Cc how h = refl
@@ -50,7 +50,7 @@ called_word : (c : Context) (f : ℕ → ℕ) (s : Statement) (how : CallOperati
 called_word c f s how (view.Called id instance) h e = call_words_found s.code how h
 called_word c f s how _ h e = absurd cc
 
-call_comes : (c : Context) (body : List Statement) (n : ℕ) (s : Statement) (v : ResolvedOperand) (how : CallOperation) → call_of s.code ≡ Some how → resolved c s ≡ Some v → instruction c body n s ≡ call_instr c s how v
+pub call_comes : (c : Context) (body : List Statement) (n : ℕ) (s : Statement) (v : ResolvedOperand) (how : CallOperation) → call_of s.code ≡ Some how → resolved c s ≡ Some v → instruction c body n s ≡ call_instr c s how v
 unfolding instruction
 call_comes c body n s v how h e = ap (instr_by c body n s) (no_jump s.code how h) ∙ ap (resolved_instr c s) e ∙ ap (view_instr c s v) h
 
