@@ -89,7 +89,7 @@ pub record IsCallable (c listed : Context) (own called : List Formal) (s : State
   pub rising : AreRising 0 (passings_to c s (Some callee))
   pub complete : (has_actuals s.code && not (is_function_block callee.id.kind)) ≡ true
       → AreAllPassed called (passings_to c s (Some callee))
-  pub instance : IsInstanceAt listed found.place (option_map data_block_name instance)
+  pub data_block : IsInstanceAt listed found.place (option_map data_block_name instance)
 
 -- whatever block a statement calls
 abbrev pub IsCallKept : (c listed : Context) → List Signature → (own : List Formal) → Statement → Type 0

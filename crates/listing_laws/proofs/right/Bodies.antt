@@ -31,25 +31,25 @@ use Rattle.stl_types.specs.Resolution.{seen}
 use Rattle.stl_types.specs.Unknown.{is_unknown, operand_20}
 use Rattle.stl_types.specs.Zones.{ends_none, is_ninth, with_zones, zones_left_open}
 use Rattle.stl_types.specs.declared.parameters.Formal.{Formal}
-use Rattle.stl_codegen.specs.Compiled.{StatedBlock, compiled, lines_in}
+use Rattle.stl_codegen.specs.Compiled.{Stated, StatedBlock, compiled, lines_in}
 use Rattle.stl_codegen.specs.Generated.{code_block, statements_of}
-use Rattle.stl_list.specs.CodeBlocks.{listed_block}
 use Rattle.stl_list.specs.Signatures.{Signature, formals_of}
 use Rattle.stl_list.specs.Statements.{Surroundings, body_of, surroundings}
 use Rattle.sem_kept.specs.Accepted.{IsAccepted, program_in}
 use Rattle.sem_kept.specs.Settled.{IsSettled}
-use Rattle.sem_kept.proofs.accepted.Accepted.{IsSound, IsSoundActual, IsSoundCall, IsSoundStatement}
+use Rattle.sem_kept.proofs.accepted.Accepted.{IsSoundActual, IsSoundBody, IsSoundCall, IsSoundStatement}
 use Rattle.listing_laws.specs.Again.{IsMadeOf, context_at}
 use Rattle.listing_laws.specs.Declared.{signatures_in}
 use Rattle.listing_laws.specs.Instructions.{HasAgain, IsRightOperand}
+use Rattle.listing_laws.specs.LabelRules.{LeadsWithin}
 use Rattle.listing_laws.specs.Nesting.{AreNestedAlike}
 use Rattle.listing_laws.specs.RightBodies.{IsBodyReady, IsCallKept}
 use Rattle.listing_laws.specs.Statements.{offset_in}
 use Rattle.listing_laws.proofs.right.Named.{AreTypesOf}
 use Rattle.listing_laws.proofs.right.Numbered.{landings_kept, lists_kept, numbered_from}
-use Rattle.listing_laws.proofs.right.Placed.{IsBodyOf, all_readable, body_again, body_by, body_is, listed_as, source_block, source_settled, well_formed}
+use Rattle.listing_laws.proofs.right.Placed.{IsBodyOf, all_readable, body_again, body_is, few_stated, listed_as, source_block, source_settled}
 use Rattle.listing_laws.proofs.right.Statements.{IsRightAgain, statement_right}
-use Rattle.listing_laws.proofs.right.Words.{right_from}
+use Rattle.listing_laws.proofs.right.Words.{crossing, right_from}
 use Rattle.listing_laws.proofs.ruled.Labels.{labels_once}
 use Rattle.listing_laws.proofs.ruled.Marks.{listed_nestings_kept}
 use Rattle.listing_laws.proofs.ruled.Reached.{labels_known}
@@ -216,9 +216,64 @@ numbered_right y y' c listed sur f body k (s ∷ ss) types has operands calls se
 
 -- ---- the whole body
 
-body_right : (signatures : List Signature) (stated : StatedBlock) (y y' : Types) (c listed : Context) (b : Block) (is : IsBodyOf c b signatures stated (body_of signatures (lines_in stated.statements) (compiled stated)))
+body_right : (signatures : List Signature) (stated : StatedBlock) (y y' : Types) (c listed : Context) (b : Block)
+    → IsBodyOf c b signatures stated (body_of signatures (lines_in stated.statements) (compiled stated))
     → stated.statements ≡ statements_of c b → length stated.statements ≤ 93312
-    → AllByRecursion (IsSettled c b.body) b.body → AllByRecursion (IsSoundStatement y' c) b.body → IsSoundBodyOf b.body
+    → AllByRecursion (IsSettled c b.body) b.body → AllByRecursion (IsSoundStatement y' c) b.body → IsSoundBody b.body
     → AreTypesOf y listed → IsBodyReady c listed signatures (formals_of signatures stated.id) b.body
     → IsRightBody y listed (body_of signatures (lines_in stated.statements) (compiled stated))
-body_right = ?
+body_right signatures stated y y' c listed b is e few settled sound source types ready = record {
+  by_20 = right_20 y listed body each;
+  by_23 = right_23 y listed body each;
+  by_24 = right_24 y listed body each;
+  dates = right_dates y listed body each;
+  by_26 = labels_known signatures (lines_in stated.statements) stated
+      (subst (λ (ss : List Stated). AllByRecursion (λ s. LeadsWithin (length ss) s.instr) ss) (sym e) (jumps_within c b));
+  by_27 = labels_once signatures (lines_in stated.statements) stated few;
+  by_29 = nested.closing ∙ source.by_29;
+  by_30 = nested.left ∙ source.by_30;
+  by_31 = nested.eighth ∙ source.by_31;
+  by_32 = ap (lists_from []) is.is ∙ lists_kept b.body sur.targets (listed_as sur (offset_in stated.statements) c b.body) (right_from b.body source) is.placed;
+  by_33 = ap crossing is.is ∙ landings_kept b.body sur.targets (listed_as sur (offset_in stated.statements) c b.body) is.placed source.by_33;
+  by_34 = right_34 y listed body each;
+  by_35 = right_35 y listed body each;
+  by_36 = right_36 y listed body each;
+  by_37 = right_37 y listed body each;
+  by_38 = right_38 y listed body each;
+  by_40 = right_40 y listed body each;
+  by_42 = right_42 y listed body each;
+  by_46 = right_46 y listed body each;
+  by_47 = nested.ending ∙ source.by_47;
+  by_48 = nested.zones_left ∙ source.by_48;
+  by_49 = nested.ninth ∙ source.by_49;
+}
+  where
+    sur : Surroundings
+    sur = surroundings signatures (lines_in stated.statements) (compiled stated)
+
+    body : List Statement
+    body = body_of signatures (lines_in stated.statements) (compiled stated)
+
+    nested : AreNestedAlike body b.body
+    nested = listed_nestings_kept c b stated signatures (all_readable y' c b.body b.body settled sound) e
+
+    each : AreRight y listed body
+    each =
+        subst (AreRight y listed) (sym is.is)
+        (numbered_right y y' c listed sur (offset_in stated.statements) b.body 0 b.body types ready.has ready.operands ready.calls settled sound)
+
+-- of an accepted source
+pub made_right : (source file : List ℕ) (symbols : List Symbol) (t : Tree) → IsAccepted source file symbols t → AreBytes source → (again place : ℕ) (b : Block) (l : BlockLayout) (id : BlockId)
+    → (made : IsMadeOf symbols t again place b l id) → (y : Types) (listed : Context) → AreTypesOf y listed
+    → IsBodyReady (context_at symbols t place) listed (signatures_in (program_in symbols t)) (formals_of (signatures_in (program_in symbols t)) id) b.body
+    → IsRightBody y listed (body_again symbols t again place b l id made)
+made_right source file symbols t accepted bytes again place b l id made y listed types ready =
+    let c = context_at symbols t place in
+    let stated = code_block c b l id in
+    let signatures = signatures_in (program_in symbols t) in
+    let sound = source_block source file symbols t accepted again place b l id made in
+    subst (λ (ls : List ℕ). IsRightBody y listed (body_of signatures ls (compiled stated))) (sym made.stands.lines)
+    (body_right signatures stated y (types_of symbols t.blocks) c listed b
+    (subst (λ (ls : List ℕ). IsBodyOf c b signatures stated (body_of signatures ls (compiled stated))) made.stands.lines (body_is source file symbols t accepted bytes again place b l id made))
+    refl (few_stated c b sound.head.by_55)
+    (source_settled source file symbols t accepted bytes again place b l id made) sound.statements sound.body types ready)

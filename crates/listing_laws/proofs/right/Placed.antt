@@ -319,6 +319,13 @@ statements_are : (c : Context) (b : Block) → statements_of c b ≡ stated_from
 unfolding statements_of
 statements_are c b = refl
 
+pub few_stated : (c : Context) (b : Block) → has_too_many_statements b ≡ false → length (statements_of c b) ≤ 93312
+few_stated c b few =
+    let low = few_statements b few in
+    let other = source_count c b.body 0 b.body in
+    let all = ap length (statements_are c b) ∙ length-append (stated_from c b.body 0 b.body) (returning b ∷ []) in
+    omega (arith, low, other, all)
+
 -- the block of the source that a listed one was made of
 pub source_block : (source file : List ℕ) (symbols : List Symbol) (t : Tree) → IsAccepted source file symbols t → (again place : ℕ) (b : Block) (l : BlockLayout) (id : BlockId) → IsMadeOf symbols t again place b l id
     → IsSound symbols t place b l

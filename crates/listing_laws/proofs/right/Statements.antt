@@ -456,7 +456,7 @@ called_right y c listed sur f k s how id instance callee types has h e is_call s
       fits = breaks.by_37;
       instance =
           ap (has_wrong_instance listed q.found) shown
-          ∙ instances_right listed q.found (block.Number id) (option_map data_block_name instance) q.instance;
+          ∙ instances_right listed q.found (block.Number id) (option_map data_block_name instance) q.data_block;
       bare =
           calls_whole callee q.found s again word q.same
           (ap has_no_instance shown ∙ lacks_again id instance ∙ sym names.none) q.size sound.bare;

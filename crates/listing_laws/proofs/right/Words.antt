@@ -57,7 +57,7 @@ listed_lists source file symbols t accepted bytes file_bytes again place b l id 
     ∙ lists_kept b.body sur.targets (listed_as sur (offset_in stated.statements) c b.body)
     (right_from b.body (source_block source file symbols t accepted again place b l id made).body) is.placed
 
-abbrev crossing : List Statement → List Refusal
+abbrev pub crossing : List Statement → List Refusal
 crossing body = crossing_jumps (labels_of body) (landings_at_labels outside body) body
 
 pub listed_landings : AreLandingsKept
