@@ -39,7 +39,6 @@ use Rattle.stl_list.specs.Operands.{data_block_name}
 use Rattle.stl_list.specs.Signatures.{Signature, called_formals, formals_of}
 use Rattle.sem_kept.specs.Accepted.{IsAccepted, program_in}
 use Rattle.listing_laws.specs.Again.{AreMadeOfSource, IsMadeOf, IsWholeAgain, again_at, context_at, listed_again}
-use Rattle.listing_laws.specs.Calls.{IsInstanceAt}
 use Rattle.listing_laws.specs.Declared.{signatures_in}
 use Rattle.listing_laws.specs.Instructions.{HasAgain, IsRightOperand}
 use Rattle.listing_laws.specs.Passings.{AreAllPassed, AreNamedApart, AreRising, IsPassable, upper}
@@ -74,8 +73,7 @@ pub record AreBodiesRight (y : Types) (c : Context) (blocks : List Block) : Type
 -- ---- what a listed body rests on
 
 -- what a statement of a source calls, `callee`, is found in its listing with the parameters that the
--- listing has, `called`, and with its instance; what is passed fits there. `own` are the parameters of
--- the block that calls
+-- listing has, `called`, and what is passed fits there. `own` are the parameters of the block that calls
 pub record IsCallable (c listed : Context) (own called : List Formal) (s : Statement) (id : BlockId)
     (instance : Option ℕ) (callee : Callee) : Type 0 where
   pub found : Callee
@@ -89,7 +87,6 @@ pub record IsCallable (c listed : Context) (own called : List Formal) (s : State
   pub rising : AreRising 0 (passings_to c s (Some callee))
   pub complete : (has_actuals s.code && not (is_function_block callee.id.kind)) ≡ true
       → AreAllPassed called (passings_to c s (Some callee))
-  pub data_block : IsInstanceAt listed found.place (option_map data_block_name instance)
 
 -- whatever block a statement calls
 abbrev pub IsCallKept : (c listed : Context) → List Signature → (own : List Formal) → Statement → Type 0

@@ -37,18 +37,19 @@ use Rattle.stl_list.specs.Signatures.{Signature, formals_of}
 use Rattle.stl_list.specs.Statements.{Surroundings, body_of, surroundings}
 use Rattle.sem_kept.specs.Accepted.{IsAccepted, program_in}
 use Rattle.sem_kept.specs.Settled.{IsSettled}
-use Rattle.sem_kept.proofs.accepted.Accepted.{IsSoundActual, IsSoundBody, IsSoundCall, IsSoundStatement}
-use Rattle.listing_laws.specs.Again.{IsMadeOf, context_at}
+use Rattle.sem_kept.proofs.accepted.Accepted.{IsSoundActual, IsSoundBody, IsSoundCall, IsSoundStatement, IsSoundTree, right_tree}
+use Rattle.listing_laws.specs.Again.{IsMadeOf, again_at, context_at}
 use Rattle.listing_laws.specs.Declared.{signatures_in}
 use Rattle.listing_laws.specs.Instructions.{HasAgain, IsRightOperand}
 use Rattle.listing_laws.specs.LabelRules.{LeadsWithin}
 use Rattle.listing_laws.specs.Nesting.{AreNestedAlike}
 use Rattle.listing_laws.specs.RightBodies.{IsBodyReady, IsCallKept}
 use Rattle.listing_laws.specs.Statements.{offset_in}
+use Rattle.listing_laws.proofs.right.Instances.{instance_there}
 use Rattle.listing_laws.proofs.right.Named.{AreTypesOf}
 use Rattle.listing_laws.proofs.right.Numbered.{landings_kept, lists_kept, numbered_from}
 use Rattle.listing_laws.proofs.right.Placed.{IsBodyOf, all_readable, body_again, body_is, few_stated, listed_as, source_block, source_settled}
-use Rattle.listing_laws.proofs.right.Statements.{IsRightAgain, statement_right}
+use Rattle.listing_laws.proofs.right.Statements.{IsInstanceKept, IsRightAgain, statement_right}
 use Rattle.listing_laws.proofs.right.Words.{crossing, right_from}
 use Rattle.listing_laws.proofs.ruled.Labels.{labels_once}
 use Rattle.listing_laws.proofs.ruled.Marks.{listed_nestings_kept}
@@ -202,17 +203,17 @@ module _ (y : Types) (c : Context) (body : List Statement) (h : AreRight y c bod
 -- ---- each statement of a listed body
 
 numbered_right : (y y' : Types) (c listed : Context) (sur : Surroundings) (f : ℕ → ℕ) (body : List Statement) (k : ℕ) (ss : List Statement)
-    → AreTypesOf y listed → HasAgain c listed sur.formals → AllByRecursion (λ s. IsRightOperand c.symbols s.operand) ss → AllByRecursion (IsCallKept c listed sur.signatures sur.formals) ss
+    → AreTypesOf y listed → HasAgain c listed sur.formals → AllByRecursion (λ s. IsRightOperand c.symbols s.operand) ss → AllByRecursion (IsCallKept c listed sur.signatures sur.formals) ss → AllByRecursion (IsInstanceKept c listed) ss
     → AllByRecursion (IsSettled c body) ss → AllByRecursion (IsSoundStatement y' c) ss
     → AreRight y listed (numbered_from (listed_as sur f c body) k ss)
-numbered_right y y' c listed sur f body k [] types has operands calls settled sound = tt
-numbered_right y y' c listed sur f body k (s ∷ ss) types has operands calls settled sound =
-    by (is_empty s.code) refl (λ j. numbered_right y y' c listed sur f body j ss types has operands.1 calls.1 settled.1 sound.1)
+numbered_right y y' c listed sur f body k [] types has operands calls instances settled sound = tt
+numbered_right y y' c listed sur f body k (s ∷ ss) types has operands calls instances settled sound =
+    by (is_empty s.code) refl (λ j. numbered_right y y' c listed sur f body j ss types has operands.1 calls.1 instances.1 settled.1 sound.1)
   where
     by : (none : Bool) → is_empty s.code ≡ none → ((j : ℕ) → AreRight y listed (numbered_from (listed_as sur f c body) j ss))
         → AreRight y listed (if none then numbered_from (listed_as sur f c body) k ss else listed_as sur f c body k s ∷ numbered_from (listed_as sur f c body) (suc k) ss)
     by true w more = more k
-    by false w more = (statement_right y y' c listed sur f body k s types has operands.0 calls.0 settled.0 sound.0 w, more (suc k))
+    by false w more = (statement_right y y' c listed sur f body k s types has operands.0 calls.0 instances.0 settled.0 sound.0 w, more (suc k))
 
 -- ---- the whole body
 
@@ -220,9 +221,9 @@ body_right : (signatures : List Signature) (stated : StatedBlock) (y y' : Types)
     → IsBodyOf c b signatures stated (body_of signatures (lines_in stated.statements) (compiled stated))
     → stated.statements ≡ statements_of c b → length stated.statements ≤ 93312
     → AllByRecursion (IsSettled c b.body) b.body → AllByRecursion (IsSoundStatement y' c) b.body → IsSoundBody b.body
-    → AreTypesOf y listed → IsBodyReady c listed signatures (formals_of signatures stated.id) b.body
+    → AreTypesOf y listed → IsBodyReady c listed signatures (formals_of signatures stated.id) b.body → AllByRecursion (IsInstanceKept c listed) b.body
     → IsRightBody y listed (body_of signatures (lines_in stated.statements) (compiled stated))
-body_right signatures stated y y' c listed b is e few settled sound source types ready = record {
+body_right signatures stated y y' c listed b is e few settled sound source types ready instances = record {
   by_20 = right_20 y listed body each;
   by_23 = right_23 y listed body each;
   by_24 = right_24 y listed body each;
@@ -260,15 +261,23 @@ body_right signatures stated y y' c listed b is e few settled sound source types
     each : AreRight y listed body
     each =
         subst (AreRight y listed) (sym is.is)
-        (numbered_right y y' c listed sur (offset_in stated.statements) b.body 0 b.body types ready.has ready.operands ready.calls settled sound)
+        (numbered_right y y' c listed sur (offset_in stated.statements) b.body 0 b.body types ready.has ready.operands ready.calls instances settled sound)
+
+instances_kept : (symbols : List Symbol) (t : Tree) → IsSoundTree symbols t → (k : ℕ) (ss : List Statement) → AllByRecursion (IsSoundStatement (types_of symbols t.blocks) (context_at symbols t k)) ss
+    → (others : List Symbol) (again : ℕ) (own : List Formal) → HasAgain (context_at symbols t k) (again_at symbols t others again) own
+    → AllByRecursion (IsInstanceKept (context_at symbols t k) (again_at symbols t others again)) ss
+instances_kept symbols t tree k [] sound others again own has = tt
+instances_kept symbols t tree k (s ∷ ss) sound others again own has = (instance_there symbols t tree k s sound.0 others again own has, instances_kept symbols t tree k ss sound.1 others again own has)
 
 -- of an accepted source
 pub made_right : (source file : List ℕ) (symbols : List Symbol) (t : Tree) → IsAccepted source file symbols t → AreBytes source → (again place : ℕ) (b : Block) (l : BlockLayout) (id : BlockId)
-    → (made : IsMadeOf symbols t again place b l id) → (y : Types) (listed : Context) → AreTypesOf y listed
-    → IsBodyReady (context_at symbols t place) listed (signatures_in (program_in symbols t)) (formals_of (signatures_in (program_in symbols t)) id) b.body
-    → IsRightBody y listed (body_again symbols t again place b l id made)
-made_right source file symbols t accepted bytes again place b l id made y listed types ready =
+    → (made : IsMadeOf symbols t again place b l id) → (y : Types) (others : List Symbol) → AreTypesOf y (again_at symbols t others again)
+    → IsBodyReady (context_at symbols t place) (again_at symbols t others again) (signatures_in (program_in symbols t)) (formals_of (signatures_in (program_in symbols t)) id) b.body
+    → IsRightBody y (again_at symbols t others again) (body_again symbols t again place b l id made)
+made_right source file symbols t accepted bytes again place b l id made y others types ready =
     let c = context_at symbols t place in
+    let listed = again_at symbols t others again in
+    let tree = right_tree source file symbols t accepted in
     let stated = code_block c b l id in
     let signatures = signatures_in (program_in symbols t) in
     let sound = source_block source file symbols t accepted again place b l id made in
@@ -276,4 +285,5 @@ made_right source file symbols t accepted bytes again place b l id made y listed
     (body_right signatures stated y (types_of symbols t.blocks) c listed b
     (subst (λ (ls : List ℕ). IsBodyOf c b signatures stated (body_of signatures ls (compiled stated))) made.stands.lines (body_is source file symbols t accepted bytes again place b l id made))
     refl (few_stated c b sound.head.by_55)
-    (source_settled source file symbols t accepted bytes again place b l id made) sound.statements sound.body types ready)
+    (source_settled source file symbols t accepted bytes again place b l id made) sound.statements sound.body types ready
+    (instances_kept symbols t tree place b.body sound.statements others again (formals_of signatures id) ready.has))

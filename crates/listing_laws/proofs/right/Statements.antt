@@ -64,6 +64,7 @@ use Rattle.stl_list.specs.Statements.{Surroundings, statement}
 use Rattle.sem_kept.specs.Settled.{HasCalled, HasInstruction, HasLabel, HasOperand, IsSettled}
 use Rattle.sem_kept.proofs.accepted.Accepted.{IsSoundActual, IsSoundCall, IsSoundStatement}
 use Rattle.sem_kept.proofs.accepted.Shared.{callable_by}
+use Rattle.listing_laws.specs.Calls.{IsInstanceAt}
 use Rattle.listing_laws.specs.Instructions.{HasAgain, IsRightOperand}
 use Rattle.listing_laws.specs.Operands.{acting}
 use Rattle.listing_laws.specs.Passings.{BreaksNone, FitsListed, IsListedCall}
@@ -374,12 +375,21 @@ actual_sound y c own line f p types fits undated =
 
 -- ---- a call
 
+-- the data block of a call is an instance of what is called, in the listing too
+abbrev pub IsInstanceKept : (c listed : Context) → Statement → Type 0
+IsInstanceKept c listed s =
+    (how : CallOperation) (id : BlockId) (instance : Option ℕ) (callee found : Callee)
+    → call_of s.code ≡ Some how → is_called s.operand ≡ true → resolved c s ≡ Some (view.Called id instance)
+    → callee_of c s.operand ≡ Some callee → callee.id ≡ id
+    → callee_of listed (operand.Called (block.Number id) (option_map data_block_name instance)) ≡ Some found
+    → IsInstanceAt listed found.place (option_map data_block_name instance)
+
 called_right : (y : Types) (c listed : Context) (sur : Surroundings) (f : ℕ → ℕ) (k : ℕ) (s : Statement) (how : CallOperation) (id : BlockId) (instance : Option ℕ) (callee : Callee)
     → AreTypesOf y listed → HasAgain c listed sur.formals → call_of s.code ≡ Some how → resolved c s ≡ Some (view.Called id instance) → is_called s.operand ≡ true
-    → IsSoundCall c callee s → IsCallable c listed sur.formals (called_formals sur.signatures id) s id instance callee
-    → callee.id ≡ id
+    → IsSoundCall c callee s → (q : IsCallable c listed sur.formals (called_formals sur.signatures id) s id instance callee)
+    → IsInstanceAt listed q.found.place (option_map data_block_name instance)
     → IsShownAgain y listed sur f k (Calls how id instance (passings_to c s (Some callee)))
-called_right y c listed sur f k s how id instance callee types has h e is_call sound q same = record {
+called_right y c listed sur f k s how id instance callee types has h e is_call sound q instances = record {
   known = known_by (seen listed again.operand) (view.Called id instance) sees_again;
   there = seen_there y listed again.operand (view.Called id instance) types sees_again;
   inside = ap (operand_is_outside y listed.layouts listed.block) shown;
@@ -456,20 +466,26 @@ called_right y c listed sur f k s how id instance callee types has h e is_call s
       fits = breaks.by_37;
       instance =
           ap (has_wrong_instance listed q.found) shown
-          ∙ instances_right listed q.found (block.Number id) (option_map data_block_name instance) q.data_block;
+          ∙ instances_right listed q.found (block.Number id) (option_map data_block_name instance) instances;
       bare =
           calls_whole callee q.found s again word q.same
           (ap has_no_instance shown ∙ lacks_again id instance ∙ sym names.none) q.size sound.bare;
     }
 
 call_right : (y y' : Types) (c listed : Context) (sur : Surroundings) (f : ℕ → ℕ) (body : List Statement) (k : ℕ) (s : Statement) (how : CallOperation)
-    → AreTypesOf y listed → HasAgain c listed sur.formals → call_of s.code ≡ Some how → HasCalled c s → IsSoundStatement y' c s → IsCallKept c listed sur.signatures sur.formals s
+    → AreTypesOf y listed → HasAgain c listed sur.formals → call_of s.code ≡ Some how → HasCalled c s → IsSoundStatement y' c s → IsCallKept c listed sur.signatures sur.formals s → IsInstanceKept c listed s
     → IsRightAgain y listed (listed_as sur f c body k s)
-call_right y y' c listed sur f body k s how types has h called sound kept =
+call_right y y' c listed sur f body k s how types has h called sound kept instances =
     subst (IsShownAgain y listed sur f k) (sym is)
-    (called_right y c listed sur f k s how called.id called.instance called.callee types has h called.called (sound.well_formed.called ∙ calls_block s.code how h)
-    (sound.calls called.callee called.found) (kept called.id called.instance called.callee called.called called.found) called.same)
+    (called_right y c listed sur f k s how called.id called.instance called.callee types has h called.called is_call (sound.calls called.callee called.found) q
+    (instances how called.id called.instance called.callee q.found h is_call called.called called.found called.same q.is))
   where
+    is_call : is_called s.operand ≡ true
+    is_call = sound.well_formed.called ∙ calls_block s.code how h
+
+    q : IsCallable c listed sur.formals (called_formals sur.signatures called.id) s called.id called.instance called.callee
+    q = kept called.id called.instance called.callee called.called called.found
+
     is : instruction c body k s ≡ Calls how called.id called.instance (passings_to c s (Some called.callee))
     is =
         call_comes c body k s (view.Called called.id called.instance) how h called.called
@@ -478,17 +494,17 @@ call_right y y' c listed sur f body k s how types has h called sound kept =
 -- ---- any statement
 
 pub statement_right : (y y' : Types) (c listed : Context) (sur : Surroundings) (f : ℕ → ℕ) (body : List Statement) (k : ℕ) (s : Statement)
-    → AreTypesOf y listed → HasAgain c listed sur.formals → IsRightOperand c.symbols s.operand → IsCallKept c listed sur.signatures sur.formals s
+    → AreTypesOf y listed → HasAgain c listed sur.formals → IsRightOperand c.symbols s.operand → IsCallKept c listed sur.signatures sur.formals s → IsInstanceKept c listed s
     → IsSettled c body s → IsSoundStatement y' c s → is_empty s.code ≡ false
     → IsRightAgain y listed (listed_as sur f c body k s)
-statement_right y y' c listed sur f body k s types has right kept settled sound some = by (jump_of s.code) refl settled.instruction
+statement_right y y' c listed sur f body k s types has right kept instances settled sound some = by (jump_of s.code) refl settled.instruction
   where
     word : (listed_as sur f c body k s).code ≡ s.code
     word = word_is c body k f s (readable y' c body s settled sound) some
 
     by_call : (how : Option CallOperation) → jump_of s.code ≡ None → call_of s.code ≡ how → HasOperand c s how → IsRightAgain y listed (listed_as sur f c body k s)
     by_call None jumps calls o = other_right y c listed sur f body k s o.0 types has right some jumps calls o.1 word
-    by_call (Some how) jumps calls o = call_right y y' c listed sur f body k s how types has calls o sound kept
+    by_call (Some how) jumps calls o = call_right y y' c listed sur f body k s how types has calls o sound kept instances
 
     by : (how : Option JumpOperation) → jump_of s.code ≡ how → HasInstruction c body s how → IsRightAgain y listed (listed_as sur f c body k s)
     by None jumps o = by_call (call_of s.code) jumps refl o

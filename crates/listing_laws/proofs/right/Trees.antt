@@ -36,7 +36,6 @@ use Rattle.stl_list.specs.CodeBlocks.{in_lines, line_reached, listed_blocks}
 use Rattle.stl_list.specs.DataBlocks.{listed_data, listed_data_blocks}
 use Rattle.stl_list.specs.Joined.{chains_of}
 use Rattle.stl_list.specs.Listing.{listed_tree}
-use Rattle.stl_list.specs.Lines.{line_behind, stands_before}
 use Rattle.stl_list.specs.Signatures.{Signature, signatures}
 use Rattle.sem_kept.specs.Accepted.{IsAccepted, program_in}
 use Rattle.sem_kept.proofs.accepted.Accepted.{AllFrom, context_at}
@@ -44,9 +43,9 @@ use Rattle.sem_kept.proofs.accepted.OperandsCells.{all_there, measured_symbols}
 use Rattle.sem_kept.proofs.accepted.OperandsViews.{ids_same}
 use Rattle.listing_laws.specs.Again.{AreMadeOfSource, IsMadeOf, listed_again}
 use Rattle.listing_laws.specs.RightBodies.{AreBodiesReady, AreBodiesRight, AreListedBodiesRight}
-use Rattle.listing_laws.proofs.OrderLemmas.{length_sorted}
 use Rattle.listing_laws.proofs.right.Bodies.{IsRightBody, by_calls, made_right, none_right}
 use Rattle.listing_laws.proofs.right.Named.{AreTypesOf}
+use Rattle.listing_laws.proofs.right.Shared.{lines_length, listed_length}
 use Rattle.listing_laws.proofs.right.Words.{crossing, listed_is}
 
 -- ---- rules over the blocks of a tree
@@ -154,14 +153,6 @@ behind_front P [] rest i x le e h = all_there P rest i x h e
 behind_front P (y ∷ front) rest zero x le e h = absurd (omega (arith, le))
 behind_front P (y ∷ front) rest (suc i) x le e h = behind_front P front rest i x (omega (arith, le)) e h
 
-listed_length : (signatures : List Signature) (reached : ℕ) (bs : List CodeBlock) → length (listed_blocks signatures reached bs) ≡ length bs
-listed_length signatures reached [] = refl
-listed_length signatures reached (b ∷ bs) = ap suc (listed_length signatures (line_behind reached b.lines) bs)
-
-lines_length : (bs : List CodeBlock) → length (in_lines bs) ≡ length bs
-unfolding in_lines
-lines_length bs = length_sorted stands_before bs
-
 data_bodiless : (p : Program) (i : ℕ) (x : Block) → length p.code_blocks ≤ i → slice_get (listed_tree p).blocks i ≡ Some x → x.body ≡ []
 unfolding listed_tree
 data_bodiless p i x le e =
@@ -192,7 +183,7 @@ listed_bodies_right source file symbols t accepted bytes file_bytes others made 
         by true low =
             let found = made source file symbols t accepted bytes file_bytes i (ltb-true i (length (program_in symbols t).code_blocks) low) in
             subst (λ (z : Block). IsRightBody y (context_at others (listed_again symbols t) i) z.body) (listed_is symbols t i found.0 found.1 found.2 found.3 found.4 x e)
-            (made_right source file symbols t accepted bytes i found.0 found.1 found.2 found.3 found.4 y (context_at others (listed_again symbols t) i)
+            (made_right source file symbols t accepted bytes i found.0 found.1 found.2 found.3 found.4 y others
             (types_are others (listed_again symbols t) i) (ready i found.0 found.1 found.2 found.3 found.4))
         by false high =
             subst (λ (body : List Statement). IsRightBody y (context_at others (listed_again symbols t) i) body)
