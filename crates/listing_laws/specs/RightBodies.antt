@@ -1,10 +1,9 @@
 -- The bodies of a listing break no rule, where what the source names and calls is there in the listing.
-use Rattle.std.specs.Prelude.{◌≡◌, ◌<◌, ℕ, true, not, ◌&&◌, List, [], length, map, Option, Some, slice_get}
+use Rattle.std.specs.Prelude.{◌≡◌, ℕ, true, not, ◌&&◌, List, [], length, map, Option, Some}
 use Rattle.std.specs.List.{AllByRecursion, flat_map}
 use Rattle.std.specs.Option.{option_map}
 use Rattle.plc_base.specs.Kinds.{is_function_block}
 use Rattle.plc_base.specs.declared.blocks.BlockId.{BlockId}
-use Rattle.flat_code.specs.Instr.{Passing}
 use Rattle.stl_ast.specs.Literals.{AreBytes}
 use Rattle.stl_ast.specs.Statements.{has_actuals}
 use Rattle.stl_ast.specs.declared.blocks.Block.{Block}
@@ -38,7 +37,7 @@ use Rattle.stl_codegen.specs.Instruction.{block_at, in_order, passings_to}
 use Rattle.stl_list.specs.Operands.{data_block_name}
 use Rattle.stl_list.specs.Signatures.{Signature, called_formals, formals_of}
 use Rattle.sem_kept.specs.Accepted.{IsAccepted, program_in}
-use Rattle.listing_laws.specs.Again.{AreMadeOfSource, IsMadeOf, IsWholeAgain, again_at, context_at, listed_again}
+use Rattle.listing_laws.specs.Again.{AreMadeOfSource, IsMadeOf, again_at, context_at, listed_again}
 use Rattle.listing_laws.specs.Declared.{signatures_in}
 use Rattle.listing_laws.specs.Instructions.{HasAgain, IsRightOperand}
 use Rattle.listing_laws.specs.Passings.{AreAllPassed, AreNamedApart, AreRising, IsPassable, upper}

@@ -1,10 +1,10 @@
 -- The instance of a listed call is one of the function block that is called.
-use Rattle.std.proofs.Common.{◌≡◌, ℕ, zero, suc, ◌+◌, ◌≤◌, Bool, true, false, ◌&&◌, ◌||◌, not, List, [], ◌∷◌, ◌++◌, length, map, Option, Some, None, option_map, if◌then◌else◌, is_some, refl, sym, ap, ap₂, subst, ◌∙◌, eqb-true, arith}
-use Rattle.std.specs.Prelude.{nat_eq, slice_get}
+use Rattle.std.proofs.Common.{◌≡◌, ℕ, zero, suc, ◌+◌, Bool, true, false, ◌&&◌, ◌||◌, not, List, [], ◌∷◌, ◌++◌, length, map, Option, Some, None, option_map, if◌then◌else◌, is_some, refl, sym, ap, ap₂, subst, ◌∙◌, eqb-true, arith}
+use Rattle.std.specs.Prelude.{slice_get}
 use Rattle.std.specs.List.{AllByRecursion}
-use Rattle.std.specs.Option.{is_none, option_and_then}
+use Rattle.std.specs.Option.{option_and_then}
 use Rattle.std.proofs.lemmas.Option.{same_Some}
-use Rattle.plc_base.specs.Kinds.{is_data_block, is_function, is_function_block, is_system_function}
+use Rattle.plc_base.specs.Kinds.{is_function, is_function_block, is_system_function}
 use Rattle.plc_base.specs.declared.blocks.BlockId.{BlockId}
 use Rattle.plc_base.specs.declared.blocks.BlockKind.{BlockKind}
 use Rattle.plc_base.specs.declared.blocks.BlockKind.TheVariants as kinds
@@ -19,12 +19,11 @@ use Rattle.stl_ast.specs.declared.operands.Operand.{Operand}
 use Rattle.stl_ast.specs.declared.operands.Operand.TheVariants as operand
 use Rattle.stl_ast.specs.declared.statements.Statement.{Statement}
 use Rattle.stl_symbols.specs.Symbol.{Symbol}
-use Rattle.block_layout.specs.Blocks.{found_block, has_structure, ids_of, known_block, named_block}
+use Rattle.block_layout.specs.Blocks.{ids_of, known_block, named_block}
 use Rattle.block_layout.specs.Layouts.{block_layout, layouts_by, layouts_from, layouts_of}
-use Rattle.block_layout.specs.Lengths.{shape_at, shape_named, shape_of}
+use Rattle.block_layout.specs.Lengths.{shape_at, shape_of}
 use Rattle.block_layout.specs.Measures.{types_of}
 use Rattle.block_layout.specs.Paths.{if_whole, whole_at, whole_block as whole_layout}
-use Rattle.block_layout.specs.Rule22.{rule_22}
 use Rattle.block_layout.specs.Rule23.{is_unknown_called, is_unknown_data, names_unknown}
 use Rattle.block_layout.specs.Rule44.{rule_44}
 use Rattle.block_layout.specs.Types.{Types}
@@ -34,14 +33,13 @@ use Rattle.block_layout.specs.declared.blocks.Shape.TheVariants as shape
 use Rattle.stl_types.specs.Calls.{has_wrong_instance, is_instance, is_no_instance, is_of_block}
 use Rattle.stl_types.specs.Context.{Context, data_number, data_place, ids, number_of, whole_data_place, whole_place}
 use Rattle.stl_types.specs.Forms.{form_of}
-use Rattle.stl_types.specs.Kinds.{is_called as is_called_view}
 use Rattle.stl_types.specs.Parameters.{Callee, callee_at, callee_by, callee_of, source_callee, system_callee}
 use Rattle.stl_types.specs.Resolution.{called_seen, instance_number, seen, whole_block}
 use Rattle.stl_types.specs.Resolved.{resolved}
 use Rattle.stl_types.specs.declared.parameters.Formal.{Formal}
 use Rattle.stl_types.specs.declared.views.Resolution.TheVariants.{Resolved}
 use Rattle.stl_types.specs.declared.views.ResolvedOperand.TheVariants as view
-use Rattle.stl_codegen.specs.Generated.{data_block, data_blocks_of, function_block_number, instance_in}
+use Rattle.stl_codegen.specs.Generated.{data_block, function_block_number, instance_in}
 use Rattle.stl_codegen.specs.Operations.{call_of}
 use Rattle.stl_list.specs.CodeBlocks.{in_lines, line_reached, listed_blocks}
 use Rattle.stl_list.specs.DataBlocks.{function_block, listed_data, listed_data_blocks}
@@ -51,7 +49,7 @@ use Rattle.stl_list.specs.Operands.{data_block_name}
 use Rattle.stl_list.specs.Signatures.{Signature, signatures}
 use Rattle.sem_kept.specs.Accepted.{program_in}
 use Rattle.sem_kept.proofs.accepted.Accepted.{IsSoundStatement, IsSoundTree, context_at}
-use Rattle.sem_kept.proofs.accepted.OperandsCells.{IsOrigin, known_there, measured_symbols, origin}
+use Rattle.sem_kept.proofs.accepted.OperandsCells.{known_there, measured_symbols, origin}
 use Rattle.sem_kept.proofs.accepted.OperandsMembers.{data_block_there}
 use Rattle.sem_kept.proofs.accepted.OperandsViews.{IsData, data_there, ids_same, whole_is}
 use Rattle.sem_kept.proofs.accepted.Shared.{or_second}

@@ -1,5 +1,5 @@
 -- What an operand names is there, where the operand is seen; and listed operands leave no array.
-use Rattle.std.proofs.Common.{◌≡◌, ℕ, Bool, true, false, ◌&&◌, ◌||◌, List, [], Option, Some, None, if◌then◌else◌, refl, sym, ap, ap₂, subst, ◌∙◌}
+use Rattle.std.proofs.Common.{◌≡◌, ℕ, Bool, true, false, ◌&&◌, ◌||◌, List, [], Option, Some, None, if◌then◌else◌, refl, ap, ap₂, ◌∙◌}
 use Rattle.std.specs.Prelude.{◌==◌}
 use Rattle.std.specs.Option.{is_none, option_and_then}
 use Rattle.plc_base.specs.Folding.{folded}
@@ -23,11 +23,10 @@ use Rattle.stl_ast.specs.declared.operands.Operand.TheVariants as operand
 use Rattle.stl_ast.specs.declared.operands.PathHead.TheVariants as head
 use Rattle.stl_symbols.specs.Symbol.{Symbol}
 use Rattle.block_layout.specs.Blocks.{found_block, known_block, named_block}
-use Rattle.block_layout.specs.Paths.{folded_path, further, if_whole, in_sections, is_judged, leaves, walked_data, walked_local, whole_at}
+use Rattle.block_layout.specs.Paths.{folded_path, further, if_whole, in_sections, is_judged, walked_local, whole_at}
 use Rattle.block_layout.specs.Rule23.{is_unknown_called, is_unknown_data, is_unknown_id, is_unknown_instance, names_unknown}
 use Rattle.block_layout.specs.Rule42.{operand_is_outside}
 use Rattle.block_layout.specs.Types.{Types}
-use Rattle.block_layout.specs.declared.walks.ComponentAt.{ComponentAt}
 use Rattle.block_layout.specs.declared.walks.PathEnd.{PathEnd}
 use Rattle.block_layout.specs.declared.walks.PathEnd.TheVariants as walk
 use Rattle.stl_types.specs.Addresses.{address_in}
@@ -35,12 +34,11 @@ use Rattle.stl_types.specs.Context.{Context, data_number, data_place, ids, numbe
 use Rattle.stl_types.specs.Resolution.{called_seen, id_at, instance_number, opened_seen, seen, whole_block}
 use Rattle.stl_types.specs.Variables.{data_path}
 use Rattle.stl_types.specs.declared.parameters.Formal.{Formal}
-use Rattle.stl_types.specs.declared.views.Resolution.{Resolution}
 use Rattle.stl_types.specs.declared.views.Resolution.TheVariants.{Resolved}
 use Rattle.stl_types.specs.declared.views.ResolvedOperand.{ResolvedOperand}
 use Rattle.stl_list.specs.Actuals.{passed_operand}
 use Rattle.stl_list.specs.Constants.{instruction_constant}
-use Rattle.stl_list.specs.Operands.{implied_operand, operand_by, plain_operand, timer_or_counter}
+use Rattle.stl_list.specs.Operands.{implied_operand, operand_by, plain_operand}
 
 -- ---- blocks
 

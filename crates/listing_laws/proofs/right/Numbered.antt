@@ -1,12 +1,9 @@
 -- A body with another statement in the place of each: what the rules of jump lists and of landings see of it.
 use Rattle.std.proofs.Common.{◌≡◌, ℕ, suc, ◌+◌, ◌-◌, ◌<◌, ◌≤◌, Bool, true, false, ◌&&◌, List, [], ◌∷◌, ◌++◌, append_assoc, Option, Some, None, if◌then◌else◌, is_some, refl, sym, ap, subst, ◌∙◌, arith}
 use Rattle.std.specs.Prelude.{bytes_eq, nat_lt, not, option_map, slice_get, unwrap_or}
-use Rattle.std.specs.List.{AllByRecursion}
 use Rattle.std.specs.Option.{option_and_then}
 use Rattle.plc_base.proofs.ListLemmas.{all_append}
-use Rattle.plc_base.specs.Gathered.{gathered}
 use Rattle.plc_base.specs.Least.{broken_if}
-use Rattle.plc_base.specs.declared.refusals.Refusal.{Refusal}
 use Rattle.flat_code.specs.declared.kinds.JumpOperation.{JumpOperation}
 use Rattle.flat_code.specs.declared.kinds.JumpOperation.TheVariants as jump
 use Rattle.stl_ast.specs.Statements.{is_empty}
@@ -30,7 +27,7 @@ use Rattle.sem_kept.proofs.accepted.Accepted.{none_left, none_right, not_broken}
 use Rattle.sem_kept.proofs.accepted.JumpsRules.{AreRightFrom, by_33, has_list, target_is, target_past}
 use Rattle.listing_laws.proofs.JumpLemmas.{Others, others_later, others_more}
 use Rattle.listing_laws.proofs.LabelLemmas.{here, not_here, same_label}
-use Rattle.listing_laws.proofs.ruled.Nesting.{bracket_still, brackets_alike, stub, stub_of, zone_still}
+use Rattle.listing_laws.proofs.ruled.Nesting.{bracket_still, brackets_alike, stub, zone_still}
 use Rattle.listing_laws.specs.Nesting.{Mark}
 
 -- ---- statements in the places of others

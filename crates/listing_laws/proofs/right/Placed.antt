@@ -1,6 +1,6 @@
 -- The statements of a listed body stand in the places of those of the source.
-use Rattle.std.proofs.Common.{◌≡◌, ℕ, suc, ◌+◌, ◌<◌, ◌≤◌, Bool, true, false, List, [], ◌∷◌, ◌++◌, append-nil, length, length-append, Option, Some, None, if◌then◌else◌, is_some, refl, sym, ap, subst, ◌∙◌, arith}
-use Rattle.std.specs.Prelude.{min, not, slice_get, unwrap_or, ◌==◌, ◌||◌}
+use Rattle.std.proofs.Common.{◌≡◌, ℕ, suc, ◌+◌, ◌<◌, ◌≤◌, Bool, true, false, List, [], ◌∷◌, ◌++◌, append-nil, length, length-append, Option, Some, None, if◌then◌else◌, refl, sym, ap, subst, ◌∙◌, arith}
+use Rattle.std.specs.Prelude.{min, not, slice_get, unwrap_or, ◌||◌}
 use Rattle.std.specs.List.{AllByRecursion, count_by, list_any}
 use Rattle.std.specs.Option.{is_none}
 use Rattle.std.proofs.lemmas.Bool.{eq-eqb, ltb-false, ne_eqb}
@@ -15,7 +15,6 @@ use Rattle.stl_ast.specs.declared.blocks.Tree.{Tree}
 use Rattle.stl_ast.specs.declared.operands.Operand.{Operand}
 use Rattle.stl_ast.specs.declared.operands.Operand.TheVariants as operand
 use Rattle.stl_ast.specs.declared.statements.Statement.{Statement}
-use Rattle.stl_symbols.specs.Names.{place_of}
 use Rattle.stl_symbols.specs.Symbol.{Symbol}
 use Rattle.block_layout.specs.Measures.{types_of}
 use Rattle.block_layout.specs.Rule55.{has_too_many_statements}
@@ -23,10 +22,8 @@ use Rattle.block_layout.specs.Types.{Types}
 use Rattle.block_layout.specs.declared.blocks.BlockLayout.{BlockLayout}
 use Rattle.plc_base.specs.declared.blocks.BlockId.{BlockId}
 use Rattle.stl_types.specs.Context.{Context}
-use Rattle.stl_types.specs.Labels.{is_unknown_label, labels_of}
 use Rattle.stl_types.specs.Resolution.{seen}
 use Rattle.stl_types.specs.Resolved.{resolved, seen_view}
-use Rattle.stl_types.specs.declared.views.Resolution.{Resolution}
 use Rattle.stl_types.specs.declared.views.Resolution.TheVariants.{Resolved}
 use Rattle.stl_types.specs.declared.views.ResolvedOperand.{ResolvedOperand}
 use Rattle.stl_types.specs.declared.views.ResolvedOperand.TheVariants as view
@@ -37,12 +34,12 @@ use Rattle.stl_codegen.specs.Instruction.{instr_by, instruction, jump_instr, res
 use Rattle.stl_codegen.specs.Operations.{call_of, jump_of}
 use Rattle.stl_list.specs.CodeBlocks.{listed_block}
 use Rattle.stl_list.specs.Labels.{label_of}
-use Rattle.stl_list.specs.Lines.{line_at, lines_from}
-use Rattle.stl_list.specs.Runs.{Run, number_at, starts, targets}
+use Rattle.stl_list.specs.Lines.{line_at}
+use Rattle.stl_list.specs.Runs.{Run}
 use Rattle.stl_list.specs.Signatures.{Signature}
 use Rattle.stl_list.specs.Statements.{Surroundings, body_of, label_at, label_of_end, statement, statement_at, statements_from, surroundings}
 use Rattle.sem_kept.specs.Accepted.{IsAccepted, program_in}
-use Rattle.sem_kept.specs.Settled.{HasCalled, HasInstruction, HasLabel, HasOperand, IsSettled}
+use Rattle.sem_kept.specs.Settled.{HasInstruction, HasLabel, HasOperand, IsSettled}
 use Rattle.sem_kept.proofs.accepted.Accepted.{IsSound, IsSoundStatement, right_tree, sound_at}
 use Rattle.sem_kept.proofs.accepted.OperandsInstr.{resolved_is}
 use Rattle.sem_kept.proofs.accepted.Settled.{statements_settle}

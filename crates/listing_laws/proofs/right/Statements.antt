@@ -1,5 +1,5 @@
 -- A statement in the place of one of the source breaks no rule by its operand or what it calls.
-use Rattle.std.proofs.Common.{◌≡◌, ℕ, zero, suc, Bool, true, false, ◌&&◌, not, List, [], ◌∷◌, length, map, Option, Some, None, option_map, if◌then◌else◌, refl, sym, ap, subst, ◌∙◌}
+use Rattle.std.proofs.Common.{◌≡◌, ℕ, zero, Bool, true, false, ◌&&◌, not, List, [], Option, Some, None, option_map, if◌then◌else◌, refl, sym, ap, subst, ◌∙◌}
 use Rattle.std.specs.Prelude.{slice_get, ◌==◌}
 use Rattle.std.specs.List.{AllByRecursion}
 use Rattle.std.specs.Option.{is_none, option_and_then}
@@ -27,16 +27,14 @@ use Rattle.stl_ast.specs.declared.names.BlockName.TheVariants as block
 use Rattle.stl_ast.specs.declared.operands.Numbered.TheVariants as numbered
 use Rattle.stl_ast.specs.declared.operands.Operand.{Operand}
 use Rattle.stl_ast.specs.declared.operands.Operand.TheVariants as operand
-use Rattle.stl_ast.specs.declared.statements.Actual.{Actual}
 use Rattle.stl_ast.specs.declared.statements.Statement.{Statement}
-use Rattle.block_layout.specs.Blocks.{known_block, named_block}
+use Rattle.block_layout.specs.Blocks.{named_block}
 use Rattle.block_layout.specs.Rule23.{names_unknown}
 use Rattle.block_layout.specs.Rule42.{operand_is_outside}
 use Rattle.block_layout.specs.Types.{Types}
 use Rattle.stl_types.specs.Calls.{calls_unknown, has_no_instance, has_wrong_instance, is_unknown_function, sees_date}
 use Rattle.stl_types.specs.Context.{Context, data_number, whole_place}
 use Rattle.stl_types.specs.Forms.{form_of}
-use Rattle.stl_types.specs.Kinds.{is_called as is_called_view}
 use Rattle.stl_types.specs.Operands.{operand_rule, rule_of, rule_seen, statement_rule}
 use Rattle.stl_types.specs.Parameters.{Callee, callee_at, callee_by, callee_of, source_callee, system_callee, system_formals}
 use Rattle.stl_types.specs.Resolution.{called_seen, id_at, instance_number, seen, whole_block}
@@ -57,11 +55,11 @@ use Rattle.stl_codegen.specs.Passed.{passed_seen}
 use Rattle.stl_list.specs.Actuals.{actual, actuals_before, actuals_by, passed_operand}
 use Rattle.stl_list.specs.Constants.{instruction_constant}
 use Rattle.stl_list.specs.Labels.{label_of}
-use Rattle.stl_list.specs.Operands.{data_block_name, implied_operand, operand_by, plain_operand, timer_or_counter}
+use Rattle.stl_list.specs.Operands.{data_block_name, implied_operand, operand_by, plain_operand}
 use Rattle.stl_list.specs.Runs.{number_at}
 use Rattle.stl_list.specs.Signatures.{called_formals}
 use Rattle.stl_list.specs.Statements.{Surroundings, statement}
-use Rattle.sem_kept.specs.Settled.{HasCalled, HasInstruction, HasLabel, HasOperand, IsSettled}
+use Rattle.sem_kept.specs.Settled.{HasCalled, HasInstruction, HasOperand, IsSettled}
 use Rattle.sem_kept.proofs.accepted.Accepted.{IsSoundActual, IsSoundCall, IsSoundStatement}
 use Rattle.sem_kept.proofs.accepted.Shared.{callable_by}
 use Rattle.listing_laws.specs.Calls.{IsInstanceAt}

@@ -1,14 +1,11 @@
 -- The bodies of a listing break no rule.
-use Rattle.std.proofs.Common.{◌≡◌, ℕ, zero, suc, ◌+◌, ◌-◌, ◌<◌, ◌≤◌, Bool, true, false, List, [], ◌∷◌, ◌++◌, length, map, Option, Some, None, refl, sym, ap, subst, ◌∙◌, add-one, arith}
+use Rattle.std.proofs.Common.{◌≡◌, ℕ, zero, suc, ◌+◌, ◌≤◌, Bool, true, false, List, [], ◌∷◌, ◌++◌, length, Option, Some, None, refl, sym, ap, subst, ◌∙◌, add-one, arith}
 use Rattle.std.specs.Prelude.{slice_get, nat_lt}
 use Rattle.std.specs.List.{AllByRecursion, flat_map}
 use Rattle.std.proofs.lemmas.Bool.{ltb-false, ltb-true}
-use Rattle.plc_base.specs.Gathered.{gathered}
 use Rattle.plc_base.specs.Least.{broken_if}
-use Rattle.plc_base.specs.declared.blocks.BlockId.{BlockId}
 use Rattle.plc_base.specs.declared.refusals.Refusal.{Refusal}
-use Rattle.flat_code.specs.Programs.{CodeBlock, DataBlock, Program}
-use Rattle.stl_ast.specs.Literals.{AreBytes}
+use Rattle.flat_code.specs.Programs.{DataBlock, Program}
 use Rattle.stl_ast.specs.declared.blocks.Block.{Block}
 use Rattle.stl_ast.specs.declared.blocks.Tree.{Tree}
 use Rattle.stl_ast.specs.declared.statements.Statement.{Statement}
@@ -18,10 +15,9 @@ use Rattle.block_layout.specs.Layouts.{layouts_of}
 use Rattle.block_layout.specs.Measures.{types_of}
 use Rattle.block_layout.specs.Operands.{in_body}
 use Rattle.block_layout.specs.Rule23.{operand_23}
-use Rattle.block_layout.specs.Rule42.{bodies_42, operand_42}
+use Rattle.block_layout.specs.Rule42.{operand_42}
 use Rattle.block_layout.specs.Types.{Types}
-use Rattle.block_layout.specs.declared.blocks.BlockLayout.{BlockLayout}
-use Rattle.stl_types.specs.Bodies.{first_context, in_bodies, in_contexts}
+use Rattle.stl_types.specs.Bodies.{in_bodies, in_contexts}
 use Rattle.stl_types.specs.Brackets.{closes_none, is_eighth, left_open, rule_29, rule_30, rule_31, with_brackets}
 use Rattle.stl_types.specs.Calls.{call_37, calls_unknown, dates_in, has_wrong_instance, is_bare_call, lacks_actual, rule_24_of_actuals, rule_34, rule_35, rule_36, rule_37, rule_38, rule_40, rule_46, supplied_twice, unnamed}
 use Rattle.stl_types.specs.Context.{Context}
@@ -29,7 +25,6 @@ use Rattle.stl_types.specs.Labels.{labels_of, labels_twice, rule_26, rule_27, un
 use Rattle.stl_types.specs.Landings.{rule_33}
 use Rattle.stl_types.specs.Lists.{lists_from, rule_32}
 use Rattle.stl_types.specs.Operands.{operands_24, rules_24_25_39}
-use Rattle.stl_types.specs.Parameters.{Callee}
 use Rattle.stl_types.specs.Unknown.{operand_20}
 use Rattle.stl_types.specs.Zones.{ends_none, is_ninth, rule_47, rule_48, rule_49, with_zones, zones_left_open}
 use Rattle.stl_list.specs.CodeBlocks.{in_lines, line_reached, listed_blocks}
@@ -37,12 +32,12 @@ use Rattle.stl_list.specs.DataBlocks.{listed_data, listed_data_blocks}
 use Rattle.stl_list.specs.Joined.{chains_of}
 use Rattle.stl_list.specs.Listing.{listed_tree}
 use Rattle.stl_list.specs.Signatures.{Signature, signatures}
-use Rattle.sem_kept.specs.Accepted.{IsAccepted, program_in}
+use Rattle.sem_kept.specs.Accepted.{program_in}
 use Rattle.sem_kept.proofs.accepted.Accepted.{AllFrom, context_at}
 use Rattle.sem_kept.proofs.accepted.OperandsCells.{all_there, measured_symbols}
 use Rattle.sem_kept.proofs.accepted.OperandsViews.{ids_same}
-use Rattle.listing_laws.specs.Again.{AreMadeOfSource, IsMadeOf, listed_again}
-use Rattle.listing_laws.specs.RightBodies.{AreBodiesReady, AreBodiesRight, AreListedBodiesRight}
+use Rattle.listing_laws.specs.Again.{listed_again}
+use Rattle.listing_laws.specs.RightBodies.{AreBodiesRight, AreListedBodiesRight}
 use Rattle.listing_laws.proofs.right.Bodies.{IsRightBody, by_calls, made_right, none_right}
 use Rattle.listing_laws.proofs.right.Named.{AreTypesOf}
 use Rattle.listing_laws.proofs.right.Shared.{lines_length, listed_length}

@@ -1,10 +1,9 @@
 -- The listed bodies break none of the rules that go by instruction words, labels and lines alone.
-use Rattle.std.proofs.Common.{◌≡◌, ℕ, List, [], Some, refl, sym, ap, subst, ◌∙◌}
+use Rattle.std.proofs.Common.{◌≡◌, ℕ, List, [], Some, sym, ap, ◌∙◌}
 use Rattle.std.specs.Prelude.{slice_get}
 use Rattle.std.proofs.lemmas.Option.{same_Some}
 use Rattle.plc_base.specs.declared.blocks.BlockId.{BlockId}
 use Rattle.plc_base.specs.declared.refusals.Refusal.{Refusal}
-use Rattle.stl_ast.specs.Literals.{AreBytes}
 use Rattle.stl_ast.specs.declared.blocks.Block.{Block}
 use Rattle.stl_ast.specs.declared.blocks.Tree.{Tree}
 use Rattle.stl_ast.specs.declared.statements.Statement.{Statement}
@@ -17,7 +16,7 @@ use Rattle.stl_codegen.specs.Compiled.{compiled, lines_in}
 use Rattle.stl_codegen.specs.Generated.{code_block}
 use Rattle.stl_list.specs.CodeBlocks.{listed_block}
 use Rattle.stl_list.specs.Statements.{surroundings}
-use Rattle.sem_kept.specs.Accepted.{IsAccepted, program_in}
+use Rattle.sem_kept.specs.Accepted.{program_in}
 use Rattle.sem_kept.proofs.accepted.Accepted.{IsSoundBody}
 use Rattle.sem_kept.proofs.accepted.JumpsRules.{AreRightFrom, right_body}
 use Rattle.listing_laws.specs.Again.{IsMadeOf, context_at, listed_again}
@@ -26,7 +25,7 @@ use Rattle.listing_laws.specs.JumpLists.{AreListsKept}
 use Rattle.listing_laws.specs.ListedLandings.{AreLandingsKept}
 use Rattle.listing_laws.specs.Statements.{offset_in}
 use Rattle.listing_laws.proofs.right.Numbered.{landings_kept, lists_kept}
-use Rattle.listing_laws.proofs.right.Placed.{body_again, body_is, listed_as, source_block}
+use Rattle.listing_laws.proofs.right.Placed.{body_is, listed_as, source_block}
 
 pub right_from : (body : List Statement) → IsSoundBody body → AreRightFrom body [] body
 right_from body h = right_body body (record {
