@@ -19,20 +19,17 @@ use Rattle.listing_laws.specs.Statements.{offset_in, run_of}
 use Rattle.listing_laws.proofs.RunLemmas.{runs_found}
 
 -- how many statements aren't empty
-written : List Statement → ℕ
+abbrev written : List Statement → ℕ
 written ss = count_by (λ s. not (is_empty s.code)) ss
 
 written_cons : (ss rest : List Statement) → written (ss ++ rest) ≡ written ss + written rest
-unfolding written
 written_cons ss rest = sum_by-append (λ (s : Statement). cond (not (is_empty s.code)) 1 0) ss rest
 
 end_unwritten : (line : ℕ) (label : Option (List ℕ)) → written (label_of_end line label) ≡ 0
-unfolding written
 end_unwritten line None = refl
 end_unwritten line (Some label) = refl
 
 one_written : (s : Statement) → written (s ∷ []) ≤ 1
-unfolding written
 one_written s = count_by-le-length (λ (s : Statement). not (is_empty s.code)) (s ∷ [])
 
 -- the last one is the END clause
@@ -91,7 +88,6 @@ runs_long x =
     ap length (runs_found x.statements) ∙ length-map x.statements (λ s. run_of (offset_in x.statements) s.instr) ∙ sym (length-map x.statements (λ s. s.line))
 
 pub few_statements : (ss : List Signature) (reached : ℕ) (x : StatedBlock) → length (compiled x).lines < 65536 → has_too_many_statements (listed_block ss reached (compiled x)) ≡ false
-unfolding written
 few_statements ss reached x few =
     let lines = lines_from reached (compiled x).lines in
     let long = lines_long reached (compiled x).lines in

@@ -19,7 +19,7 @@ use Rattle.stl_symbols.specs.Symbol.{Symbol}
 use Rattle.block_layout.specs.Cells.{components_of}
 use Rattle.block_layout.specs.InitialBytes.{initial_bytes, length_at, setting_writes, settings_at, structure_writes}
 use Rattle.block_layout.specs.Layouts.{block_layout, layouts_by, layouts_from, layouts_of}
-use Rattle.block_layout.specs.Lengths.{block_bits, length_of, shape_bits, shape_of}
+use Rattle.block_layout.specs.Lengths.{block_bits, is_structured, length_of, shape_bits, shape_of}
 use Rattle.block_layout.specs.Measures.{types_of}
 use Rattle.block_layout.specs.Paths.{structure_of}
 use Rattle.block_layout.specs.Sizes.{structure_bits}
@@ -141,7 +141,8 @@ function_kind _ e = absurd cc
 
 pub data_long : (y : Types) (blocks : List Block) (b : Block) (s : Shape) → b.kind ≡ kinds.Db → shape_of y b ≡ s → length_of y blocks b ≡ shape_bits y blocks b s / 8
 unfolding length_of
-data_long y blocks b s kind is = rw kind (ap (λ z. shape_bits y blocks b z / 8) is)
+data_long y blocks b s kind is =
+    ap (λ (k : BlockKind). if is_structured k then shape_bits y blocks b (shape_of y b) / 8 else 0) kind ∙ ap (λ z. shape_bits y blocks b z / 8) is
 
 pub structure_long : (y : Types) (blocks : List Block) (b : Block) → b.kind ≡ kinds.Fb → b.shape ≡ None → b.instance_of ≡ None → length_of y blocks b ≡ structure_bits (components_of y b) / 8
 unfolding length_of

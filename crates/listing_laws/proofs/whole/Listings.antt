@@ -119,14 +119,13 @@ own_kind kinds.Sfc = refl
 code_known : (y : Types) (ss : List Signature) (reached : ℕ) (b : CodeBlock) → has_unknown_head y (listed_block ss reached b) ≡ false
 code_known y ss reached b = ap (λ (t : Bool). is_none (if t then Some b.id else None) || false) (own_kind b.id.kind)
 
-IsFineCode : (y : Types) (blocks : List Block) (ss : List Signature) → CodeBlock → Type 0
+abbrev IsFineCode : (y : Types) (blocks : List Block) (ss : List Signature) → CodeBlock → Type 0
 IsFineCode y blocks ss b = (line : ℕ) → IsFine y blocks (listed_block ss line b)
 
 codes_fine : (y : Types) (blocks : List Block) (ss : List Signature) → ((id : BlockId) → length (formals_of ss id) ≤ 60) → (bs : List CodeBlock)
     → AllByRecursion (λ b. (line : ℕ) → IsHeadRight y (listed_block ss line b)) bs → AllByRecursion (λ b. (line : ℕ) → is_too_long y blocks (listed_block ss line b) ≡ false) bs
     → AllByRecursion (λ b. (line : ℕ) → has_too_many_statements (listed_block ss line b) ≡ false) bs → AllByRecursion (λ b. (line : ℕ) → AreDeclarationsRight y (listed_block ss line b)) bs
     → AllByRecursion (IsFineCode y blocks ss) bs
-unfolding IsFineCode
 codes_fine y blocks ss few [] heads short bodies declared = tt
 codes_fine y blocks ss few (b ∷ bs) heads short bodies declared = (
   λ line. record {
@@ -149,7 +148,6 @@ bodies_fine ss (x ∷ xs) h = (λ line. few_statements ss line x h.0.lines, bodi
 
 listed_fine : (y : Types) (blocks : List Block) (ss : List Signature) (reached : ℕ) (bs : List CodeBlock) → AllByRecursion (IsFineCode y blocks ss) bs
     → AllByRecursion (IsFine y blocks) (listed_blocks ss reached bs)
-unfolding IsFineCode
 listed_fine y blocks ss reached [] h = tt
 listed_fine y blocks ss reached (b ∷ bs) h = (h.0 reached, listed_fine y blocks ss (line_behind reached b.lines) bs h.1)
 
@@ -303,7 +301,6 @@ data_counted ss line (d ∷ ds) = (by d.instance_of, data_counted ss line ds)
 
 data_measured : (y : Types) (blocks : List Block) (p : Program) (line : ℕ) (ds : List DataBlock) → AllByRecursion (IsLaidAgain y blocks p line) ds
     → AllByRecursion (λ d. data_length y blocks (listed_data (signatures_in p) line d.number d.bytes d.instance_of) ≡ data_size d) ds
-unfolding data_size
 data_measured y blocks p line [] h = tt
 data_measured y blocks p line (d ∷ ds) h = (by d.instance_of h.0.size, data_measured y blocks p line ds h.1)
   where

@@ -1,5 +1,5 @@
 -- A listed code block declares no more parameters than its code block has (rule 52).
-use Rattle.std.proofs.Common.{◌≡◌, ℕ, suc, ◌+◌, ◌≤◌, Bool, true, false, cond, not, List, [], ◌∷◌, ◌++◌, length, length-append, flat_map, Option, Some, None, refl, ap, subst, ◌∙◌, arith}
+use Rattle.std.proofs.Common.{◌≡◌, ℕ, suc, ◌+◌, ◌≤◌, Bool, true, false, cond, not, List, [], ◌∷◌, ◌++◌, length, length-append, max, Option, Some, None, refl, ap, ◌∙◌, arith}
 use Rattle.std.specs.Prelude.{◌==◌, ◌&&◌, if◌then◌else◌, nat_eq, nat_lt}
 use Rattle.std.specs.List.{AllByRecursion, count_by, find, sum_by}
 use Rattle.std.specs.Option.{option_map}
@@ -39,11 +39,10 @@ few_formals c first (b ∷ bs) h id = by (is_same_block b.id id)
 
 -- ---- each is declared once
 
-bit : Bool → ℕ
+abbrev bit : Bool → ℕ
 bit t = cond t 1 0
 
 here_long : (line : ℕ) (kind : PartKind) (f : Formal) → length (declared_here line kind f) ≡ bit (nat_eq (part_rank f.section) (part_rank kind) && not (is_return f))
-unfolding bit
 here_long line kind f = by (nat_eq (part_rank f.section) (part_rank kind) && not (is_return f))
   where
     by : (t : Bool) → length (if t then plain_declaration line f ∷ [] else []) ≡ cond t 1 0
@@ -51,8 +50,7 @@ here_long line kind f = by (nat_eq (part_rank f.section) (part_rank kind) && not
     by false = refl
 
 once : (s : PartKind) (r : Bool)
-    → bit (nat_eq (part_rank s) 0 && not r) + bit (nat_eq (part_rank s) 1 && not r) + bit (nat_eq (part_rank s) 2 && not r) + bit r ≤ 1
-unfolding bit
+    → bit (nat_eq (part_rank s) (part_rank part.Input) && not r) + bit (nat_eq (part_rank s) (part_rank part.Output) && not r) + bit (nat_eq (part_rank s) (part_rank part.InOut) && not r) + bit r ≤ 1
 once part.Input true = omega arith
 once part.Input false = omega arith
 once part.Output true = omega arith
@@ -65,7 +63,6 @@ once part.Temp true = omega arith
 once part.Temp false = omega arith
 
 return_here : (f : Formal) (fs : List Formal) → returned (result_of (f ∷ fs)) ≤ bit (is_return f) + returned (result_of fs)
-unfolding bit
 return_here f fs = by (is_return f)
   where
     by : (t : Bool) → returned (option_map (λ (g : Formal). g.kind) (if t then Some f else find is_return fs)) ≤ cond t 1 0 + returned (result_of fs)
@@ -100,7 +97,7 @@ section_counted line kind items = by (length items == 0)
     by false =
         let p : Part = record { line = line; kind = kind; items = items } in
         let all = sum_by-cons counted_in p [] in
-        let here = one (is_parameter kind) in omega (arith, all, here)
+        let here : counted_in p ≤ (if is_parameter kind then length items else 0) = one (is_parameter kind) in omega (arith, all, here)
 
 five_counted : (a b c d e : List Part) → sum_by counted_in (a ++ b ++ c ++ d ++ e) ≡ sum_by counted_in a + sum_by counted_in b + sum_by counted_in c + sum_by counted_in d + sum_by counted_in e
 five_counted a b c d e =
@@ -118,11 +115,11 @@ sections_counted line fs b =
     let s = bytes_here line static_name (static_bytes b) [] in
     let t = bytes_here line temporary_name b.local_len [] in
     let all = five_counted (section line part.Input i) (section line part.Output q) (section line part.InOut both) (section line part.Static s) (section line part.Temp t) in
-    let one = section_counted line part.Input i in
-    let two = section_counted line part.Output q in
-    let three = section_counted line part.InOut both in
-    let four = section_counted line part.Static s in
-    let five = section_counted line part.Temp t in
+    let one : sum_by counted_in (section line part.Input i) ≤ length i = section_counted line part.Input i in
+    let two : sum_by counted_in (section line part.Output q) ≤ length q = section_counted line part.Output q in
+    let three : sum_by counted_in (section line part.InOut both) ≤ length both = section_counted line part.InOut both in
+    let four : sum_by counted_in (section line part.Static s) ≤ 0 = section_counted line part.Static s in
+    let five : sum_by counted_in (section line part.Temp t) ≤ 0 = section_counted line part.Temp t in
     let few = all_declared line fs in omega (arith, all, one, two, three, four, five, few)
 
 not_above : (n : ℕ) → n ≤ 60 → nat_lt 60 n ≡ false

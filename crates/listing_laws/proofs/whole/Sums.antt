@@ -30,7 +30,7 @@ use Rattle.listing_laws.proofs.whole.Instances.{bytes_long}
 
 -- ---- from the sum of all to each of them
 
-counted : Block → ℕ
+abbrev counted : Block → ℕ
 counted b = cond (is_data_block b.kind) 1 0
 
 not_many : (is : Bool) (n m : ℕ) → n + (cond is 1 0 + m) ≤ 256 → (is && nat_le 256 n) ≡ false
@@ -38,7 +38,6 @@ not_many true n m h = grind (arith, nat_tests)
 not_many false n m h = refl
 
 pub few_data : (before bs : List Block) → data_blocks before + data_blocks bs ≤ 256 → AllHeads (λ before b. is_one_too_many before b ≡ false) before bs
-unfolding counted
 few_data before [] h = tt
 few_data before (b ∷ bs) h =
     let here = sum_by-cons counted b bs in
@@ -87,12 +86,11 @@ both_summed f none g of bs xs h k =
 
 -- ---- the bytes of the data blocks of a source
 
-pub data_size : DataBlock → ℕ
+abbrev pub data_size : DataBlock → ℕ
 data_size d = length d.bytes
 
 one_size : (symbols : List Symbol) (t : Tree) (k : ℕ) (b : Block) (l : BlockLayout) → IsSound symbols t k b l
     → sum_by data_size (data_block_of (context_at symbols t k) l l.id) ≤ data_length (types_of symbols t.blocks) t.blocks b
-unfolding data_size
 one_size symbols t k b l h = by l.id refl
   where
     y : Types
