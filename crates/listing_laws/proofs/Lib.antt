@@ -24,4 +24,4 @@ mod WordLemmas
 mod called
 pub mod declared
 mod ruled
-mod whole
+mod unbroken

@@ -1,4 +1,4 @@
-use Rattle.listing_laws.proofs.whole.Listings.{are_right, are_whole, data_laid_again}
+use Rattle.listing_laws.proofs.unbroken.Listings.{are_right, are_whole, data_laid_again}
 use Rattle.listing_laws.proofs.whole.law_of_whole_listings.Goals as goal
 
 pub returns : goal.returns

@@ -1,6 +1,6 @@
 -- The blocks of a listing: none breaks a rule as a whole, and each data block is laid as it was.
 use Rattle.std.proofs.Common.{◌≡◌, ℕ, zero, suc, ◌+◌, ◌≤◌, ◌/◌, Bool, true, false, cond, List, [], ◌∷◌, ◌++◌, length, map, Option, Some, None, is_none, refl, sym, ap, subst, ◌∙◌, arith}
-use Rattle.std.specs.Prelude.{◌&&◌, ◌||◌, if◌then◌else◌, nat_le, nat_lt, slice_get}
+use Rattle.std.specs.Prelude.{◌||◌, if◌then◌else◌, nat_lt, slice_get}
 use Rattle.std.specs.List.{AllByRecursion, sum_by}
 use Rattle.std.proofs.lemmas.Bool.Decides.{nat_tests}
 use Rattle.plc_base.proofs.ListLemmas.{all_append}
@@ -30,10 +30,9 @@ use Rattle.block_layout.specs.Rule54.{data_length, exceeds_total, total}
 use Rattle.block_layout.specs.Rule55.{has_too_many_statements}
 use Rattle.block_layout.specs.Types.{Types}
 use Rattle.block_layout.specs.declared.blocks.BlockLayout.{BlockLayout}
-use Rattle.block_layout.specs.declared.blocks.Shape.{Shape}
 use Rattle.block_layout.specs.declared.blocks.Shape.TheVariants as shape
 use Rattle.stl_codegen.specs.Compiled.{StatedBlock, compiled}
-use Rattle.stl_codegen.specs.Generated.{code_blocks_of, data_blocks_of}
+use Rattle.stl_codegen.specs.Generated.{code_blocks_of}
 use Rattle.stl_list.specs.CodeBlocks.{in_lines, line_reached, listed_block, listed_blocks}
 use Rattle.stl_list.specs.DataBlocks.{function_block, listed_data, listed_data_blocks}
 use Rattle.stl_list.specs.Joined.{chains_of}
@@ -50,17 +49,17 @@ use Rattle.listing_laws.specs.Declared.{IsDeclaredAgain, signatures_in}
 use Rattle.listing_laws.specs.Ids.{data_id, program_ids}
 use Rattle.listing_laws.specs.OwnData.{IsOwnDataAgain}
 use Rattle.listing_laws.specs.Rules.{AreDeclarationsRight, IsHeadRight}
-use Rattle.listing_laws.specs.Whole.{AreBlocksRightAgain, AreDataLaid, HasShapeAgain, IsDataAt, IsInstanceOf}
+use Rattle.listing_laws.specs.Whole.{AreBlocksRightAgain, AreDataLaid, HasShapeAgain, IsDataAt}
 use Rattle.listing_laws.proofs.HeadLemmas.{blocks_once}
 use Rattle.listing_laws.proofs.IdLemmas.{blocks_found, source_ids, source_symbols}
 use Rattle.listing_laws.proofs.OrderLemmas.{all_sorted, length_sorted}
 use Rattle.listing_laws.proofs.declared.Blocks.{IsSourced, are_declared_again, listed_heads, listed_right, listed_short, sourced}
 use Rattle.listing_laws.proofs.declared.OwnData.{own_data}
-use Rattle.listing_laws.proofs.whole.Bodies.{few_statements}
-use Rattle.listing_laws.proofs.whole.Heads.{blocks_right, heads_whole}
-use Rattle.listing_laws.proofs.whole.Instances.{HasFunctionBlock, IsStored, all_stored, data_long, structure_long}
-use Rattle.listing_laws.proofs.whole.Parameters.{few_formals, few_parameters}
-use Rattle.listing_laws.proofs.whole.Sums.{both_summed, data_size, few_data, short_data, source_bytes}
+use Rattle.listing_laws.proofs.unbroken.Bodies.{few_statements}
+use Rattle.listing_laws.proofs.unbroken.Heads.{blocks_right, heads_whole}
+use Rattle.listing_laws.proofs.unbroken.Instances.{HasFunctionBlock, IsStored, all_stored, data_long, structure_long}
+use Rattle.listing_laws.proofs.unbroken.Parameters.{few_formals, few_parameters}
+use Rattle.listing_laws.proofs.unbroken.Sums.{both_summed, counted, data_size, few_data, short_data, source_bytes}
 
 -- ---- lists
 
@@ -180,8 +179,7 @@ instance_laid y blocks p line d number f known listed again =
     let b = listed_data ss line d.number d.bytes (Some number) in
     let c = listed_block ss listed.reached f.block in
     let of_ : shape_of y b ≡ shape.Of f.place = ap shape_at known in
-    let kind : f.block.id.kind ≡ kinds.Fb = ap (λ (i : BlockId). i.kind) f.id in
-    (
+    let kind : f.block.id.kind ≡ kinds.Fb = ap (λ (i : BlockId). i.kind) f.id in (
       record { place = f.place; block = f.block; there = f.there; id = f.id; length = f.size; shape = of_ },
       data_long y blocks b (shape.Of f.place) refl of_ ∙ ap (λ (o : Option Block). block_bits y o / 8) listed.there
           ∙ sym (structure_long y blocks c kind refl refl) ∙ again.instance_len y blocks listed.reached (ap is_function_block kind) ∙ f.size,
@@ -291,11 +289,11 @@ codes_no_data : (ss : List Signature) (reached : ℕ) (bs : List CodeBlock) → 
 codes_no_data ss reached [] h = tt
 codes_no_data ss reached (b ∷ bs) h = (no_data b.id.kind h.0, codes_no_data ss (line_behind reached b.lines) bs h.1)
 
-data_counted : (ss : List Signature) (line : ℕ) (ds : List DataBlock) → AllByRecursion (λ d. cond (is_data_block (listed_data ss line d.number d.bytes d.instance_of).kind) 1 0 ≡ 1) ds
+data_counted : (ss : List Signature) (line : ℕ) (ds : List DataBlock) → AllByRecursion (λ d. counted (listed_data ss line d.number d.bytes d.instance_of) ≡ 1) ds
 data_counted ss line [] = tt
 data_counted ss line (d ∷ ds) = (by d.instance_of, data_counted ss line ds)
   where
-    by : (o : Option ℕ) → cond (is_data_block (listed_data ss line d.number d.bytes o).kind) 1 0 ≡ 1
+    by : (o : Option ℕ) → counted (listed_data ss line d.number d.bytes o) ≡ 1
     by None = refl
     by (Some of) = refl
 
@@ -346,7 +344,7 @@ tree_fine P p h k =
 tree_counted : (p : Program) → AllByRecursion (λ b. is_code b.id.kind ≡ true) (in_lines p.code_blocks) → data_blocks (listed_tree p).blocks ≡ length p.data_blocks
 unfolding listed_tree
 tree_counted p h =
-    both_summed (λ (b : Block). cond (is_data_block b.kind) 1 0) (λ b e. ap (λ (t : Bool). cond t 1 0) e) (λ d. 1) (listed_in p)
+    both_summed counted (λ b e. ap (λ (t : Bool). cond {A = ℕ} t 1 0) e) (λ d. 1) (listed_in p)
     (listed_blocks (signatures_in p) 1 (in_lines p.code_blocks)) p.data_blocks (codes_no_data (signatures_in p) 1 (in_lines p.code_blocks) h)
     (data_counted (signatures_in p) (data_line p) p.data_blocks)
     ∙ summed_ones p.data_blocks

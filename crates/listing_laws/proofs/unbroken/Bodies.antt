@@ -1,10 +1,10 @@
 -- A listed code block has at most as many statements as its source, but for the one that returns (rule 55).
-use Rattle.std.proofs.Common.{◌≡◌, ℕ, suc, ◌+◌, ◌-◌, ◌<◌, ◌≤◌, Bool, true, false, cond, not, List, [], ◌∷◌, ◌++◌, length, length-map, map, max, Option, Some, None, refl, sym, ap, ◌∙◌, arith}
-use Rattle.std.specs.Prelude.{◌==◌, if◌then◌else◌, nat_eq, nat_lt}
-use Rattle.std.specs.List.{count_by, sum_by}
-use Rattle.std.proofs.lemmas.Bool.{eqb-eq}
+use Rattle.std.proofs.Common.{◌≡◌, ℕ, zero, suc, ◌+◌, ◌-◌, ◌<◌, ◌≤◌, Bool, true, false, cond, not, List, [], ◌∷◌, ◌++◌, length, max, Option, Some, None, refl, sym, ap, ◌∙◌, arith}
+use Rattle.std.specs.Prelude.{◌==◌, if◌then◌else◌, nat_lt}
+use Rattle.std.specs.List.{count_by}
 use Rattle.std.proofs.lemmas.Bool.Decides.{nat_tests}
-use Rattle.std.proofs.lemmas.List.Sums.{count_by-le-length, sum_by-append, sum_by-cons}
+use Rattle.std.proofs.lemmas.List.{length-map}
+use Rattle.std.proofs.lemmas.List.Sums.{count_by-le-length, sum_by-append}
 use Rattle.flat_code.specs.Programs.{CodeBlock}
 use Rattle.stl_ast.specs.Statements.{is_empty}
 use Rattle.stl_ast.specs.declared.statements.Statement.{Statement}
@@ -14,7 +14,7 @@ use Rattle.stl_list.specs.CodeBlocks.{listed_block}
 use Rattle.stl_list.specs.Lines.{line_at, lines_from}
 use Rattle.stl_list.specs.Runs.{Run, runs}
 use Rattle.stl_list.specs.Signatures.{Signature}
-use Rattle.stl_list.specs.Statements.{Surroundings, body_of, label_alone, label_at, label_of_end, statement, statement_at, statements_from, surroundings}
+use Rattle.stl_list.specs.Statements.{Surroundings, body_of, label_at, label_of_end, statement, statement_at, statements_from, surroundings}
 use Rattle.listing_laws.specs.Statements.{offset_in, run_of}
 use Rattle.listing_laws.proofs.RunLemmas.{runs_found}
 
@@ -36,13 +36,10 @@ one_written s = count_by-le-length (λ (s : Statement). not (is_empty s.code)) (
 few_from : (s : Surroundings) (n : ℕ) (rs : List Run) → n + length rs ≡ length s.lines → written (statements_from s n rs) ≤ length rs - 1
 unfolding statement_at
 few_from s n [] e = omega arith
-few_from s n (r ∷ rs) e = by (suc n == length s.lines) refl
+few_from s n (r ∷ rs) e = by (suc n == length s.lines) refl (few_from s (suc n) rs (omega (arith, e)))
   where
     rest : List Statement
     rest = statements_from s (suc n) rs
-
-    more : written rest ≤ length rs - 1
-    more = few_from s (suc n) rs (omega (arith, e))
 
     last : suc n ≡ length s.lines → length rs ≡ 0
     last is = omega (arith, e, is)
@@ -54,20 +51,20 @@ few_from s n (r ∷ rs) e = by (suc n == length s.lines) refl
         positive zero is = absurd (other (omega (arith, e, is)))
         positive (suc m) is = omega arith
 
-    by : (t : Bool) → (suc n == length s.lines) ≡ t
+    not_same : (m k : ℕ) → (m == k) ≡ false → m ≡ k → ⊥
+    not_same m k is e = grind (arith, nat_tests)
+
+    by : (t : Bool) → (suc n == length s.lines) ≡ t → written rest ≤ length rs - 1
         → written ((if t then label_of_end (line_at s.lines n) (label_at s.targets n) else statement s n r ∷ []) ++ rest) ≤ length (r ∷ rs) - 1
-    by true is =
+    by true is more =
         let all = written_cons (label_of_end (line_at s.lines n) (label_at s.targets n)) rest in
         let none = end_unwritten (line_at s.lines n) (label_at s.targets n) in
         omega (arith, all, none, more)
-    by false is =
+    by false is more =
         let all = written_cons (statement s n r ∷ []) rest in
         let one = one_written (statement s n r) in
-        let behind = some (λ e. not_same (suc n) (length s.lines) is e) in
+        let behind = some (not_same (suc n) (length s.lines) is) in
         omega (arith, all, one, more, behind)
-      where
-        not_same : (m k : ℕ) → nat_eq m k ≡ false → m ≡ k → ⊥
-        not_same m k is e = grind (arith, nat_tests)
 
 lines_long : (reached : ℕ) (lines : List ℕ) → length (lines_from reached lines) ≡ length lines
 lines_long reached [] = refl

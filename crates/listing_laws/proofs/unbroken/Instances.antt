@@ -1,9 +1,9 @@
 -- The data blocks of an accepted source: each is within its length, and each instance as long as the
 -- structure of its function block.
 use Rattle.std.proofs.Common.{◌≡◌, ℕ, zero, suc, ◌+◌, ◌≤◌, ◌/◌, Bool, true, false, List, [], ◌∷◌, ◌++◌, length, replicate, map, Option, Some, None, refl, sym, ap, subst, ◌∙◌, arith}
-use Rattle.std.specs.Prelude.{if◌then◌else◌, nat_lt, slice_get}
+use Rattle.std.specs.Prelude.{if◌then◌else◌, slice_get}
 use Rattle.std.specs.List.{AllByRecursion}
-use Rattle.std.specs.Option.{option_and_then, option_map}
+use Rattle.std.specs.Option.{option_and_then}
 use Rattle.std.proofs.lemmas.Bool.{ltb-false}
 use Rattle.std.proofs.lemmas.List.{length-replicate}
 use Rattle.plc_base.proofs.ListLemmas.{all_back, all_front}
@@ -106,12 +106,12 @@ block_there symbols t k l e = laid_block (types_of symbols t.blocks) t.blocks []
 -- ---- the length of an instance
 
 -- a function block of the program, with instances of so many bytes
-pub record HasFunctionBlock (blocks : List CodeBlock) (number size : ℕ) : Type 0 where
+pub record HasFunctionBlock (blocks : List CodeBlock) (number bytes : ℕ) : Type 0 where
   pub place : ℕ
   pub block : CodeBlock
   pub there : slice_get blocks place ≡ Some block
   pub id : block.id ≡ function_block number
-  pub size : block.instance_len ≡ size
+  pub size : block.instance_len ≡ bytes
 
 pub record IsStored (blocks : List CodeBlock) (d : DataBlock) : Type 0 where
   pub short : length d.bytes ≤ 16384
@@ -149,7 +149,7 @@ unfolding length_of
 structure_long y blocks b kind shape instance = rw kind (rw shape (rw instance refl))
 
 no_shape : (b : Block) → b.kind ≡ kinds.Fb → IsShapeOf b.kind b.shape b.instance_of b.components → (b.shape ≡ None) × (b.instance_of ≡ None)
-no_shape b kind h = let own = subst (λ (k : BlockKind). IsShapeOf k b.shape b.instance_of b.components) kind h in (own.0, own.1.0)
+no_shape b kind h = let own = subst (λ (k : BlockKind). IsShapeOf k b.shape b.instance_of b.components) kind h in (own.0, own.1)
 
 same_id : (id : BlockId) (number : ℕ) → is_function_block id.kind ≡ true → id.number ≡ number → id ≡ function_block number
 same_id id number fb e = let kind = function_kind id.kind fb in λ i. record { kind = kind i; number = e i }
@@ -202,7 +202,8 @@ found_block_of symbols t tree size number (shape.Of place) e long = by (slice_ge
             test false fb is = absurd cc
             test true fb is =
                 let b = block_there symbols t place l laid in
-                from_block symbols t size place b.block l id number (sound_at symbols t tree place b.block l b.there laid) named fb cc (long place refl)
+                let same : id.number ≡ number = cc in
+                from_block symbols t size place b.block l id number (sound_at symbols t tree place b.block l b.there laid) named fb same (long place refl)
 
 stored : (symbols : List Symbol) (t : Tree) → IsSoundTree symbols t → (k : ℕ) (b : Block) (l : BlockLayout) (id : BlockId) → IsSound symbols t k b l → l.id ≡ Some id → is_data_block id.kind ≡ true
     → IsStored (in_lines (program_in symbols t).code_blocks) (data_block (context_at symbols t k) l id)

@@ -1,5 +1,5 @@
 -- A listed code block declares no more parameters than its code block has (rule 52).
-use Rattle.std.proofs.Common.{◌≡◌, ℕ, suc, ◌+◌, ◌≤◌, Bool, true, false, cond, not, List, [], ◌∷◌, ◌++◌, length, length-append, max, Option, Some, None, refl, ap, ◌∙◌, arith}
+use Rattle.std.proofs.Common.{◌≡◌, ℕ, suc, ◌+◌, ◌≤◌, Bool, true, false, cond, not, List, [], ◌∷◌, ◌++◌, length, length-append, max, Some, refl, ap, arith}
 use Rattle.std.specs.Prelude.{◌==◌, ◌&&◌, if◌then◌else◌, nat_eq, nat_lt}
 use Rattle.std.specs.List.{AllByRecursion, count_by, find, sum_by}
 use Rattle.std.specs.Option.{option_map}
@@ -31,11 +31,12 @@ formals_long c returns behind index first (p ∷ ps) = ap suc (formals_long c re
 
 pub few_formals : (c : Chains) (first : ℕ) (bs : List CodeBlock) → AllByRecursion (λ b. length b.params ≤ 60) bs → (id : BlockId) → length (formals_of (signatures_from c first bs) id) ≤ 60
 few_formals c first [] h id = omega arith
-few_formals c first (b ∷ bs) h id = by (is_same_block b.id id)
+few_formals c first (b ∷ bs) h id = by (is_same_block b.id id) (few_formals c (first + length b.params) bs h.1 id)
   where
-    by : (t : Bool) → length (if t then (signature c first b).formals else formals_of (signatures_from c (first + length b.params) bs) id) ≤ 60
-    by true = let same = formals_long c (is_function b.id.kind) false 0 first b.params in let few = h.0 in omega (arith, same, few)
-    by false = few_formals c (first + length b.params) bs h.1 id
+    by : (t : Bool) → length (formals_of (signatures_from c (first + length b.params) bs) id) ≤ 60
+        → length (if t then (signature c first b).formals else formals_of (signatures_from c (first + length b.params) bs) id) ≤ 60
+    by true more = let same = formals_long c (is_function b.id.kind) false 0 first b.params in let few = h.0 in omega (arith, same, few)
+    by false more = more
 
 -- ---- each is declared once
 

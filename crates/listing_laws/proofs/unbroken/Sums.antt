@@ -26,11 +26,11 @@ use Rattle.sem_kept.proofs.accepted.Shared.{kind_there}
 use Rattle.sem_kept.proofs.accepted.Sizes.{laid_mapped}
 use Rattle.sem_kept.proofs.accepted.SizesBlocks.{few_data_bytes}
 use Rattle.sem_kept.proofs.accepted.SizesSums.{each_sum, sorted_sum}
-use Rattle.listing_laws.proofs.whole.Instances.{bytes_long}
+use Rattle.listing_laws.proofs.unbroken.Instances.{bytes_long}
 
 -- ---- from the sum of all to each of them
 
-abbrev counted : Block → ℕ
+abbrev pub counted : Block → ℕ
 counted b = cond (is_data_block b.kind) 1 0
 
 not_many : (is : Bool) (n m : ℕ) → n + (cond is 1 0 + m) ≤ 256 → (is && nat_le 256 n) ≡ false
