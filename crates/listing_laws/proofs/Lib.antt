@@ -24,3 +24,4 @@ mod WordLemmas
 mod called
 pub mod declared
 mod ruled
+mod unbroken
