@@ -25,3 +25,4 @@ mod called
 pub mod declared
 mod right
 mod ruled
+mod unbroken
