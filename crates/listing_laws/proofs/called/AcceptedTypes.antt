@@ -209,7 +209,7 @@ not_any P (b ∷ bs) e = by (P (compiled b)) refl e (not_any P bs)
     by true is h more = absurd cc
     by false is h more = (is, more h)
 
-components_same : (symbols : List Symbol) (t : Tree) (k : ℕ) (b : Block) (l : BlockLayout)
+pub components_same : (symbols : List Symbol) (t : Tree) (k : ℕ) (b : Block) (l : BlockLayout)
     → IsSound symbols t k b l → l.components ≡ components_of (types_of symbols t.blocks) b
 unfolding block_layout
 components_same symbols t k b l h = ap (λ (z : BlockLayout). z.components) h.layout
@@ -288,7 +288,7 @@ module _ (symbols : List Symbol) (t : Tree) (tree : IsSoundTree symbols t) where
         (source_matched b l (cells_at (layouts_of t symbols) k false)
         (components_same symbols t k b l sound ∙ sym (cells_are symbols t k b l sound false)))
 
-    own_parameters : in_function c ≡ true → AllByRecursion IsParameterCell (cells_at (layouts_of t symbols) k false)
+    pub own_parameters : in_function c ≡ true → AllByRecursion IsParameterCell (cells_at (layouts_of t symbols) k false)
     own_parameters e =
         cells_parameters (cells_at (layouts_of t symbols) k false)
         (subst AreParameters (sym (cells_are symbols t k b l sound false))

@@ -21,7 +21,7 @@ not_not : (t : Bool) → not t ≡ false → t ≡ true
 not_not true e = refl
 not_not false e = absurd cc
 
-same_widths : (a b : Width) → width_number a ≡ width_number b → a ≡ b
+pub same_widths : (a b : Width) → width_number a ≡ width_number b → a ≡ b
 same_widths width.Bit width.Bit e = refl
 same_widths width.Byte width.Byte e = refl
 same_widths width.Word width.Word e = refl
