@@ -23,5 +23,6 @@ mod SymbolOrderLemmas
 mod WordLemmas
 mod called
 pub mod declared
+mod made
 mod remade
 mod ruled
