@@ -51,7 +51,7 @@ use Rattle.sem_kept.proofs.accepted.RecordOrder.{Rise, RiseFrom}
 use Rattle.sem_kept.proofs.accepted.RecordParams.{AllBefore, Covers, IsNew, declarations_new, params_right, sections_once}
 use Rattle.sem_kept.proofs.accepted.Shared.{kind_there, same_kind}
 use Rattle.sem_kept.proofs.accepted.Verified.{accepted_verifies}
-use Rattle.listing_laws.specs.Declared.{AreDeclaredAgain, AreKindsWide, AreWide, IsDeclaredAgain, signatures_in}
+use Rattle.listing_laws.specs.Declared.{AreChainsWide, AreDeclaredAgain, AreKindsWide, AreWide, IsDeclaredAgain, signatures_in}
 use Rattle.listing_laws.proofs.declared.Chains.{signatures_wide, widths}
 use Rattle.listing_laws.proofs.declared.Links.{program_good}
 use Rattle.listing_laws.proofs.declared.Groups.{AreListed, AreOf, Ends, HasGroups, Returns, all_listed}
@@ -501,6 +501,14 @@ codes_known source file symbols t accepted bytes file_bytes =
     let from = all_compiled IsSourced blocks (sound_code_blocks symbols t (λ x. IsSourced (compiled x)) tree (sourced symbols t)) in
     all_both IsSourced (IsKnown (chains_of p.code_blocks) (signatures_in p)) p.code_blocks from
     (all_known (chains_of p.code_blocks) 0 p.code_blocks (rise_after blocks (code_blocks_rise symbols t tree)) (kinds_wide p (all_codes p.code_blocks from) verified))
+
+-- and the types that chains of passings give to parameters have their widths
+pub codes_wide : (source file : List ℕ) (symbols : List Symbol) (t : Tree) → IsAccepted source file symbols t → AreBytes source → AreBytes file → AreChainsWide (program_in symbols t)
+codes_wide source file symbols t accepted bytes file_bytes =
+    let tree = right_tree source file symbols t accepted in
+    let blocks = code_blocks_of t symbols (layouts_of t symbols) in
+    let from = all_compiled IsSourced blocks (sound_code_blocks symbols t (λ x. IsSourced (compiled x)) tree (sourced symbols t)) in
+    kinds_wide (program_in symbols t) (all_codes (program_in symbols t).code_blocks from) (accepted_verifies source file symbols t accepted bytes file_bytes).1
 
 -- no block has the kind and number of one behind it
 pub fronts_apart : (front back : List StatedBlock) (b : StatedBlock) → Rise is_code_before (front ++ b ∷ back)
