@@ -434,11 +434,11 @@ blocks_named c (b ∷ bs) (l ∷ ls) symbols (one, more) (no_bit, no_bits) =
 
 -- ---- runs
 
-abbrev PreparesNoBit : FlatOperand → Type 0
+abbrev pub PreparesNoBit : FlatOperand → Type 0
 PreparesNoBit (flat.Pass index p) = PassedIsNoBit p
 PreparesNoBit _ = Unit {0}
 
-abbrev ActsOnNoBit : (before : List OpData) (code : ℕ) → FlatOperand → Type 0
+abbrev pub ActsOnNoBit : (before : List OpData) (code : ℕ) → FlatOperand → Type 0
 ActsOnNoBit before code (flat.Direct a w byte bit) = IsNoBit a w
 ActsOnNoBit before code (flat.Called kind number instance) = IsCallBy before code kind instance
 ActsOnNoBit before code _ = Unit {0}

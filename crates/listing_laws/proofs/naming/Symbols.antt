@@ -2,12 +2,12 @@
 use Rattle.std.proofs.Common.{◌≡◌, ℕ, ◌+◌, Bool, true, false, not, List, [], ◌∷◌, ◌++◌, length, take, drop, Option, Some, None, is_some, Result, Ok, Err, refl, subst}
 use Rattle.std.specs.Prelude.{IfOk, bytes_eq, find, nat_eq, ◌==◌, if◌then◌else◌}
 use Rattle.std.specs.Char.{is_ascii_digit}
-use Rattle.std.specs.List.{AllByRecursion, list_all, prefix_len}
+use Rattle.std.specs.List.{AllByRecursion, prefix_len}
 use Rattle.std.specs.Option.{option_map, IfSome}
 use Rattle.std.specs.Str.Lines.{lines}
 use Rattle.plc_base.proofs.ListLemmas.{all_append}
-use Rattle.plc_base.proofs.TruthLemmas.{and_first, and_second}
 use Rattle.plc_base.specs.declared.places.Area.{Area}
+use Rattle.plc_base.specs.declared.places.Area.TheVariants as area
 use Rattle.plc_base.specs.declared.places.Width.{Width}
 use Rattle.plc_base.specs.declared.places.Width.TheVariants as width
 use Rattle.plc_base.specs.declared.refusals.Refusal.{Refusal}
@@ -16,14 +16,10 @@ use Rattle.stl_symbols.specs.Address.{address_letters, address_of, bit_address, 
 use Rattle.stl_symbols.specs.Line.{Columns, columns}
 use Rattle.stl_symbols.specs.Symbol.{Symbol, symbol_named}
 use Rattle.stl_symbols.specs.Symbols.{and_then_lines, declaration, declaration_of, declared, is_name, most_symbols, symbols_in, with_columns, with_declaration, with_line, with_lines, with_symbol, without_blanks, without_last_blanks}
-use Rattle.stl_symbols.specs.declared.addresses.Address.{Address}
-use Rattle.stl_symbols.specs.declared.addresses.Address.TheVariants.{Names, NoSymbol}
-use Rattle.stl_symbols.specs.declared.addresses.Letters.{Letters}
-use Rattle.stl_symbols.specs.declared.addresses.Letters.TheVariants as letters
 use Rattle.stl_symbols.specs.declared.languages.Language.{Language}
 use Rattle.stl_symbols.specs.declared.targets.Target.{Target}
 use Rattle.stl_symbols.specs.declared.targets.Target.TheVariants as target
-use Rattle.listing_laws.proofs.naming.Places.{found_among, made, no_bit, no_bit_is}
+use Rattle.listing_laws.proofs.naming.Places.{found_among, made}
 use Rattle.listing_laws.specs.Bodies.{IsNoBit}
 
 abbrev pub TargetIsNoBit : Target → Type 0
@@ -38,65 +34,79 @@ AreNoBits symbols = AllByRecursion SymbolIsNoBit symbols
 
 -- ---- an address
 
-abbrev AddressIsNoBit : Address → Type 0
-AddressIsNoBit (Names t) = TargetIsNoBit t
-AddressIsNoBit NoSymbol = Unit {0}
+-- what an address declares with a name, if anything
+abbrev Declares : {A : Type 0} → (A → Option Symbol) → A → Type 0
+Declares view a = IfSome (view a) SymbolIsNoBit
 
-abbrev letters_no_bit : Letters → Bool
-letters_no_bit (letters.Variable a w) = no_bit a w
-letters_no_bit _ = true
-
-bit_plain : (a : Area) (text : List ℕ) → IsNoBit a width.Bit → IfSome (bit_address a text) AddressIsNoBit
+bit_plain : (name : List ℕ) (a : Area) (text : List ℕ) → IsNoBit a width.Bit → IfSome (bit_address a text) (Declares (declared name))
 unfolding bit_address
-bit_plain a text is =
+bit_plain name a text is =
     let point = prefix_len (λ b. not (b == 46)) text in
-    chained (number_of (take point text)) _ (λ byte. Unit {0}) AddressIsNoBit (none_holds (number_of (take point text)))
-    (λ byte h. made (bit_behind (drop point text)) (λ bit. variable a width.Bit byte bit) AddressIsNoBit (λ bit. is))
+    chained (number_of (take point text)) _ (λ byte. Unit {0}) (Declares (declared name)) (none_holds (number_of (take point text)))
+    (λ byte h. made (bit_behind (drop point text)) (λ bit. variable a width.Bit byte bit) (Declares (declared name)) (λ bit. is))
 
-numbered_plain : (l : Letters) (text : List ℕ) → letters_no_bit l ≡ true → IfSome (numbered l text) AddressIsNoBit
-numbered_plain (letters.Variable a width.Bit) text e = bit_plain a text (no_bit_is a width.Bit e)
-numbered_plain (letters.Variable a width.Byte) text e = made (number_of text) _ AddressIsNoBit (λ n. no_bit_is a width.Byte e)
-numbered_plain (letters.Variable a width.Word) text e = made (number_of text) _ AddressIsNoBit (λ n. no_bit_is a width.Word e)
-numbered_plain (letters.Variable a width.Dword) text e = made (number_of text) _ AddressIsNoBit (λ n. no_bit_is a width.Dword e)
-numbered_plain letters.Timer text e = made (number_of text) _ AddressIsNoBit (λ n. tt)
-numbered_plain letters.Counter text e = made (number_of text) _ AddressIsNoBit (λ n. tt)
-numbered_plain (letters.Block kind) text e = made (number_of text) _ AddressIsNoBit (λ n. tt)
-numbered_plain letters.NoSymbol text e = made (number_of text) _ AddressIsNoBit (λ n. tt)
+byte_plain : (name : List ℕ) (a : Area) (w : Width) (text : List ℕ) → IsNoBit a w → IfSome (option_map (λ n. variable a w n 0) (number_of text)) (Declares (declared name))
+byte_plain name a w text is = made (number_of text) (λ n. variable a w n 0) (Declares (declared name)) (λ n. is)
 
-abbrev Entry : Type 0
-Entry = List ℕ × List ℕ × Letters
+-- all letters of addresses, one by one
+all_plain : (name : List ℕ) → AllByRecursion (λ e. (text : List ℕ) → IfSome (numbered e.2 text) (Declares (declared name))) address_letters
+unfolding address_letters
+all_plain name =
+    (λ text. bit_plain name area.I text tt,
+    (λ text. byte_plain name area.I width.Byte text tt,
+    (λ text. byte_plain name area.I width.Word text tt,
+    (λ text. byte_plain name area.I width.Dword text tt,
+    (λ text. bit_plain name area.Q text tt,
+    (λ text. byte_plain name area.Q width.Byte text tt,
+    (λ text. byte_plain name area.Q width.Word text tt,
+    (λ text. byte_plain name area.Q width.Dword text tt,
+    (λ text. bit_plain name area.M text tt,
+    (λ text. byte_plain name area.M width.Byte text tt,
+    (λ text. byte_plain name area.M width.Word text tt,
+    (λ text. byte_plain name area.M width.Dword text tt,
+    (λ text. byte_plain name area.P width.Byte text tt,
+    (λ text. byte_plain name area.P width.Word text tt,
+    (λ text. byte_plain name area.P width.Dword text tt,
+    (λ text. byte_plain name area.P width.Byte text tt,
+    (λ text. byte_plain name area.P width.Word text tt,
+    (λ text. byte_plain name area.P width.Dword text tt,
+    (λ text. made (number_of text) _ (Declares (declared name)) (λ n. tt),
+    (λ text. made (number_of text) _ (Declares (declared name)) (λ n. tt),
+    (λ text. made (number_of text) _ (Declares (declared name)) (λ n. tt),
+    (λ text. made (number_of text) _ (Declares (declared name)) (λ n. tt),
+    (λ text. made (number_of text) _ (Declares (declared name)) (λ n. tt),
+    (λ text. made (number_of text) _ (Declares (declared name)) (λ n. tt),
+    (λ text. made (number_of text) _ (Declares (declared name)) (λ n. tt),
+    (λ text. made (number_of text) _ (Declares (declared name)) (λ n. tt),
+    (λ text. made (number_of text) _ (Declares (declared name)) (λ n. tt),
+    (λ text. made (number_of text) _ (Declares (declared name)) (λ n. tt),
+    (λ text. made (number_of text) _ (Declares (declared name)) (λ n. tt),
+    tt)))))))))))))))))))))))))))))
 
-all_pass : (table : List Entry) → list_all (λ e. letters_no_bit e.2) table ≡ true → AllByRecursion (λ e. letters_no_bit e.2 ≡ true) table
-all_pass [] e = tt
-all_pass (x ∷ xs) e = (and_first (letters_no_bit x.2) _ e, all_pass xs (and_second (letters_no_bit x.2) _ e))
+letters_plain : (language : Language) (name word : List ℕ) → IfSome (look_up language address_letters word) (λ l. (text : List ℕ) → IfSome (numbered l text) (Declares (declared name)))
+unfolding look_up
+letters_plain language name word =
+    mapped (find (λ e. bytes_eq word (spelled language e.0 e.1)) address_letters) _ (λ e. (text : List ℕ) → IfSome (numbered e.2 text) (Declares (declared name)))
+    (λ l. (text : List ℕ) → IfSome (numbered l text) (Declares (declared name)))
+    (found_among _ (λ e. bytes_eq word (spelled language e.0 e.1)) address_letters (all_plain name)) (λ e h. h)
 
-letters_plain : (language : Language) (word : List ℕ) → IfSome (look_up language address_letters word) (λ l. letters_no_bit l ≡ true)
-unfolding look_up address_letters
-letters_plain language word =
-    mapped (find (λ e. bytes_eq word (spelled language e.0 e.1)) address_letters) _ (λ e. letters_no_bit e.2 ≡ true) (λ l. letters_no_bit l ≡ true)
-    (found_among (λ e. letters_no_bit e.2 ≡ true) (λ e. bytes_eq word (spelled language e.0 e.1)) address_letters (all_pass address_letters refl)) (λ e h. h)
-
-address_plain : (language : Language) (text : List ℕ) → IfSome (address_of language text) AddressIsNoBit
+address_plain : (language : Language) (name text : List ℕ) → IfSome (address_of language text) (Declares (declared name))
 unfolding address_of
-address_plain language text =
+address_plain language name text =
     let digits = prefix_len (λ b. not (is_ascii_digit b)) text in
-    chained (look_up language address_letters (take digits text)) _ (λ l. letters_no_bit l ≡ true) AddressIsNoBit (letters_plain language (take digits text))
-    (λ l e. numbered_plain l (drop digits text) e)
+    chained (look_up language address_letters (take digits text)) _ (λ l. (text : List ℕ) → IfSome (numbered l text) (Declares (declared name))) (Declares (declared name))
+    (letters_plain language name (take digits text)) (λ l h. h (drop digits text))
 
 -- ---- a line
 
 abbrev DeclaredIsNoBit : Option Symbol → Type 0
 DeclaredIsNoBit d = IfSome d SymbolIsNoBit
 
-declared_plain : (name : List ℕ) (a : Address) → AddressIsNoBit a → DeclaredIsNoBit (declared name a)
-declared_plain name (Names t) h = h
-declared_plain name NoSymbol h = tt
-
 declaration_plain : (language : Language) (name address kind : List ℕ) → IfSome (declaration language name address kind) DeclaredIsNoBit
 declaration_plain language name address kind =
     passed (is_name name) _ DeclaredIsNoBit
-    (λ named. chained (address_of language address) _ AddressIsNoBit DeclaredIsNoBit (address_plain language address)
-    (λ a h. passed (has_type a kind) (Some (declared name a)) DeclaredIsNoBit (λ typed. declared_plain name a h)))
+    (λ named. chained (address_of language address) _ (Declares (declared name)) DeclaredIsNoBit (address_plain language name address)
+    (λ a h. passed (has_type a kind) (Some (declared name a)) DeclaredIsNoBit (λ typed. h)))
 
 symbol_added : (xs : List Symbol) (x : Symbol) → AreNoBits xs → SymbolIsNoBit x → IfOk (with_symbol xs x) AreNoBits
 unfolding with_symbol
