@@ -24,5 +24,6 @@ mod WordLemmas
 mod called
 pub mod declared
 mod made
+mod naming
 mod remade
 mod ruled

@@ -46,16 +46,19 @@ use Rattle.sem_kept.proofs.accepted.Accepted.{IsSoundTree, right_tree}
 use Rattle.sem_kept.proofs.accepted.OperandsCells.{known_there}
 use Rattle.sem_kept.proofs.accepted.OperandsFormals.{IsRecordOf, IsSystem, Matched, system_matched}
 use Rattle.sem_kept.proofs.accepted.OperandsMembers.{called_block}
+use Rattle.listing_laws.specs.AcceptedTypes.{declared_kinds}
 use Rattle.listing_laws.specs.Again.{IsMadeOf, IsWholeAgain, again_at, context_at, listed_again}
 use Rattle.listing_laws.specs.Chains.{is_listed}
 use Rattle.listing_laws.specs.Declared.{signatures_in}
 use Rattle.listing_laws.specs.Fitting.{IsListedAs}
+use Rattle.listing_laws.specs.HandedOn.{called_kinds}
 use Rattle.listing_laws.specs.Ids.{data_id, program_ids}
 use Rattle.listing_laws.specs.Passings.{AreNamedApart, upper}
 use Rattle.listing_laws.proofs.IdLemmas.{ids_listed}
-use Rattle.listing_laws.proofs.called.AcceptedTypes.{whole_known}
+use Rattle.listing_laws.proofs.called.AcceptedTypes.{body_owed, whole_known}
 use Rattle.listing_laws.proofs.called.Listed.{kind_listed, parameters_listed}
 use Rattle.listing_laws.proofs.called.Names.{system_names_apart}
+use Rattle.listing_laws.proofs.declared.Groups.{formals_length}
 use Rattle.listing_laws.proofs.made.Found.{ids_in}
 use Rattle.listing_laws.proofs.made.Origins.{lines_count, made_of_source}
 use Rattle.listing_laws.proofs.remade.Blocks.{IsListedCode, listed_code}
@@ -80,7 +83,10 @@ pub record IsCalleeAgain (symbols : List Symbol) (t : Tree) (others : List Symbo
   pub bytes : ℕ
   pub params : List ParameterRecord
   pub flat : flat_callee (map signature_of (map record_of_block (program_in symbols t).code_blocks)) (kind_number id.kind) id.number ≡ Some (kind, bytes, params)
+  pub is_kind : kind ≡ kind_number id.kind
   pub formals : HasFormals (called_formals (signatures_in (program_in symbols t)) id) params
+  pub count : length (called_formals (signatures_in (program_in symbols t)) id) ≡ length params
+  pub kinds : length (called_kinds (declared_kinds t symbols) id) ≡ length (called_formals (signatures_in (program_in symbols t)) id)
 
 -- ---- system functions
 
@@ -145,6 +151,12 @@ matched_formals fs rs h k = record { formals = at fs rs h k }
     at (f ∷ fs) (q ∷ rs) h k zero r e = (f, refl, subst (IsListedAs f) (same_Some q r e) (one f q h.0 k.0.1))
     at (f ∷ fs) (q ∷ rs) h k (suc index) r e = at fs rs h.1 k.1 index r e
 
+matched_count : (fs : List Formal) (rs : List ParameterRecord) → Matched fs rs → length fs ≡ length rs
+matched_count [] [] h = refl
+matched_count [] (r ∷ rs) h = absurd h
+matched_count (f ∷ fs) [] h = absurd h
+matched_count (f ∷ fs) (r ∷ rs) h = ap suc (matched_count fs rs h.1)
+
 system_kind : (k : BlockKind) → is_system_function k ≡ true → k ≡ kinds.Sfc
 system_kind kinds.Sfc e = refl
 system_kind kinds.Ob e = absurd cc
@@ -178,7 +190,12 @@ system_again symbols t others again id fs sys e =
       bytes = 0;
       params = system.params;
       flat = system_flat (map signature_of (map record_of_block (program_in symbols t).code_blocks)) id.kind id.number system.params (system_kind id.kind sys) system.is;
+      is_kind = ap kind_number (sym (system_kind id.kind sys));
       formals = subst (λ z. HasFormals z system.params) (sym listed) (matched_formals fs system.params system.matched uppers);
+      count = ap length listed ∙ matched_count fs system.params system.matched;
+      kinds = ap (λ (b : Bool). length (if b then map (λ (f : Formal). f.kind) (system_parameters id.number) else declared_kinds t symbols id)) sys
+          ∙ length-map (system_parameters id.number) (λ (f : Formal). f.kind)
+          ∙ ap (λ (b : Bool). length (if b then system_parameters id.number else formals_of (signatures_in (program_in symbols t)) id)) (sym sys);
     }
 
 -- ---- blocks of the source
@@ -313,7 +330,12 @@ module _ (source file : List ℕ) (symbols : List Symbol) (t : Tree) (accepted :
     params = map record_of_param (params_of at.block at.layout);
     flat = source_flat _ id.kind id.number callable other
         ∙ called_block symbols t tree at.place at.block at.layout id (source_sound symbols t tree k at.place at.block at.layout id at.made) at.made.source.known code;
+    is_kind = refl;
     formals = subst (λ z. HasFormals z (map record_of_param (params_of at.block at.layout))) (sym listed) (block_formals k at.place at.block at.layout id h);
+    count = ap length listed ∙ long ∙ sym (length-map (params_of at.block at.layout) record_of_param);
+    kinds = ap (λ (b : Bool). length (if b then map (λ (f : Formal). f.kind) (system_parameters id.number) else declared_kinds t symbols id)) other
+        ∙ (body_owed symbols t tree at.place at.block at.layout (source_sound symbols t tree k at.place at.block at.layout id at.made) id at.made.source.known code).size
+        ∙ sym (ap length listed ∙ long);
   }
     where
       c : Context
@@ -352,3 +374,8 @@ module _ (source file : List ℕ) (symbols : List Symbol) (t : Tree) (accepted :
 
       listed : called_formals ss id ≡ formals_of ss id
       listed = ap (λ (b : Bool). if b then system_parameters id.number else formals_of ss id) other
+
+      long : length (formals_of ss id) ≡ length (params_of at.block at.layout)
+      long =
+          ap length h.known.are
+          ∙ formals_length (chains_of (program_in symbols t).code_blocks) (is_function id.kind) false 0 h.known.first (params_of at.block at.layout)

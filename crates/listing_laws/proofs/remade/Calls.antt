@@ -28,6 +28,7 @@ use Rattle.stl_ast.specs.Literals.{AreBytes}
 use Rattle.stl_ast.specs.Statements.{has_actuals, is_call, is_called as is_called_operand, is_empty}
 use Rattle.stl_ast.specs.declared.blocks.Block.{Block}
 use Rattle.stl_ast.specs.declared.blocks.Tree.{Tree}
+use Rattle.stl_ast.specs.declared.declarations.Simple.{Simple}
 use Rattle.stl_ast.specs.declared.mnemonics.Mnemonic.{Mnemonic}
 use Rattle.stl_ast.specs.declared.mnemonics.Mnemonic.TheVariants as code
 use Rattle.stl_ast.specs.declared.names.BlockName.{BlockName}
@@ -48,7 +49,7 @@ use Rattle.stl_types.specs.Calls.{calls_unknown, is_unknown_function}
 use Rattle.stl_types.specs.Context.{Context, data_number}
 use Rattle.stl_types.specs.Forms.{form_of}
 use Rattle.stl_types.specs.Operands.{takes}
-use Rattle.stl_types.specs.Parameters.{Callee, callee_of, system_formals}
+use Rattle.stl_types.specs.Parameters.{Callee, callee_by, callee_of, system_formals}
 use Rattle.stl_types.specs.Resolution.{seen, whole_block}
 use Rattle.stl_types.specs.Resolved.{resolved}
 use Rattle.stl_types.specs.Variables.{own_variable}
@@ -60,7 +61,7 @@ use Rattle.stl_types.specs.declared.views.ResolvedOperand.TheVariants as view
 use Rattle.stl_codegen.specs.Compiled.{StatedBlock, compiled}
 use Rattle.stl_codegen.specs.Emitted.{instance_number, ops_of, passing}
 use Rattle.stl_codegen.specs.Generated.{code_block, code_blocks_of, data_blocks_of, params_of}
-use Rattle.stl_codegen.specs.Instruction.{block_at, in_order, instr_by, instruction, passings_to, resolved_instr, view_instr}
+use Rattle.stl_codegen.specs.Instruction.{block_at, in_order, instr_by, instruction, passings_to, resolved_instr, return_last, view_instr}
 use Rattle.stl_codegen.specs.Operations.{call_of, jump_of}
 use Rattle.stl_list.specs.Joined.{system_parameters}
 use Rattle.stl_list.specs.Operands.{data_block_name, name_at, own_parameter as own_named}
@@ -164,7 +165,7 @@ order_long (Some b) fs = by b.result fs
     longer [] x = refl
     longer (y ∷ xs) x = ap suc (longer xs x)
 
-    by : (r : Option _) (fs : List Formal) → length (in_order (Some (record b { result = r })) fs) ≡ length fs
+    by : (r : Option Simple) (fs : List Formal) → length (return_last r fs) ≡ length fs
     by None fs = refl
     by (Some r) [] = refl
     by (Some r) (f ∷ fs) = longer fs f
@@ -195,6 +196,11 @@ own_seen c own index = refl
 local_is : (symbols : List Symbol) (t : Tree) (k : ℕ) (b : Block) (l : BlockLayout) → IsSound symbols t k b l → l.local_len ≡ local_len (types_of symbols t.blocks) b
 unfolding block_layout
 local_is symbols t k b l h = ap (λ (z : BlockLayout). z.local_len) h.layout
+
+-- a block by its number
+callee_numbered : (c : Context) (id : BlockId) (instance : Option BlockName) (callee : Callee) → callee_by c id id.kind ≡ Some callee → callee_of c (operand.Called (block.Number id) instance) ≡ Some callee
+unfolding callee_of
+callee_numbered c id instance callee e = e
 
 module _ (source file : List ℕ) (symbols : List Symbol) (t : Tree) (accepted : IsAccepted source file symbols t) (bytes : AreBytes source) (file_bytes : AreBytes file)
     (others : List Symbol) (clean : IsWholeAgain symbols t others) (again place : ℕ) (b : Block) (l : BlockLayout) (id : BlockId) (made : IsMadeOf symbols t again place b l id) where
@@ -422,9 +428,9 @@ module _ (source file : List ℕ) (symbols : List Symbol) (t : Tree) (accepted :
     in_program : IsAmong symbols t sb
     in_program = among symbols t place b l id sound made.source.known made.source.code
 
-    type_kept : (index number : ℕ) (g f : Formal) → PassesOn sb cid index number → slice_get own number ≡ Some g → slice_get called index ≡ Some f → IsListedAs f _ → width_of g.kind ≡ width_of f.kind
+    type_kept : (index number : ℕ) (g f : Formal) → PassesOn sb cid index number → slice_get own number ≡ Some g → slice_get called index ≡ Some f → (q : ParameterRecord) → IsListedAs f q → width_of g.kind ≡ width_of f.kind
         → g.kind ≡ f.kind
-    type_kept index number g f on there asks as_listed wide = by (is_system_function cid.kind) refl
+    type_kept index number g f on there asks q as_listed wide = by (is_system_function cid.kind) refl
       where
         by : (t' : Bool) → is_system_function cid.kind ≡ t' → g.kind ≡ f.kind
         by true sys =
@@ -469,20 +475,17 @@ module _ (source file : List ℕ) (symbols : List Symbol) (t : Tree) (accepted :
             let wide : width_of mine.formal.kind ≡ width_of asks.0.kind
             = same_kinds_wide asks.0 mine.formal q.0 record_there.0 w asks.2 mine.as_listed parts.0 (ap (λ o. lacks_own o w) (sym record_there.1) ∙ right) in
             let on = passes_on lower p.index number w higher (e ∙ ap (λ (x : Passed). lower ++ record { index = p.index; actual = x } ∷ higher) is) in
-            (mine.formal, record_there.0, record_there.1, mine.as_listed, type_kept p.index number mine.formal asks.0 on mine.there asks.1 asks.2 wide, mine.sees)
+            (mine.formal, record_there.0, record_there.1, mine.as_listed, type_kept p.index number mine.formal asks.0 on mine.there asks.1 q.0 asks.2 wide, mine.sees)
 
     -- ---- all of it
-
-    kinds_long : length (called_kinds (declared_kinds t symbols) cid) ≡ length called
-    kinds_long = again_called.kinds_long source file symbols t accepted bytes
 
     pub call_again : IsFoundAgain c listed own called s cid instance callee
     call_again = record {
       found = again_called.callee;
-      is = again_called.of_operand;
+      is = callee_numbered listed cid (option_map data_block_name instance) again_called.callee again_called.found;
       same = again_called.same ∙ sym same_callee;
       size = sym (order_long (block_at listed.blocks again_called.callee.place) again_called.callee.formals) ∙ ap length again_called.order ∙ length-map called upper
-          ∙ sym kinds_long
+          ∙ sym again_called.kinds
           ∙ ap length ((owes.1 callee found).2) ∙ length-map (ordered c callee) (λ (f : Formal). f.kind) ∙ order_long (block_at c.blocks callee.place) callee.formals;
       order = again_called.order;
       named = again_called.named;
@@ -494,3 +497,12 @@ module _ (source file : List ℕ) (symbols : List Symbol) (t : Tree) (accepted :
           (ap (λ n. n == kind_number kinds.Fb) again_called.is_kind
           ∙ other_number cid.kind callable (ap (λ (i : BlockId). is_function_block i.kind) (sym same_callee) ∙ second_true (has_actuals s.code) (is_function_block callee.id.kind) e)));
     }
+
+  -- each statement
+  pub each_again : (front : List Statement) (s : Statement) (rest : List Statement) → b.body ≡ front ++ s ∷ rest → IsCalledAgain c listed ss own s
+  each_again front s rest e cid instance callee res found = call_again s front rest e cid instance callee res found
+
+pub calls_again : AreCallsAgain
+calls_again source file symbols t accepted bytes file_bytes others clean again place b l id made =
+    all_split (IsCalledAgain (context_at symbols t place) (again_at symbols t others again) (signatures_in (program_in symbols t)) (formals_of (signatures_in (program_in symbols t)) id)) b.body
+    (each_again source file symbols t accepted bytes file_bytes others clean again place b l id made)
