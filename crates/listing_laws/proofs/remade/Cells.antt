@@ -21,6 +21,7 @@ use Rattle.stl_types.specs.Parameters.{formal_here, formals_of as formals_in, is
 use Rattle.stl_types.specs.declared.parameters.Formal.{Formal}
 use Rattle.stl_codegen.specs.Instruction.{in_order, return_last}
 use Rattle.stl_list.specs.CodeBlocks.{listed_block}
+use Rattle.stl_list.specs.Parameters.{return_name}
 use Rattle.stl_list.specs.Sections.{static_bytes, static_len, static_name}
 use Rattle.stl_list.specs.Signatures.{Signature, formals_of}
 use Rattle.listing_laws.specs.Passings.{upper}
@@ -69,7 +70,7 @@ returned_last last rest fs (LastReturned f name e) h made =
     ∙ (λ i. made i ++ record { name = folded (back i); section = section i; kind = f.kind } ∷ [])
     ∙ ap (λ z. fs ++ map upper z) (sym e)
   where
-    back : _ ≡ f.name
+    back : return_name ≡ f.name
     back = sym name
 
     section : part.Output ≡ f.section
