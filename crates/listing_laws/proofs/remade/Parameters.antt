@@ -99,7 +99,7 @@ formal_at c returns behind number first (q ∷ ps) wide (suc index) p e =
     let more = formal_at c returns (is_behind returns behind q) (suc number) (suc first) ps wide.1 index p e in
     record { formal = more.formal; there = more.there; section = more.section; width = more.width }
 
-name_there : (fs : List Formal) (index : ℕ) (f : Formal) → slice_get fs index ≡ Some f → name_at fs index ≡ f.name
+pub name_there : (fs : List Formal) (index : ℕ) (f : Formal) → slice_get fs index ≡ Some f → name_at fs index ≡ f.name
 name_there fs index f e = rw e refl
 
 -- an input stays one
