@@ -1,10 +1,10 @@
 -- The code blocks of a listing come to those of the program, where the statements of each do.
-use Rattle.std.proofs.Common.{◌≡◌, ℕ, zero, suc, ◌+◌, ◌-◌, ◌<◌, ◌≤◌, Bool, true, false, List, [], ◌∷◌, ◌++◌, length, length-append, map, Option, Some, None, if◌then◌else◌, slice_get, refl, sym, ap, subst, ◌∙◌, arith}
+use Rattle.std.proofs.Common.{◌≡◌, ℕ, zero, suc, ◌+◌, ◌-◌, ◌≤◌, Bool, true, false, List, [], ◌∷◌, ◌++◌, length, length-append, map, Option, Some, None, if◌then◌else◌, slice_get, refl, sym, ap, ◌∙◌, arith}
 use Rattle.std.specs.Prelude.{nat_lt}
 use Rattle.std.specs.List.{AllByRecursion}
 use Rattle.std.proofs.lemmas.Bool.{ltb-false, ltb-true}
 use Rattle.std.proofs.lemmas.Bool.Decides.{nat_tests}
-use Rattle.std.proofs.lemmas.List.{length-map, map-append}
+use Rattle.std.proofs.lemmas.List.{map-append}
 use Rattle.plc_base.proofs.ListLemmas.{get_past}
 use Rattle.plc_base.specs.Kinds.{is_code, is_function_block, is_same_kind}
 use Rattle.plc_base.specs.declared.blocks.BlockId.{BlockId}
@@ -15,7 +15,6 @@ use Rattle.flat_code.specs.Programs.{CodeBlock, DataBlock}
 use Rattle.flat_code.specs.declared.operations.EndOperation.TheVariants as ends
 use Rattle.stl_ast.specs.declared.blocks.Block.{Block}
 use Rattle.stl_ast.specs.declared.blocks.Tree.{Tree}
-use Rattle.stl_ast.specs.declared.statements.Statement.{Statement}
 use Rattle.stl_symbols.specs.Symbol.{Symbol}
 use Rattle.block_layout.specs.Blocks.{id_of}
 use Rattle.block_layout.specs.Cells.{components_of}
@@ -29,11 +28,10 @@ use Rattle.stl_types.specs.Context.{Context}
 use Rattle.stl_codegen.specs.Compiled.{Stated, StatedBlock, compiled, lines_in}
 use Rattle.stl_codegen.specs.Generated.{code_block, code_block_of, code_blocks_of, each_block, instance_len, params_of, returning, stated_from, statements_of}
 use Rattle.stl_codegen.specs.Order.{is_block_before, is_code_before, is_id_before, sorted}
-use Rattle.stl_codegen.proofs.ProgramLemmas.{blocks_in, blocks_sorted}
+use Rattle.stl_codegen.proofs.ProgramLemmas.{blocks_sorted}
 use Rattle.stl_list.specs.CodeBlocks.{in_lines, line_reached, listed_block, listed_blocks}
 use Rattle.stl_list.specs.DataBlocks.{listed_data, listed_data_blocks}
-use Rattle.stl_list.specs.Lines.{last_line, line_at, line_behind, lines_from, stands_before}
-use Rattle.stl_list.specs.Listing.{listed_tree}
+use Rattle.stl_list.specs.Lines.{line_at, stands_before}
 use Rattle.stl_list.specs.Signatures.{Signature}
 use Rattle.stl_list.specs.Statements.{body_of, surroundings}
 use Rattle.sem_kept.specs.Accepted.{program_in}

@@ -1,8 +1,7 @@
 -- The listing of an accepted source's program compiles to this program, by what is known of its parts.
-use Rattle.std.proofs.Common.{◌≡◌, ℕ, List, [], ◌++◌, map, Ok, None, refl, sym, ap, ◌∙◌}
+use Rattle.std.proofs.Common.{◌≡◌, ℕ, List, [], ◌++◌, map, sym, ap, ◌∙◌}
 use Rattle.plc_base.specs.Least.{least}
 use Rattle.plc_base.specs.declared.refusals.Refusal.{Refusal}
-use Rattle.flat_code.specs.Programs.{Program}
 use Rattle.stl_ast.specs.Literals.{AreBytes}
 use Rattle.stl_ast.specs.declared.blocks.Tree.{Tree}
 use Rattle.stl_lexer.specs.Tokens.{AreTokens}
@@ -15,7 +14,6 @@ use Rattle.stl_types.specs.Table.{statement_refusals}
 use Rattle.stl_codegen.specs.Generated.{data_blocks_of, names_of}
 use Rattle.stl_list.specs.Listing.{listed_source, listed_tree}
 use Rattle.sem_kept.specs.Accepted.{IsAccepted, program_in}
-use Rattle.sem_kept.specs.Meaning.{refusals_of}
 use Rattle.listing_laws.specs.Again.{AreWholeAgain, IsWholeAgain, listed_again}
 use Rattle.listing_laws.specs.AgainBodies.{AreBodiesKeptAgain}
 use Rattle.listing_laws.specs.Compiled.{AreListingsCompiled}

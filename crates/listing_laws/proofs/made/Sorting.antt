@@ -1,9 +1,9 @@
 -- A list that is in order comes back into it from any other order.
-use Rattle.std.proofs.Common.{◌≡◌, Bool, true, false, cond, ◌||◌, List, [], ◌∷◌, map, refl, sym, ap, ◌∙◌}
+use Rattle.std.proofs.Common.{◌≡◌, Bool, true, false, cond, ◌||◌, List, [], ◌∷◌, refl, sym, ap, ◌∙◌}
 use Rattle.std.specs.List.{AllByRecursion}
 use Rattle.stl_codegen.specs.Order.{inserted, sorted}
 use Rattle.sem_kept.proofs.accepted.RecordOrder.{AreApart, Differ, Rise, RiseFrom}
-use Rattle.listing_laws.proofs.OrderLemmas.{Heads, InOrder, all_sorted, in_order}
+use Rattle.listing_laws.proofs.OrderLemmas.{InOrder, all_sorted, in_order}
 
 past : {A : Type 0} (lt : A → A → Bool) (x y : A) (ys : List A) → lt y x ≡ true → inserted lt x (y ∷ ys) ≡ y ∷ inserted lt x ys
 past lt x y ys h = rw h refl
