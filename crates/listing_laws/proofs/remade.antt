@@ -1,5 +1,6 @@
 -- Lemmas on the listing of an accepted source's program: its parameters, its calls and its statements.
 pub mod Blocks
+pub mod Bodies
 pub mod Callees
 pub mod Calls
 pub mod Cells

@@ -1,11 +1,12 @@
--- The calls of a source in the listing of its program, and the operands of the source.
-use Rattle.std.specs.Prelude.{◌≡◌, ℕ, true, not, ◌&&◌, length, List, map, Option, Some}
+-- The statements of a source in the listing of its program: what they call, their operands, and what the
+-- listed ones come to.
+use Rattle.std.specs.Prelude.{◌≡◌, ℕ, true, false, not, ◌&&◌, length, List, map, Option, Some}
 use Rattle.std.specs.List.{AllByRecursion}
 use Rattle.std.specs.Option.{option_map}
 use Rattle.plc_base.specs.Kinds.{is_function_block}
 use Rattle.plc_base.specs.declared.blocks.BlockId.{BlockId}
 use Rattle.stl_ast.specs.Literals.{AreBytes}
-use Rattle.stl_ast.specs.Statements.{has_actuals}
+use Rattle.stl_ast.specs.Statements.{has_actuals, is_empty}
 use Rattle.stl_ast.specs.declared.blocks.Block.{Block}
 use Rattle.stl_ast.specs.declared.blocks.Tree.{Tree}
 use Rattle.stl_ast.specs.declared.names.BlockName.TheVariants as block
@@ -18,14 +19,17 @@ use Rattle.stl_types.specs.Parameters.{Callee, callee_of}
 use Rattle.stl_types.specs.Resolved.{resolved}
 use Rattle.stl_types.specs.declared.parameters.Formal.{Formal}
 use Rattle.stl_types.specs.declared.views.ResolvedOperand.TheVariants as view
-use Rattle.stl_codegen.specs.Instruction.{block_at, in_order, passings_to}
+use Rattle.stl_codegen.specs.Instruction.{block_at, in_order, instruction, passings_to}
 use Rattle.stl_list.specs.Operands.{data_block_name}
 use Rattle.stl_list.specs.Signatures.{Signature, called_formals, formals_of}
+use Rattle.stl_list.specs.Statements.{statement}
 use Rattle.sem_kept.specs.Accepted.{IsAccepted, program_in}
 use Rattle.listing_laws.specs.Again.{IsMadeOf, IsWholeAgain, again_at, context_at}
+use Rattle.listing_laws.specs.AgainBodies.{around_again, body_again, made_block}
 use Rattle.listing_laws.specs.Declared.{signatures_in}
-use Rattle.listing_laws.specs.Instructions.{IsRightOperand}
+use Rattle.listing_laws.specs.Instructions.{IsKept, IsRightOperand}
 use Rattle.listing_laws.specs.Passings.{AreAllPassed, AreNamedApart, AreRising, IsPassable, upper}
+use Rattle.listing_laws.specs.Statements.{offset_in, run_of}
 
 -- what a statement of a source calls, `callee`, is found in its listing with the parameters that the
 -- listing has, `called`, and what is passed fits there. `own` are the parameters of the block that calls
@@ -74,3 +78,22 @@ AreOperandsRight =
     (source file : List ℕ) (symbols : List Symbol) (t : Tree)
     → IsAccepted source file symbols t → AreBytes source
     → AllByRecursion (λ b. AllByRecursion (IsRightStatement symbols) b.body) t.blocks
+
+-- each listed statement breaks no rule by its operand, and comes to the instruction of the source's, at
+-- whatever number it stands
+abbrev pub AreStatementsAgain : Type 0
+AreStatementsAgain =
+    (source file : List ℕ) (symbols : List Symbol) (t : Tree)
+    → IsAccepted source file symbols t → AreBytes source → AreBytes file → (others : List Symbol)
+    → IsWholeAgain symbols t others → (again place : ℕ) (b : Block) (l : BlockLayout) (id : BlockId)
+    → IsMadeOf symbols t again place b l id
+    → AllByRecursion
+    (λ s.
+    is_empty s.code ≡ false → (n k : ℕ)
+    → IsKept (again_at symbols t others again)
+    (body_again symbols t (made_block symbols t place b l id)) n s.code
+    (instruction (context_at symbols t place) b.body n s)
+    (statement (around_again symbols t (made_block symbols t place b l id)) k
+    (run_of (offset_in (made_block symbols t place b l id).statements)
+    (instruction (context_at symbols t place) b.body n s))))
+    b.body

@@ -5,6 +5,7 @@
 mod accepted_types;
 mod again_bodies;
 mod bodies;
+mod bodies_again;
 mod called_names;
 mod calling;
 mod calls;
@@ -48,6 +49,7 @@ mod steps;
 pub use accepted_types::law_of_accepted_types;
 pub use again_bodies::law_of_again_bodies;
 pub use bodies::law_of_listed_bodies;
+pub use bodies_again::law_of_bodies_again;
 pub use called_names::law_of_called_names;
 pub use calling::law_of_listed_bare_calls;
 pub use calls::law_of_listed_calls;

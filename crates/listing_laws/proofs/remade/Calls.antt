@@ -322,8 +322,8 @@ module _ (source file : List ℕ) (symbols : List Symbol) (t : Tree) (accepted :
     owes : OwesCall (declared_kinds t symbols) (map compiled (code_blocks_of t symbols (layouts_of t symbols))) c s cid
     owes = owed symbols t tree place b l sound s sound_here cid instance res
 
-    callable : is_callable cid.kind ≡ true
-    callable = owes.0.0
+    pub callable_here : is_callable cid.kind ≡ true
+    callable_here = owes.0.0
 
     has_called : HasCalled c s
     has_called =
@@ -368,7 +368,7 @@ module _ (source file : List ℕ) (symbols : List Symbol) (t : Tree) (accepted :
         by : (t' : Bool) → is_system_function cid.kind ≡ t' → IsCalleeAgain symbols t others again cid
         by true sys = let fs = one_of_nine sys in system_again symbols t others again cid fs.0 sys fs.1
         by false other =
-            block_again source file symbols t accepted bytes file_bytes others clean again cid callable other (whole_again (plain_kind cid.kind callable))
+            block_again source file symbols t accepted bytes file_bytes others clean again cid callable_here other (whole_again (plain_kind cid.kind callable_here))
 
     -- ---- what it passes
 
@@ -419,7 +419,7 @@ module _ (source file : List ℕ) (symbols : List Symbol) (t : Tree) (accepted :
           after = at.after;
           lower = lower;
           higher = higher;
-          callable = callable;
+          callable = callable_here;
           statements = at.is
               ∙ ap (λ (i : Instr). at.before ++ record { instr = i; line = s.line } ∷ at.after)
               (called_instr c b.body at.number s how.0 cid instance callee how.1 res found ∙ ap (λ (z : List Passing). Calls how.0 cid instance z) e);
@@ -495,7 +495,7 @@ module _ (source file : List ℕ) (symbols : List Symbol) (t : Tree) (accepted :
           (complete_call (again_called.kind == kind_number kinds.Fb) (are_passed 0 again_called.params (passing ps)) _
           (ap (λ o. is_bad_call (lens_of (data_blocks_of t symbols (layouts_of t symbols))) o (instance_number instance) (passing ps)) (sym again_called.flat) ∙ fits.2)
           (ap (λ n. n == kind_number kinds.Fb) again_called.is_kind
-          ∙ other_number cid.kind callable (ap (λ (i : BlockId). is_function_block i.kind) (sym same_callee) ∙ second_true (has_actuals s.code) (is_function_block callee.id.kind) e)));
+          ∙ other_number cid.kind callable_here (ap (λ (i : BlockId). is_function_block i.kind) (sym same_callee) ∙ second_true (has_actuals s.code) (is_function_block callee.id.kind) e)));
     }
 
   -- each statement
