@@ -119,19 +119,16 @@ statements_are : (c : Context) (b : Block) → statements_of c b ≡ stated_from
 unfolding statements_of
 statements_are c b = refl
 
-returning_by : ℕ → Stated
+abbrev returning_by : ℕ → Stated
 returning_by line = record { instr = Returns ends.Be; line = line }
-
-returning_on : (b : Block) (line : ℕ) → b.end_line ≡ line → returning b ≡ returning_by line
-returning_on b line e = ap returning_by e
 
 statements_again : (c listed : Context) (ss : List Signature) (b : Block) (l : BlockLayout) (id : BlockId) (reached : ℕ) → StandsBehind reached (compiled (code_block c b l id))
     → AreKeptFrom listed (body_of ss (lines_in (statements_of c b)) (compiled (code_block c b l id))) (surroundings ss (lines_in (statements_of c b)) (compiled (code_block c b l id)))
     (offset_in (statements_of c b)) 0 (stated_from c b.body 0 b.body)
     → statements_of listed (listed_block ss reached (compiled (code_block c b l id))) ≡ statements_of c b
 statements_again c listed ss b l id reached stands kept =
-    let x : StatedBlock = code_block c b l id in
-    let again : Block = listed_block ss reached (compiled x) in
+    let x = code_block c b l id in
+    let again = listed_block ss reached (compiled x) in
     let own : List Stated = stated_from c b.body 0 b.body in
     statements_are listed again
     ∙ ap (λ (lines : List ℕ). stated_from listed (body_of ss lines (compiled x)) 0 (body_of ss lines (compiled x)) ++ returning again ∷ []) stands.lines
