@@ -25,3 +25,4 @@ mod called
 pub mod declared
 mod naming
 mod ruled
+mod unbroken

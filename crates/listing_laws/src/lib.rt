@@ -39,6 +39,7 @@ mod source_types;
 mod sources;
 mod statements;
 mod steps;
+mod whole;
 
 pub use accepted_types::law_of_accepted_types;
 pub use bodies::law_of_listed_bodies;
@@ -77,3 +78,4 @@ pub use source_types::law_of_source_types;
 pub use sources::law_of_listed_source;
 pub use statements::law_of_listed_statements;
 pub use steps::law_of_passing_steps;
+pub use whole::law_of_whole_listings;
