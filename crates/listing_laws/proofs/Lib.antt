@@ -27,3 +27,4 @@ mod made
 mod naming
 mod remade
 mod ruled
+mod unbroken

@@ -1,6 +1,6 @@
 -- What the instructions of a source act on, call and pass is named as in a source, but for bits.
 use Rattle.std.proofs.Common.{◌≡◌, ◌⊎◌, inl, inr, ℕ, suc, ◌/◌, Bool, true, false, leb, List, [], ◌∷◌, length, map, Option, Some, None, refl, sym, ap, subst, ◌∙◌}
-use Rattle.std.specs.Prelude.{slice_get, find, if◌then◌else◌}
+use Rattle.std.specs.Prelude.{slice_get, if◌then◌else◌}
 use Rattle.std.specs.List.{AllByRecursion}
 use Rattle.std.specs.Option.{is_none, IfSome}
 use Rattle.std.specs.Str.{bytes_eq}
@@ -61,7 +61,6 @@ use Rattle.block_layout.specs.declared.walks.PathEnd.TheVariants as walk
 use Rattle.stl_types.specs.Addresses.{address_in}
 use Rattle.stl_types.specs.Bodies.{first_context}
 use Rattle.stl_types.specs.Context.{Context, data_number, data_place, in_function}
-use Rattle.stl_types.specs.Forms.{form_of}
 use Rattle.stl_types.specs.Kinds.{is_called as is_called_view}
 use Rattle.stl_types.specs.Operands.{operand_rule, statement_rule}
 use Rattle.stl_types.specs.Parameters.{Callee, callee_of}

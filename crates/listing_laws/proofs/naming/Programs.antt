@@ -1,5 +1,5 @@
 -- So the program of an accepted source is named as in a source, and its listing is read as its tree.
-use Rattle.std.proofs.Common.{◌≡◌, ℕ, List, [], ◌∷◌, map}
+use Rattle.std.proofs.Common.{ℕ, List, [], ◌∷◌}
 use Rattle.std.specs.List.{AllByRecursion}
 use Rattle.block_layout.specs.Layouts.{layouts_of}
 use Rattle.flat_code.specs.Ops.{OpData}

@@ -4,7 +4,6 @@ use Rattle.std.specs.Prelude.{◌&&◌, take, drop}
 use Rattle.std.specs.List.{AllByRecursion, list_all}
 use Rattle.std.specs.Option.{option_map, IfSome}
 use Rattle.plc_base.specs.Decimal.{decimal_up_to}
-use Rattle.plc_base.specs.Kinds.{is_data_block, is_function_block}
 use Rattle.plc_base.specs.declared.places.Width.{Width}
 use Rattle.plc_base.specs.declared.places.Width.TheVariants as width
 use Rattle.stl_ast.specs.declared.mnemonics.Mnemonic.{Mnemonic}

@@ -1,5 +1,5 @@
 -- No symbol of a file names a bit of the peripherals.
-use Rattle.std.proofs.Common.{◌≡◌, ℕ, ◌+◌, Bool, true, false, not, List, [], ◌∷◌, ◌++◌, length, take, drop, Option, Some, None, is_some, Result, Ok, Err, refl, subst}
+use Rattle.std.proofs.Common.{◌≡◌, ℕ, ◌+◌, Bool, true, false, not, List, [], ◌∷◌, ◌++◌, length, take, drop, Option, Some, None, is_some, Result, Ok, Err, subst}
 use Rattle.std.specs.Prelude.{IfOk, bytes_eq, find, nat_eq, ◌==◌, if◌then◌else◌}
 use Rattle.std.specs.Char.{is_ascii_digit}
 use Rattle.std.specs.List.{AllByRecursion, prefix_len}
@@ -8,7 +8,6 @@ use Rattle.std.specs.Str.Lines.{lines}
 use Rattle.plc_base.proofs.ListLemmas.{all_append}
 use Rattle.plc_base.specs.declared.places.Area.{Area}
 use Rattle.plc_base.specs.declared.places.Area.TheVariants as area
-use Rattle.plc_base.specs.declared.places.Width.{Width}
 use Rattle.plc_base.specs.declared.places.Width.TheVariants as width
 use Rattle.plc_base.specs.declared.refusals.Refusal.{Refusal}
 use Rattle.stl_parser.proofs.OptionLemmas.{chained, mapped, passed, none_holds}
@@ -38,50 +37,26 @@ AreNoBits symbols = AllByRecursion SymbolIsNoBit symbols
 abbrev Declares : {A : Type 0} → (A → Option Symbol) → A → Type 0
 Declares view a = IfSome (view a) SymbolIsNoBit
 
-bit_plain : (name : List ℕ) (a : Area) (text : List ℕ) → IsNoBit a width.Bit → IfSome (bit_address a text) (Declares (declared name))
+-- that of a bit
+bits : (name : List ℕ) (a : Area) → IsNoBit a width.Bit → (text : List ℕ) → IfSome (bit_address a text) (Declares (declared name))
 unfolding bit_address
-bit_plain name a text is =
+bits name a is text =
     let point = prefix_len (λ b. not (b == 46)) text in
     chained (number_of (take point text)) _ (λ byte. Unit {0}) (Declares (declared name)) (none_holds (number_of (take point text)))
     (λ byte h. made (bit_behind (drop point text)) (λ bit. variable a width.Bit byte bit) (Declares (declared name)) (λ bit. is))
 
-byte_plain : (name : List ℕ) (a : Area) (w : Width) (text : List ℕ) → IsNoBit a w → IfSome (option_map (λ n. variable a w n 0) (number_of text)) (Declares (declared name))
-byte_plain name a w text is = made (number_of text) (λ n. variable a w n 0) (Declares (declared name)) (λ n. is)
+-- an address by a number alone
+wide : {A : Type 0} (view : A → Option Symbol) (f : ℕ → A) → ((n : ℕ) → Declares view (f n)) → (text : List ℕ) → IfSome (option_map f (number_of text)) (Declares view)
+wide view f h text = made (number_of text) f (Declares view) h
 
 -- all letters of addresses, one by one
 all_plain : (name : List ℕ) → AllByRecursion (λ e. (text : List ℕ) → IfSome (numbered e.2 text) (Declares (declared name))) address_letters
 unfolding address_letters
 all_plain name =
-    (λ text. bit_plain name area.I text tt,
-    (λ text. byte_plain name area.I width.Byte text tt,
-    (λ text. byte_plain name area.I width.Word text tt,
-    (λ text. byte_plain name area.I width.Dword text tt,
-    (λ text. bit_plain name area.Q text tt,
-    (λ text. byte_plain name area.Q width.Byte text tt,
-    (λ text. byte_plain name area.Q width.Word text tt,
-    (λ text. byte_plain name area.Q width.Dword text tt,
-    (λ text. bit_plain name area.M text tt,
-    (λ text. byte_plain name area.M width.Byte text tt,
-    (λ text. byte_plain name area.M width.Word text tt,
-    (λ text. byte_plain name area.M width.Dword text tt,
-    (λ text. byte_plain name area.P width.Byte text tt,
-    (λ text. byte_plain name area.P width.Word text tt,
-    (λ text. byte_plain name area.P width.Dword text tt,
-    (λ text. byte_plain name area.P width.Byte text tt,
-    (λ text. byte_plain name area.P width.Word text tt,
-    (λ text. byte_plain name area.P width.Dword text tt,
-    (λ text. made (number_of text) _ (Declares (declared name)) (λ n. tt),
-    (λ text. made (number_of text) _ (Declares (declared name)) (λ n. tt),
-    (λ text. made (number_of text) _ (Declares (declared name)) (λ n. tt),
-    (λ text. made (number_of text) _ (Declares (declared name)) (λ n. tt),
-    (λ text. made (number_of text) _ (Declares (declared name)) (λ n. tt),
-    (λ text. made (number_of text) _ (Declares (declared name)) (λ n. tt),
-    (λ text. made (number_of text) _ (Declares (declared name)) (λ n. tt),
-    (λ text. made (number_of text) _ (Declares (declared name)) (λ n. tt),
-    (λ text. made (number_of text) _ (Declares (declared name)) (λ n. tt),
-    (λ text. made (number_of text) _ (Declares (declared name)) (λ n. tt),
-    (λ text. made (number_of text) _ (Declares (declared name)) (λ n. tt),
-    tt)))))))))))))))))))))))))))))
+    let b = bits name in
+    let w = wide (declared name) in
+    let t : ℕ → Unit {0} = λ n. tt in
+    (b area.I tt, (w _ t, (w _ t, (w _ t, (b area.Q tt, (w _ t, (w _ t, (w _ t, (b area.M tt, (w _ t, (w _ t, (w _ t, (w _ t, (w _ t, (w _ t, (w _ t, (w _ t, (w _ t, (w _ t, (w _ t, (w _ t, (w _ t, (w _ t, (w _ t, (w _ t, (w _ t, (w _ t, (w _ t, (w _ t, tt)))))))))))))))))))))))))))))
 
 letters_plain : (language : Language) (name word : List ℕ) → IfSome (look_up language address_letters word) (λ l. (text : List ℕ) → IfSome (numbered l text) (Declares (declared name)))
 unfolding look_up
