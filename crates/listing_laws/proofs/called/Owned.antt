@@ -44,7 +44,7 @@ use Rattle.stl_types.specs.declared.views.Resolution.TheVariants.{Resolved}
 use Rattle.stl_types.specs.declared.views.ResolvedOperand.{ResolvedOperand}
 use Rattle.stl_types.specs.declared.views.ResolvedOperand.TheVariants as view
 use Rattle.stl_codegen.specs.Instruction.{in_order, return_last}
-use Rattle.listing_laws.specs.Owned.{AreOwnSeen, IsParameterCell, own_kinds}
+use Rattle.listing_laws.specs.Owned.{AreOwnSeen, IsParameterCell}
 use Rattle.listing_laws.proofs.NameLemmas.{either_way}
 
 -- ---- the parameter at a place
@@ -68,11 +68,11 @@ cell_formal (x ∷ cells) h k cell e =
         → ((j : ℕ) → slice_get cells j ≡ Some cell → (f : Formal) × (slice_get (formals_of cells) j ≡ Some f) × (plain_kind cell.of ≡ Some f.kind) × (f.section ≡ cell.section))
         → (f : Formal) × (slice_get (formal x.name x.section h.0.0 ∷ formals_of cells) k ≡ Some f) × (plain_kind cell.of ≡ Some f.kind) × (f.section ≡ cell.section)
     by zero e more = (
-          formal x.name x.section h.0.0,
-          refl,
-          ap (λ (z : Cell). plain_kind z.of) (sym (same_Some x cell e)) ∙ ap plain_kind h.0.2,
-          ap (λ (z : Cell). z.section) (same_Some x cell e),
-        )
+      formal x.name x.section h.0.0,
+      refl,
+      ap (λ (z : Cell). plain_kind z.of) (sym (same_Some x cell e)) ∙ ap plain_kind h.0.2,
+      ap (λ (z : Cell). z.section) (same_Some x cell e),
+    )
     by (suc j) e more = more j e
 
 formals_long : (cells : List Cell) → AllByRecursion IsParameterCell cells → length (formals_of cells) ≡ length cells
@@ -409,4 +409,3 @@ own_function c name steps index section kind e = by (in_function c) refl
     by : (t : Bool) → in_function c ≡ t → t ≡ true
     by true is = refl
     by false is = never (subst NoParameter e (no_parameter c is name steps))
-

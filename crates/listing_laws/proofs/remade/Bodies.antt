@@ -1,6 +1,6 @@
 -- The statements of an accepted source, in the listing of its program.
-use Rattle.std.proofs.Common.{◌≡◌, ℕ, zero, suc, ◌+◌, ◌<◌, ◌≤◌, Bool, true, false, ◌||◌, not, List, [], ◌∷◌, ◌++◌, append_assoc, length, Option, Some, None, option_map, refl, sym, ap, subst, ◌∙◌, arith, if◌then◌else◌, eq-eqb}
-use Rattle.std.specs.Prelude.{◌==◌, min}
+use Rattle.std.proofs.Common.{◌≡◌, ℕ, suc, ◌<◌, ◌≤◌, Bool, true, false, ◌||◌, List, [], ◌∷◌, ◌++◌, append_assoc, length, Option, Some, None, option_map, refl, sym, ap, subst, ◌∙◌, arith, if◌then◌else◌, eq-eqb}
+use Rattle.std.specs.Prelude.{min}
 use Rattle.std.specs.List.{AllByRecursion, list_any}
 use Rattle.std.proofs.lemmas.Bool.{ltb-false}
 use Rattle.plc_base.specs.Kinds.{is_callable, is_data_type}
@@ -17,24 +17,20 @@ use Rattle.stl_ast.specs.declared.mnemonics.Mnemonic.{Mnemonic}
 use Rattle.stl_ast.specs.declared.mnemonics.Mnemonic.TheVariants as code
 use Rattle.stl_ast.specs.declared.names.BlockName.{BlockName}
 use Rattle.stl_ast.specs.declared.names.BlockName.TheVariants as block
-use Rattle.stl_ast.specs.declared.operands.Operand.{Operand}
 use Rattle.stl_ast.specs.declared.operands.Operand.TheVariants as operand
 use Rattle.stl_ast.specs.declared.statements.Statement.{Statement}
 use Rattle.stl_symbols.specs.Symbol.{Symbol}
 use Rattle.block_layout.specs.Measures.{types_of}
-use Rattle.block_layout.specs.Rule55.{has_too_many_statements}
 use Rattle.block_layout.specs.declared.blocks.BlockLayout.{BlockLayout}
 use Rattle.stl_types.specs.Context.{Context, data_number}
 use Rattle.stl_types.specs.Forms.{form_of}
 use Rattle.stl_types.specs.Operands.{operand_rule, rule_of, rule_seen, statement_rule}
-use Rattle.stl_types.specs.Parameters.{Callee, callee_of}
+use Rattle.stl_types.specs.Parameters.{callee_of}
 use Rattle.stl_types.specs.Resolution.{seen, whole_block}
-use Rattle.stl_types.specs.Resolved.{resolved}
 use Rattle.stl_types.specs.declared.parameters.Formal.{Formal}
 use Rattle.stl_types.specs.declared.views.Resolution.TheVariants.{Resolved}
-use Rattle.stl_types.specs.declared.views.ResolvedOperand.{ResolvedOperand}
 use Rattle.stl_types.specs.declared.views.ResolvedOperand.TheVariants as view
-use Rattle.stl_codegen.specs.Compiled.{Stated, StatedBlock, compiled, lines_in}
+use Rattle.stl_codegen.specs.Compiled.{Stated, StatedBlock, lines_in}
 use Rattle.stl_codegen.specs.Emitted.{passing}
 use Rattle.stl_codegen.specs.Generated.{stated_from, statements_of}
 use Rattle.stl_codegen.specs.Instruction.{instruction, jump_instr, passings_to, target_in, target_of}
@@ -42,18 +38,17 @@ use Rattle.stl_codegen.specs.Operations.{call_of, jump_of}
 use Rattle.stl_list.specs.Actuals.{actuals_before}
 use Rattle.stl_list.specs.Labels.{label_of}
 use Rattle.stl_list.specs.Lines.{line_at}
-use Rattle.stl_list.specs.Mnemonics.{mnemonic_of}
 use Rattle.stl_list.specs.Operands.{data_block_name}
-use Rattle.stl_list.specs.Runs.{number_at, starts}
+use Rattle.stl_list.specs.Runs.{number_at}
 use Rattle.stl_list.specs.Signatures.{Signature, called_formals, formals_of}
-use Rattle.stl_list.specs.Statements.{Surroundings, body_of, statement, surroundings}
+use Rattle.stl_list.specs.Statements.{Surroundings, statement}
 use Rattle.sem_kept.specs.Accepted.{IsAccepted, program_in}
 use Rattle.sem_kept.specs.Settled.{HasCalled, HasInstruction, HasOperand, IsSettled}
 use Rattle.sem_kept.proofs.accepted.Accepted.{IsSound, IsSoundStatement, IsSoundTree, right_tree}
 use Rattle.sem_kept.proofs.accepted.OperandsCells.{all_there}
 use Rattle.sem_kept.proofs.accepted.Settled.{statements_settle}
 use Rattle.sem_kept.proofs.accepted.SizesOps.{whole_count}
-use Rattle.listing_laws.specs.Again.{IsMadeOf, IsWholeAgain, again_at, context_at, listed_again}
+use Rattle.listing_laws.specs.Again.{IsMadeOf, IsWholeAgain, again_at, context_at}
 use Rattle.listing_laws.specs.AgainBodies.{AreBodiesKeptAgain, around_again, body_again, made_block}
 use Rattle.listing_laws.specs.CallsAgain.{AreStatementsAgain, IsFoundAgain, IsRightStatement}
 use Rattle.listing_laws.specs.Calls.{IsNumbered}
@@ -61,7 +56,6 @@ use Rattle.listing_laws.specs.Declared.{signatures_in}
 use Rattle.listing_laws.specs.Instructions.{HasAgain, IsKept}
 use Rattle.listing_laws.specs.LabelRules.{LeadsWithin}
 use Rattle.listing_laws.specs.ListedBodies.{AreKeptFrom}
-use Rattle.listing_laws.specs.Passings.{IsListedCall}
 use Rattle.listing_laws.specs.Statements.{jumps_to, offset_in, run_of}
 use Rattle.listing_laws.proofs.LabelLemmas.{labels_reached}
 use Rattle.listing_laws.proofs.RunLemmas.{numbers_found}
@@ -71,7 +65,7 @@ use Rattle.listing_laws.proofs.remade.Calls.{call_again, callable_here, called_i
 use Rattle.listing_laws.proofs.remade.Parameters.{source_sound}
 use Rattle.listing_laws.proofs.remade.Right.{operands_right}
 use Rattle.listing_laws.proofs.remade.Splits.{IsStated, all_split, split_holds, stated}
-use Rattle.listing_laws.proofs.ruled.Calling.{IsInstanceAgain, StandsCalled, called_again, called_plain, no_jump, no_zero, rule_called, same_kind, sees_called}
+use Rattle.listing_laws.proofs.ruled.Calling.{IsInstanceAgain, StandsCalled, called_again, called_plain, no_zero, rule_called, same_kind, sees_called}
 use Rattle.listing_laws.proofs.ruled.Instructions.{instructions_kept, jumped, jumps_kept, resolves, rule_broken, what_seen}
 use Rattle.listing_laws.proofs.ruled.Marks.{lines_length}
 use Rattle.listing_laws.proofs.ruled.Rules.{taken_view}

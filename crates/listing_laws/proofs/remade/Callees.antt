@@ -1,10 +1,9 @@
 -- The block that a listed statement calls, as the rules find it in the listing.
-use Rattle.std.proofs.Common.{◌≡◌, ◌⊎◌, inl, inr, ℕ, zero, suc, ◌<◌, ◌+◌, Bool, true, false, List, [], ◌∷◌, ◌++◌, length, map, Option, Some, None, slice_get, unwrap_or, nat_eq, refl, sym, ap, subst, ◌∙◌, arith, if◌then◌else◌}
+use Rattle.std.proofs.Common.{◌≡◌, ◌⊎◌, inl, inr, ℕ, zero, suc, Bool, true, false, List, [], ◌∷◌, ◌++◌, length, map, Option, Some, None, slice_get, unwrap_or, nat_eq, refl, sym, ap, subst, ◌∙◌, arith, if◌then◌else◌}
 use Rattle.std.specs.List.{AllByRecursion, list_all}
 use Rattle.std.specs.Option.{option_and_then, option_map}
 use Rattle.std.proofs.lemmas.Option.{same_Some, slice_get_within}
 use Rattle.std.proofs.lemmas.List.{length-map}
-use Rattle.plc_base.specs.Folding.{folded}
 use Rattle.plc_base.specs.Kinds.{is_callable, is_code, is_data_type, is_function, is_function_block, is_system_function, kind_number}
 use Rattle.plc_base.specs.Widths.{width_number}
 use Rattle.plc_base.specs.declared.blocks.BlockId.{BlockId}
@@ -14,20 +13,17 @@ use Rattle.flat_code.specs.Blocks.{Signature as FlatSignature, block_with, calle
 use Rattle.flat_code.specs.Image.{record_of_block, record_of_param}
 use Rattle.flat_code.specs.Programs.{CodeBlock, DataBlock, Program}
 use Rattle.flat_code.specs.declared.image_fields.ParameterRecord.{ParameterRecord}
-use Rattle.flat_code.specs.declared.programs.Param.{Param}
 use Rattle.stl_ast.specs.Blocks.{is_parameter}
 use Rattle.stl_ast.specs.Literals.{AreBytes}
 use Rattle.stl_ast.specs.declared.blocks.Block.{Block}
 use Rattle.stl_ast.specs.declared.blocks.PartKind.{PartKind}
 use Rattle.stl_ast.specs.declared.blocks.PartKind.TheVariants as part
 use Rattle.stl_ast.specs.declared.blocks.Tree.{Tree}
-use Rattle.stl_ast.specs.declared.declarations.Simple.{Simple}
 use Rattle.stl_ast.specs.declared.declarations.Simple.TheVariants as simple
 use Rattle.stl_symbols.specs.Symbol.{Symbol}
 use Rattle.block_layout.specs.Blocks.{known_block}
 use Rattle.block_layout.specs.Layouts.{layouts_of}
-use Rattle.block_layout.specs.Offsets.{width_of}
-use Rattle.block_layout.specs.Paths.{cells_at, cells_in, if_whole}
+use Rattle.block_layout.specs.Paths.{cells_in}
 use Rattle.block_layout.specs.declared.blocks.BlockLayout.{BlockLayout}
 use Rattle.block_layout.specs.declared.cells.Cell.{Cell}
 use Rattle.stl_types.specs.Context.{Context, ids, whole_place}
@@ -35,16 +31,16 @@ use Rattle.stl_types.specs.Parameters.{Callee, callee_at, callee_by, dtime, form
 use Rattle.stl_types.specs.Resolution.{id_at, whole_block}
 use Rattle.stl_types.specs.declared.parameters.Formal.{Formal}
 use Rattle.stl_codegen.specs.Compiled.{compiled}
-use Rattle.stl_codegen.specs.Generated.{code_block, code_blocks_of, params_of, section_number}
+use Rattle.stl_codegen.specs.Generated.{code_block, params_of, section_number}
 use Rattle.stl_codegen.specs.Instruction.{block_at, in_order}
-use Rattle.stl_list.specs.CodeBlocks.{in_lines, listed_block}
+use Rattle.stl_list.specs.CodeBlocks.{in_lines}
 use Rattle.stl_list.specs.Joined.{Chains, chains_of, system_parameters}
 use Rattle.stl_list.specs.Parameters.{section_of}
-use Rattle.stl_list.specs.Signatures.{Signature, called_formals, formals_of, signatures}
+use Rattle.stl_list.specs.Signatures.{Signature, called_formals, formals_of}
 use Rattle.sem_kept.specs.Accepted.{IsAccepted, program_in}
 use Rattle.sem_kept.proofs.accepted.Accepted.{IsSoundTree, right_tree}
 use Rattle.sem_kept.proofs.accepted.OperandsCells.{known_there}
-use Rattle.sem_kept.proofs.accepted.OperandsFormals.{IsRecordOf, IsSystem, Matched, system_matched}
+use Rattle.sem_kept.proofs.accepted.OperandsFormals.{IsRecordOf, Matched, system_matched}
 use Rattle.sem_kept.proofs.accepted.OperandsMembers.{called_block}
 use Rattle.listing_laws.specs.AcceptedTypes.{declared_kinds}
 use Rattle.listing_laws.specs.Again.{IsMadeOf, IsWholeAgain, again_at, context_at, listed_again}
@@ -301,8 +297,7 @@ module _ (source file : List ℕ) (symbols : List Symbol) (t : Tree) (accepted :
           let found : IsFormalAt (formals_of ss id) index own.0 =
           subst (λ fs. IsFormalAt fs index own.0) (sym h.known.are)
           (formal_at chains (is_function id.kind) false 0 h.known.first (params_of b l) h.known.wide index own.0 own.1) in
-          let listed = parameters_listed chains (program_in symbols t).code_blocks id index found.formal found.there in
-          (
+          let listed = parameters_listed chains (program_in symbols t).code_blocks id index found.formal found.there in (
             found.formal,
             found.there,
             record {

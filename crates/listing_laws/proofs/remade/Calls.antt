@@ -1,5 +1,5 @@
 -- The calls of an accepted source, in the listing of its program.
-use Rattle.std.proofs.Common.{◌≡◌, ℕ, zero, suc, ◌+◌, ◌<◌, ◌≤◌, Bool, true, false, ◌&&◌, ◌||◌, not, nat_eq, List, [], ◌∷◌, ◌++◌, length, map, Option, Some, None, option_map, slice_get, refl, sym, ap, ap₂, subst, ◌∙◌, arith, if◌then◌else◌, unwrap_or}
+use Rattle.std.proofs.Common.{◌≡◌, ℕ, suc, ◌≤◌, Bool, true, false, ◌&&◌, ◌||◌, not, nat_eq, List, [], ◌∷◌, ◌++◌, length, map, Option, Some, None, option_map, slice_get, refl, sym, ap, subst, ◌∙◌, if◌then◌else◌}
 use Rattle.std.specs.Prelude.{◌==◌}
 use Rattle.std.specs.List.{AllByRecursion}
 use Rattle.std.specs.Option.{is_none}
@@ -12,10 +12,8 @@ use Rattle.plc_base.specs.Widths.{width_number}
 use Rattle.plc_base.specs.declared.blocks.BlockId.{BlockId}
 use Rattle.plc_base.specs.declared.blocks.BlockKind.{BlockKind}
 use Rattle.plc_base.specs.declared.blocks.BlockKind.TheVariants as kinds
-use Rattle.plc_base.specs.declared.places.Area.{Area}
-use Rattle.plc_base.specs.declared.places.Area.TheVariants as area
 use Rattle.plc_base.specs.declared.places.Width.{Width}
-use Rattle.flat_code.specs.Blocks.{Around, Callee as FlatCallee, are_passed, callee as flat_callee, is_bad_actual, is_bad_call, is_bad_instance, is_input, lacks_own, misfits_index, misfits_parameter, own_parameter, signature_of}
+use Rattle.flat_code.specs.Blocks.{Around, Callee as FlatCallee, are_passed, is_bad_actual, is_bad_call, is_input, lacks_own, misfits_index, misfits_parameter, own_parameter, signature_of}
 use Rattle.flat_code.specs.Forms.{actual_fits}
 use Rattle.flat_code.specs.Image.{record_of_block, record_of_param}
 use Rattle.flat_code.specs.Instr.{Calls, Instr, Passing}
@@ -33,13 +31,9 @@ use Rattle.stl_ast.specs.declared.mnemonics.Mnemonic.{Mnemonic}
 use Rattle.stl_ast.specs.declared.mnemonics.Mnemonic.TheVariants as code
 use Rattle.stl_ast.specs.declared.names.BlockName.{BlockName}
 use Rattle.stl_ast.specs.declared.names.BlockName.TheVariants as block
-use Rattle.stl_ast.specs.declared.operands.Operand.{Operand}
 use Rattle.stl_ast.specs.declared.operands.Operand.TheVariants as operand
-use Rattle.stl_ast.specs.declared.operands.PathHead.TheVariants as head
-use Rattle.stl_ast.specs.declared.statements.Actual.{Actual}
 use Rattle.stl_ast.specs.declared.statements.Statement.{Statement}
 use Rattle.stl_symbols.specs.Symbol.{Symbol}
-use Rattle.block_layout.specs.Blocks.{named_block}
 use Rattle.block_layout.specs.Layouts.{block_layout, layouts_of}
 use Rattle.block_layout.specs.Lengths.{farthest, local_len}
 use Rattle.block_layout.specs.Measures.{types_of}
@@ -48,13 +42,10 @@ use Rattle.block_layout.specs.declared.blocks.BlockLayout.{BlockLayout}
 use Rattle.stl_types.specs.Calls.{calls_unknown, is_unknown_function}
 use Rattle.stl_types.specs.Context.{Context, data_number}
 use Rattle.stl_types.specs.Forms.{form_of}
-use Rattle.stl_types.specs.Operands.{takes}
 use Rattle.stl_types.specs.Parameters.{Callee, callee_by, callee_of, system_formals}
 use Rattle.stl_types.specs.Resolution.{seen, whole_block}
 use Rattle.stl_types.specs.Resolved.{resolved}
 use Rattle.stl_types.specs.Variables.{own_variable}
-use Rattle.stl_types.specs.declared.forms.OperandRule.{OperandRule}
-use Rattle.stl_types.specs.declared.forms.OperandRule.TheVariants as form
 use Rattle.stl_types.specs.declared.parameters.Formal.{Formal}
 use Rattle.stl_types.specs.declared.views.Resolution.TheVariants.{Resolved}
 use Rattle.stl_types.specs.declared.views.ResolvedOperand.TheVariants as view
@@ -62,7 +53,7 @@ use Rattle.stl_codegen.specs.Compiled.{StatedBlock, compiled}
 use Rattle.stl_codegen.specs.Emitted.{instance_number, ops_of, passing}
 use Rattle.stl_codegen.specs.Generated.{code_block, code_blocks_of, data_blocks_of, params_of}
 use Rattle.stl_codegen.specs.Instruction.{block_at, in_order, instr_by, instruction, passings_to, resolved_instr, return_last, view_instr}
-use Rattle.stl_codegen.specs.Operations.{call_of, jump_of}
+use Rattle.stl_codegen.specs.Operations.{call_of}
 use Rattle.stl_list.specs.Joined.{system_parameters}
 use Rattle.stl_list.specs.Operands.{data_block_name, name_at, own_parameter as own_named}
 use Rattle.stl_list.specs.Signatures.{Signature, called_formals, formals_of}
@@ -82,27 +73,26 @@ use Rattle.sem_kept.proofs.accepted.OperandsSymbols.{symbols_fit}
 use Rattle.sem_kept.proofs.accepted.OperandsViews.{EndsBy, Surrounds, ends_by, holds_locals}
 use Rattle.sem_kept.proofs.accepted.Settled.{statements_settle}
 use Rattle.listing_laws.specs.AcceptedTypes.{declared_kinds}
-use Rattle.listing_laws.specs.Again.{IsMadeOf, IsWholeAgain, again_at, context_at, listed_again}
+use Rattle.listing_laws.specs.Again.{IsMadeOf, IsWholeAgain, again_at, context_at}
 use Rattle.listing_laws.specs.Calling.{AreCalledAgain}
 use Rattle.listing_laws.specs.CallsAgain.{AreCallsAgain, IsCalledAgain, IsFoundAgain, IsRightStatement}
-use Rattle.listing_laws.specs.Chains.{is_listed}
 use Rattle.listing_laws.specs.Declared.{signatures_in}
 use Rattle.listing_laws.specs.Fitting.{IsBacked, IsListedAs}
-use Rattle.listing_laws.specs.HandedOn.{IsCallable, OwesCall, called_kinds, ordered}
+use Rattle.listing_laws.specs.HandedOn.{OwesCall, ordered}
 use Rattle.listing_laws.specs.Instructions.{HasAgain}
-use Rattle.listing_laws.specs.Passings.{AreAllPassed, FitsListed, IsPassable, upper}
+use Rattle.listing_laws.specs.Passings.{IsPassable, upper}
 use Rattle.listing_laws.specs.Steps.{PassesOn}
-use Rattle.listing_laws.proofs.called.AcceptedTypes.{body_owed, form_calls, operand_called, owed, resolved_seen, rule_called, seen_named, taken_calls}
-use Rattle.listing_laws.proofs.called.Fitting.{fitting_listed, same_widths, width_is}
+use Rattle.listing_laws.proofs.called.AcceptedTypes.{form_calls, operand_called, owed, resolved_seen, rule_called, seen_named, taken_calls}
+use Rattle.listing_laws.proofs.called.Fitting.{fitting_listed, width_is}
 use Rattle.listing_laws.proofs.made.Found.{called_found, data_found}
 use Rattle.listing_laws.proofs.remade.Blocks.{IsListedCode, listed_code}
-use Rattle.listing_laws.proofs.remade.Callees.{HasFormals, IsCalleeAgain, block_again, block_formals, system_again}
+use Rattle.listing_laws.proofs.remade.Callees.{IsCalleeAgain, block_again, block_formals, system_again}
 use Rattle.listing_laws.proofs.remade.Parameters.{formal_again, name_there, parameters_again, source_kind, source_sound}
 use Rattle.listing_laws.proofs.remade.Passed.{AreStored, IsFitting, IsStored, all_passed, from_stored, passed_all, passings_fit, rising}
 use Rattle.listing_laws.proofs.remade.Right.{operands_right}
-use Rattle.listing_laws.proofs.remade.Splits.{IsAmong, IsStated, all_split, among, split_holds, stated}
+use Rattle.listing_laws.proofs.remade.Splits.{IsAmong, all_split, among, split_holds, stated}
 use Rattle.listing_laws.proofs.remade.Types.{asked, given}
-use Rattle.listing_laws.proofs.ruled.Calling.{StandsCalled, no_jump, no_zero, sees_called}
+use Rattle.listing_laws.proofs.ruled.Calling.{no_jump, no_zero, sees_called}
 
 -- ---- words
 

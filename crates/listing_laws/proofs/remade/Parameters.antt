@@ -1,23 +1,19 @@
 -- The parameters of a body, in the listing of an accepted source's program.
-use Rattle.std.proofs.Common.{◌≡◌, ℕ, zero, suc, ◌+◌, Bool, true, false, List, [], ◌∷◌, map, Option, Some, None, slice_get, refl, sym, ap, ap₂, subst, ◌∙◌, arith, if◌then◌else◌}
+use Rattle.std.proofs.Common.{◌≡◌, ℕ, zero, suc, Bool, true, false, List, [], ◌∷◌, map, Option, Some, slice_get, refl, sym, ap, subst, ◌∙◌}
 use Rattle.std.specs.List.{AllByRecursion}
 use Rattle.std.proofs.lemmas.Option.{same_Some}
 use Rattle.plc_base.specs.Folding.{folded}
 use Rattle.plc_base.specs.Kinds.{is_function, is_function_block}
-use Rattle.plc_base.specs.Widths.{width_number}
 use Rattle.plc_base.specs.declared.blocks.BlockId.{BlockId}
 use Rattle.plc_base.specs.declared.blocks.BlockKind.{BlockKind}
 use Rattle.plc_base.specs.declared.blocks.BlockKind.TheVariants as kinds
 use Rattle.flat_code.specs.Image.{record_of_param}
 use Rattle.flat_code.specs.Programs.{CodeBlock}
-use Rattle.flat_code.specs.declared.image_fields.ParameterRecord.{ParameterRecord}
 use Rattle.flat_code.specs.declared.programs.Param.{Param}
 use Rattle.stl_ast.specs.Blocks.{is_parameter}
-use Rattle.stl_ast.specs.Literals.{AreBytes}
 use Rattle.stl_ast.specs.declared.blocks.Block.{Block}
 use Rattle.stl_ast.specs.declared.blocks.PartKind.{PartKind}
 use Rattle.stl_ast.specs.declared.blocks.PartKind.TheVariants as part
-use Rattle.stl_ast.specs.declared.blocks.PathStep.{PathStep}
 use Rattle.stl_ast.specs.declared.blocks.Tree.{Tree}
 use Rattle.stl_ast.specs.declared.declarations.Simple.{Simple}
 use Rattle.stl_symbols.specs.Symbol.{Symbol}
@@ -27,7 +23,7 @@ use Rattle.block_layout.specs.Measures.{types_of}
 use Rattle.block_layout.specs.Paths.{cells_at}
 use Rattle.block_layout.specs.declared.blocks.BlockLayout.{BlockLayout}
 use Rattle.block_layout.specs.declared.cells.Cell.{Cell}
-use Rattle.stl_types.specs.Context.{Context, in_function, is_of_function}
+use Rattle.stl_types.specs.Context.{Context, is_of_function}
 use Rattle.stl_types.specs.Operands.{is_input}
 use Rattle.stl_types.specs.Parameters.{formals_of as formals_in}
 use Rattle.stl_types.specs.Variables.{own_variable}
@@ -41,17 +37,15 @@ use Rattle.stl_list.specs.CodeBlocks.{listed_block}
 use Rattle.stl_list.specs.Joined.{Chains, chains_of}
 use Rattle.stl_list.specs.Operands.{name_at}
 use Rattle.stl_list.specs.Parameters.{section_of}
-use Rattle.stl_list.specs.Signatures.{Signature, formals_from, formals_of, is_behind}
-use Rattle.sem_kept.specs.Accepted.{IsAccepted, program_in}
+use Rattle.stl_list.specs.Signatures.{formals_from, formals_of, is_behind}
+use Rattle.sem_kept.specs.Accepted.{program_in}
 use Rattle.sem_kept.proofs.accepted.Accepted.{IsSound, IsSoundTree, right_tree, sound_at}
 use Rattle.sem_kept.proofs.accepted.OperandsCells.{cells_are}
 use Rattle.sem_kept.proofs.accepted.OperandsFormals.{IsRecordOf, Matched, source_matched}
 use Rattle.sem_kept.proofs.accepted.OperandsViews.{layout_id}
 use Rattle.sem_kept.proofs.accepted.Shared.{kind_there}
-use Rattle.listing_laws.specs.Again.{IsMadeOf, IsWholeAgain, again_at, context_at, listed_again}
+use Rattle.listing_laws.specs.Again.{IsMadeOf, again_at, context_at, listed_again}
 use Rattle.listing_laws.specs.Declared.{AreWide, signatures_in}
-use Rattle.listing_laws.specs.Operands.{IsParameterAgain}
-use Rattle.listing_laws.specs.OwnParameters.{IsFunctionAt}
 use Rattle.listing_laws.specs.ParametersAgain.{AreParametersAgain}
 use Rattle.listing_laws.proofs.called.AcceptedTypes.{components_same, own_parameters}
 use Rattle.listing_laws.proofs.called.Fitting.{same_widths}

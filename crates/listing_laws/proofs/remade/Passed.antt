@@ -1,16 +1,15 @@
 -- What a statement of a source passes, as an image has it and as the listing names it.
-use Rattle.std.proofs.Common.{◌≡◌, ℕ, zero, suc, ◌<◌, ◌≤◌, ◌+◌, Bool, true, false, ◌&&◌, ◌||◌, not, nat_eq, nat_lt, List, [], ◌∷◌, ◌++◌, length, map, Option, Some, None, slice_get, refl, sym, ap, subst, ◌∙◌, arith, if◌then◌else◌}
-use Rattle.std.specs.Prelude.{find, ◌==◌}
+use Rattle.std.proofs.Common.{◌≡◌, ℕ, zero, suc, ◌<◌, ◌≤◌, ◌+◌, Bool, true, false, ◌||◌, List, [], ◌∷◌, ◌++◌, length, Option, Some, None, refl, sym, subst, arith, if◌then◌else◌}
+use Rattle.std.specs.Prelude.{◌==◌}
 use Rattle.std.specs.List.{AllByRecursion, list_any}
 use Rattle.std.specs.Option.{IfSome}
-use Rattle.std.proofs.lemmas.Bool.{and_parts, eqb-true, ltb-true}
-use Rattle.std.proofs.lemmas.Bool.Decides.{nat_tests}
+use Rattle.std.proofs.lemmas.Bool.{and_parts, ltb-true}
 use Rattle.plc_base.proofs.ListLemmas.{all_append}
-use Rattle.flat_code.specs.Blocks.{Around, Callee, are_passed, is_above, is_bad_actual, is_index, is_passed, misfits_callee, pass_index}
+use Rattle.flat_code.specs.Blocks.{Around, Callee, are_passed, is_above, is_bad_actual, is_passed, misfits_callee}
 use Rattle.flat_code.specs.Forms.{actual as actual_coding, actual_fits, payload_fits}
 use Rattle.flat_code.specs.Instr.{Passing}
 use Rattle.flat_code.specs.OpCodes.{code_of}
-use Rattle.flat_code.specs.Ops.{OpData, is_op}
+use Rattle.flat_code.specs.Ops.{is_op}
 use Rattle.flat_code.specs.declared.image_fields.ParameterRecord.{ParameterRecord}
 use Rattle.flat_code.specs.declared.operands.Operand.TheVariants as flat
 use Rattle.flat_code.specs.declared.operands.Passed.{Passed}
@@ -30,8 +29,7 @@ use Rattle.stl_types.specs.declared.views.Resolution.TheVariants.{Resolved, Unkn
 use Rattle.stl_types.specs.declared.views.ResolvedOperand.{ResolvedOperand}
 use Rattle.stl_types.specs.declared.views.ResolvedOperand.TheVariants as view
 use Rattle.flat_code.specs.Instr.{Calls}
-use Rattle.stl_codegen.specs.Compiled.{aimed}
-use Rattle.stl_codegen.specs.Emitted.{call_op, ops_of, passing, preparing}
+use Rattle.stl_codegen.specs.Emitted.{call_op, ops_of, passing}
 use Rattle.stl_codegen.specs.Operands.{is_in_named_block, opened_by_place}
 use Rattle.stl_codegen.specs.Passed.{passed_actual, passed_place, passed_seen, passed_view, passings_from, supplied, with_index}
 use Rattle.sem_kept.specs.Operands.{ArePassed}

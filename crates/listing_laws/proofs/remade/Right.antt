@@ -1,11 +1,11 @@
 -- The operands of an accepted source are right ones.
-use Rattle.std.proofs.Common.{◌≡◌, ℕ, suc, ◌<◌, ◌≤◌, ◌^◌, List, [], ◌∷◌, Option, Some, None, find, true, false, Bool, if◌then◌else◌, refl, sym, subst, ap, ◌∙◌, arith}
+use Rattle.std.proofs.Common.{◌≡◌, ℕ, suc, ◌≤◌, List, [], ◌∷◌, Option, Some, None, find, true, false, Bool, if◌then◌else◌, subst, arith}
 use Rattle.std.specs.List.{AllByRecursion}
 use Rattle.plc_base.specs.Folding.{is_same_name}
 use Rattle.plc_base.specs.declared.places.Area.{Area}
 use Rattle.plc_base.specs.declared.places.Area.TheVariants as area
 use Rattle.plc_base.specs.declared.places.Width.TheVariants as width
-use Rattle.stl_ast.specs.Literals.{AreBytes, IsLiteral}
+use Rattle.stl_ast.specs.Literals.{IsLiteral}
 use Rattle.stl_ast.specs.Operands.{IsOperand}
 use Rattle.stl_ast.specs.Statements.{AreActuals}
 use Rattle.stl_ast.specs.declared.blocks.Block.{Block}
@@ -25,7 +25,6 @@ use Rattle.block_layout.specs.Measures.{types_of}
 use Rattle.block_layout.specs.declared.blocks.BlockLayout.{BlockLayout}
 use Rattle.stl_types.specs.Addresses.{area_left, area_of}
 use Rattle.stl_types.specs.Context.{Context}
-use Rattle.sem_kept.specs.Accepted.{IsAccepted}
 use Rattle.sem_kept.specs.Coded.{HasBytes, OperandHasBytes, StatementHasBytes}
 use Rattle.sem_kept.proofs.accepted.Accepted.{AllLaid, IsSound, IsSoundStatement, right_tree}
 use Rattle.sem_kept.proofs.accepted.CodedBits.{value_fits}
