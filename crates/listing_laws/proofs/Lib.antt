@@ -23,6 +23,9 @@ mod SymbolOrderLemmas
 mod WordLemmas
 mod called
 pub mod declared
+mod made
+mod naming
+mod remade
 mod right
 mod ruled
 mod unbroken
