@@ -41,7 +41,7 @@ use Rattle.sem_kept.proofs.accepted.OperandsViews.{ids_same}
 use Rattle.listing_laws.specs.Again.{IsMadeOf, IsWholeAgain, again_at, context_at as source_at, listed_again}
 use Rattle.listing_laws.specs.CallsAgain.{IsRightStatement}
 use Rattle.listing_laws.specs.Declared.{signatures_in}
-use Rattle.listing_laws.specs.Instructions.{HasAgain, IsRightOperand}
+use Rattle.listing_laws.specs.Instructions.{IsRightOperand}
 use Rattle.listing_laws.specs.RightBodies.{AreBodiesRight, AreListedBodiesRight}
 use Rattle.listing_laws.proofs.made.Found.{data_found}
 use Rattle.listing_laws.proofs.made.Origins.{blocks_count, lines_count, made_of_source, tree_blocks}
