@@ -3,4 +3,5 @@ pub mod CodeBlocks
 pub mod Compiled
 pub mod Found
 pub mod Origins
+pub mod Refusals
 pub mod Sorting
