@@ -24,5 +24,6 @@ mod WordLemmas
 mod called
 pub mod declared
 mod naming
+mod made
 mod ruled
 mod unbroken

@@ -77,14 +77,14 @@ stated_rise c body n (s ∷ ss) high low end h =
     by true skipped kept = skipped
     by false skipped kept = (h.0, h.1, kept)
 
-last_of : (front : List ℕ) (end : ℕ) → line_at (front ++ end ∷ []) (length (front ++ end ∷ []) - 1) ≡ end
+pub last_of : (front : List ℕ) (end : ℕ) → line_at (front ++ end ∷ []) (length (front ++ end ∷ []) - 1) ≡ end
 last_of [] end = refl
 last_of (line ∷ front) end =
     let size = length-append front (end ∷ []) in
     let here : length (line ∷ (front ++ end ∷ [])) - 1 ≡ suc (length (front ++ end ∷ []) - 1) = omega (arith, size) in
     ap (line_at (line ∷ (front ++ end ∷ []))) here ∙ last_of front end
 
-map_last : (ss : List Stated) (r : Stated) → map (λ s. s.line) (ss ++ r ∷ []) ≡ map (λ s. s.line) ss ++ r.line ∷ []
+pub map_last : (ss : List Stated) (r : Stated) → map (λ s. s.line) (ss ++ r ∷ []) ≡ map (λ s. s.line) ss ++ r.line ∷ []
 map_last [] r = refl
 map_last (s ∷ ss) r = ap (λ (z : List ℕ). s.line ∷ z) (map_last ss r)
 

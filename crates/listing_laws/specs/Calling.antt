@@ -1,5 +1,6 @@
 -- The calls of a listing that pass nothing.
-use Rattle.std.specs.Prelude.{◌≡◌, ℕ, true, List, [], Some}
+use Rattle.std.specs.Prelude.{◌≡◌, ℕ, true, false, List, [], Some}
+use Rattle.plc_base.specs.Kinds.{is_data_type}
 use Rattle.plc_base.specs.declared.blocks.BlockId.{BlockId}
 use Rattle.flat_code.specs.declared.operations.CallOperation.{CallOperation}
 use Rattle.stl_ast.specs.Statements.{is_called}
@@ -14,10 +15,11 @@ use Rattle.stl_list.specs.Statements.{Surroundings, statement}
 use Rattle.listing_laws.specs.Instructions.{HasAgain, IsKept}
 use Rattle.listing_laws.specs.Statements.{run_of}
 
--- the blocks that the source may call stand in the tree of the listing
+-- the blocks that the source may call stand in the tree of the listing, which has no user-defined data types
 abbrev pub AreCalledAgain : Context → Context → Type 0
 AreCalledAgain c listed =
-    (id : BlockId) → whole_block c (Some id) ≡ Some id → whole_block listed (Some id) ≡ Some id
+    (id : BlockId) → is_data_type id.kind ≡ false → whole_block c (Some id) ≡ Some id
+    → whole_block listed (Some id) ≡ Some id
 
 -- UC, CC, or a CALL without actual parameters comes to the instruction of the source
 abbrev pub AreCallsKept : Type 0

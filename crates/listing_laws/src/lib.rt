@@ -3,6 +3,7 @@
 #![tactic(auto)]
 
 mod accepted_types;
+mod again_bodies;
 mod bodies;
 mod called_names;
 mod calling;
@@ -13,6 +14,7 @@ mod declarations;
 mod ends;
 mod fitting;
 mod forms;
+mod found;
 mod handed_on;
 mod heads;
 mod ids;
@@ -28,6 +30,7 @@ mod names;
 mod nesting;
 mod opened;
 mod operands;
+mod origins;
 mod own_data;
 mod own_parameters;
 mod owned;
@@ -42,6 +45,7 @@ mod steps;
 mod whole;
 
 pub use accepted_types::law_of_accepted_types;
+pub use again_bodies::law_of_again_bodies;
 pub use bodies::law_of_listed_bodies;
 pub use called_names::law_of_called_names;
 pub use calling::law_of_listed_bare_calls;
@@ -52,6 +56,7 @@ pub use declarations::law_of_listed_declarations;
 pub use ends::law_of_listed_ends;
 pub use fitting::law_of_fitting_passings;
 pub use forms::law_of_listed_forms;
+pub use found::law_of_found_blocks;
 pub use handed_on::law_of_handed_types;
 pub use heads::law_of_listed_heads;
 pub use ids::law_of_listed_ids;
@@ -67,6 +72,7 @@ pub use names::law_of_listed_names;
 pub use nesting::law_of_nestings;
 pub use opened::law_of_opened_blocks;
 pub use operands::law_of_listed_operands;
+pub use origins::law_of_listed_origins;
 pub use own_data::law_of_own_data_blocks;
 pub use own_parameters::law_of_own_parameters;
 pub use owned::law_of_own_types;

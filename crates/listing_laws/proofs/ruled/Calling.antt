@@ -1,7 +1,7 @@
 -- The calls of a listing that pass nothing.
 use Rattle.std.proofs.Common.{◌≡◌, ℕ, zero, suc, Bool, true, false, List, [], ◌∷◌, Option, Some, None, if◌then◌else◌, refl, sym, ap, ◌∙◌, arith}
 use Rattle.std.proofs.lemmas.Bool.{ne_eqb}
-use Rattle.plc_base.specs.Kinds.{is_callable, is_function_block, is_system_function, kind_number}
+use Rattle.plc_base.specs.Kinds.{is_callable, is_data_type, is_function_block, is_system_function, kind_number}
 use Rattle.plc_base.specs.declared.blocks.BlockId.{BlockId}
 use Rattle.plc_base.specs.declared.blocks.BlockKind.{BlockKind}
 use Rattle.plc_base.specs.declared.blocks.BlockKind.TheVariants as kinds
@@ -89,6 +89,19 @@ block_again : (kind : BlockKind) (number : ℕ) → is_function_block kind ≡ t
 block_again kinds.Fb number h = refl
 block_again _ number h = absurd cc
 
+-- no user-defined data type is called
+callable_plain : (kind : BlockKind) → is_callable kind ≡ true → is_data_type kind ≡ false
+callable_plain kinds.Udt h = absurd cc
+callable_plain _ h = refl
+
+block_plain : (kind : BlockKind) → is_function_block kind ≡ true → is_data_type kind ≡ false
+block_plain kinds.Udt h = absurd cc
+block_plain _ h = refl
+
+pub called_plain : (id : BlockId) (instance : Option ℕ) → is_called_view (view.Called id instance) ≡ true → is_data_type id.kind ≡ false
+called_plain id None h = callable_plain id.kind h
+called_plain id (Some number) h = block_plain id.kind h
+
 id_again : (id : BlockId) (instance : Option ℕ) → is_called_view (view.Called id instance) ≡ true → called_id (kind_number id.kind) id.number ≡ id
 id_again id None h = callable_again id.kind id.number h
 id_again id (Some number) h = block_again id.kind id.number h
@@ -135,7 +148,7 @@ record StandsCalled (listed : Context) (v : ResolvedOperand) : Type 0 where
   id : BlockId
   instance : Option ℕ
   is : v ≡ view.Called id instance
-  whole : whole_block listed (Some id) ≡ Some id
+  whole : is_data_type id.kind ≡ false → whole_block listed (Some id) ≡ Some id
   again : IsInstanceAgain listed instance
 
 view_is : (y w : ResolvedOperand) → Resolved y ≡ Resolved w → w ≡ y
@@ -147,10 +160,10 @@ found_called c listed formals x named v has called e = by (whole_block c x) name
   where
     by : (y : Option BlockId) (i : Option BlockName) (number : Option ℕ) → whole_block c x ≡ y → instance_number c i ≡ number → called_seen y i number ≡ Resolved v → StandsCalled listed v
     by None i number g k e = absurd cc
-    by (Some id) None number g k e = record { id = id; instance = None; is = view_is (view.Called id None) v e; whole = called id (whole_id c x id g); again = tt }
+    by (Some id) None number g k e = record { id = id; instance = None; is = view_is (view.Called id None) v e; whole = λ plain. called id plain (whole_id c x id g); again = tt }
     by (Some id) (Some name) None g k e = absurd cc
     by (Some id) (Some name) (Some number) g k e =
-        record { id = id; instance = Some number; is = view_is (view.Called id (Some number)) v e; whole = called id (whole_id c x id g); again = has.data_blocks name number k }
+        record { id = id; instance = Some number; is = view_is (view.Called id (Some number)) v e; whole = λ plain. called id plain (whole_id c x id g); again = has.data_blocks name number k }
 
 sees_called : (c listed : Context) (formals : List Formal) (o : Operand) (v : ResolvedOperand) → HasAgain c listed formals → AreCalledAgain c listed → is_called o ≡ true → seen c o ≡ Resolved v → StandsCalled listed v
 unfolding seen
@@ -202,5 +215,6 @@ calls_kept c listed sur f body again n k s v how has called is none h e =
     by st =
         let rule : rule_of (form_of s.code) (view.Called st.id st.instance) ≡ None =
         ap (rule_of (form_of s.code)) (sym st.is) ∙ rule_called c (form_of s.code) s.operand v is (rule_broken c s v e) (what_seen c s v e) in
+        let plain = called_plain st.id st.instance (same_kind s.code how (view.Called st.id st.instance) h (taken_view (form_of s.code) (view.Called st.id st.instance) rule)) in
         rw (calls_to c body n s how st.id st.instance h none (e ∙ ap (λ (x : ResolvedOperand). Some x) st.is))
-        (calls_again listed sur f again n k s.code how st.id st.instance h rule st.whole st.again)
+        (calls_again listed sur f again n k s.code how st.id st.instance h rule (st.whole plain) st.again)

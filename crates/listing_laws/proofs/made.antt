@@ -1,0 +1,7 @@
+-- What the blocks of a listing were made of, and what they come to.
+pub mod CodeBlocks
+pub mod Compiled
+pub mod Found
+pub mod Origins
+pub mod Refusals
+pub mod Sorting
