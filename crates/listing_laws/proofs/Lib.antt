@@ -25,5 +25,6 @@ mod called
 pub mod declared
 mod naming
 mod made
+mod remade
 mod ruled
 mod unbroken

@@ -74,25 +74,25 @@ record IsNamed (c : Context) (o : Operand) (id : BlockId) : Type 0 where
   named : named_block c.symbols name ≡ Some id
   whole : is_system_function id.kind ≡ false → (p : ℕ) × (whole_place c id ≡ Some p)
 
-taken_calls : (f : OperandRule) (id : BlockId) (instance : Option ℕ) → takes f (view.Called id instance) ≡ true
+pub taken_calls : (f : OperandRule) (id : BlockId) (instance : Option ℕ) → takes f (view.Called id instance) ≡ true
     → f ≡ form.Calls
 unfolding takes
 taken_calls form.Calls id instance e = refl
 taken_calls _ id instance e = absurd cc
 
-calls_take : (id : BlockId) (instance : Option ℕ) → takes form.Calls (view.Called id instance) ≡ true
+pub calls_take : (id : BlockId) (instance : Option ℕ) → takes form.Calls (view.Called id instance) ≡ true
     → is_called (view.Called id instance) ≡ true
 unfolding takes
 calls_take id instance e = e
 
-form_calls : (m : Mnemonic) → form_of m ≡ form.Calls → is_call m ≡ true
+pub form_calls : (m : Mnemonic) → form_of m ≡ form.Calls → is_call m ≡ true
 unfolding form_of
 form_calls code.Call e = refl
 form_calls code.Uc e = refl
 form_calls code.Cc e = refl
 form_calls _ e = absurd cc
 
-operand_called : (o : Operand) → is_called_operand o ≡ true
+pub operand_called : (o : Operand) → is_called_operand o ≡ true
     → (name : BlockName) × (inst : Option BlockName) × (o ≡ operand.Called name inst)
 operand_called (operand.Called name inst) e = (name, inst, refl)
 operand_called _ e = absurd cc
@@ -107,10 +107,10 @@ seen_id x id (Some name) None instance e = absurd cc
 seen_id x id (Some name) (Some n) instance e = called_same x id (Some n) instance e
 
 -- this block, which is a system function or has a place
-abbrev IsWhole : Context → BlockId → Option BlockId → Type 0
+abbrev pub IsWhole : Context → BlockId → Option BlockId → Type 0
 IsWhole c id o = (o ≡ Some id) × (is_system_function id.kind ≡ false → (p : ℕ) × (whole_place c id ≡ Some p))
 
-seen_named : (c : Context) (name : BlockName) (inst : Option BlockName) (id : BlockId) (instance : Option ℕ)
+pub seen_named : (c : Context) (name : BlockName) (inst : Option BlockName) (id : BlockId) (instance : Option ℕ)
     → seen c (operand.Called name inst) ≡ Resolved (view.Called id instance)
     → IsWhole c id (named_block c.symbols name)
 unfolding seen
@@ -138,7 +138,7 @@ view_seen (Resolved w) v e = ap (λ (z : ResolvedOperand). Resolved z) (same_Som
 view_seen Unknown v e = absurd cc
 view_seen Unjudged v e = absurd cc
 
-resolved_seen : (c : Context) (s : Statement) (v : ResolvedOperand) → resolved c s ≡ Some v → seen c s.operand ≡ Resolved v
+pub resolved_seen : (c : Context) (s : Statement) (v : ResolvedOperand) → resolved c s ≡ Some v → seen c s.operand ≡ Resolved v
 unfolding resolved
 resolved_seen c s v e = by (is_none (statement_rule c s)) e
   where
@@ -146,7 +146,7 @@ resolved_seen c s v e = by (is_none (statement_rule c s)) e
     by true h = view_seen (seen c s.operand) v h
     by false h = absurd cc
 
-rule_called : (c : Context) (f : OperandRule) (o : Operand) (id : BlockId) (instance : Option ℕ)
+pub rule_called : (c : Context) (f : OperandRule) (o : Operand) (id : BlockId) (instance : Option ℕ)
     → seen c o ≡ Resolved (view.Called id instance) → operand_rule c f o ≡ None → rule_of f (view.Called id instance) ≡ None
 unfolding seen
 rule_called c f (operand.Constant value) id instance e h = absurd cc
@@ -190,7 +190,7 @@ place_known id (i ∷ is) (suc k) e = by (is_id id i) (place_known id is k e)
     by true h = (0, refl)
     by false h = (suc h.0, ap (λ (o : Option ℕ). option_map (λ k. suc k) o) h.1)
 
-whole_known : (l : List BlockLayout) (o : Option ℕ) (p : ℕ) → option_and_then (if_whole l) o ≡ Some p → o ≡ Some p
+pub whole_known : (l : List BlockLayout) (o : Option ℕ) (p : ℕ) → option_and_then (if_whole l) o ≡ Some p → o ≡ Some p
 whole_known l None p e = absurd cc
 whole_known l (Some q) p e = by (is_some (whole_at l q)) e
   where
@@ -209,7 +209,7 @@ not_any P (b ∷ bs) e = by (P (compiled b)) refl e (not_any P bs)
     by true is h more = absurd cc
     by false is h more = (is, more h)
 
-components_same : (symbols : List Symbol) (t : Tree) (k : ℕ) (b : Block) (l : BlockLayout)
+pub components_same : (symbols : List Symbol) (t : Tree) (k : ℕ) (b : Block) (l : BlockLayout)
     → IsSound symbols t k b l → l.components ≡ components_of (types_of symbols t.blocks) b
 unfolding block_layout
 components_same symbols t k b l h = ap (λ (z : BlockLayout). z.components) h.layout
@@ -288,7 +288,7 @@ module _ (symbols : List Symbol) (t : Tree) (tree : IsSoundTree symbols t) where
         (source_matched b l (cells_at (layouts_of t symbols) k false)
         (components_same symbols t k b l sound ∙ sym (cells_are symbols t k b l sound false)))
 
-    own_parameters : in_function c ≡ true → AllByRecursion IsParameterCell (cells_at (layouts_of t symbols) k false)
+    pub own_parameters : in_function c ≡ true → AllByRecursion IsParameterCell (cells_at (layouts_of t symbols) k false)
     own_parameters e =
         cells_parameters (cells_at (layouts_of t symbols) k false)
         (subst AreParameters (sym (cells_are symbols t k b l sound false))
@@ -390,7 +390,7 @@ module _ (symbols : List Symbol) (t : Tree) (tree : IsSoundTree symbols t) where
         sym (ap (λ (z : Option BlockId). option_and_then (λ id. callee_by c id id.kind) z) n.named)
         ∙ sym (ap (callee_of c) n.is) ∙ e
 
-    owed : (s : Statement) → IsSoundStatement (types_of symbols t.blocks) c s → OwesStatement types all c s
+    pub owed : (s : Statement) → IsSoundStatement (types_of symbols t.blocks) c s → OwesStatement types all c s
     owed s h id instance e = (
       (callable, either (is_system_function id.kind) refl),
       λ callee is.
@@ -427,7 +427,7 @@ module _ (symbols : List Symbol) (t : Tree) (tree : IsSoundTree symbols t) where
     all_owed [] h = tt
     all_owed (s ∷ ss) h = (owed s h.0, all_owed ss h.1)
 
-    body_owed : (id : BlockId) → l.id ≡ Some id → is_code id.kind ≡ true → OwesBody types all c b l id
+    pub body_owed : (id : BlockId) → l.id ≡ Some id → is_code id.kind ≡ true → OwesBody types all c b l id
     body_owed id e code =
         let own : own_kinds c ≡ types id
         = sym (ap (λ (o : Option ℕ). kinds_at (context_at symbols t 0) o) (known_at k b l id sound e code)) in

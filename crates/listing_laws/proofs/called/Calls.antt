@@ -33,7 +33,7 @@ use Rattle.listing_laws.proofs.called.Passings.{passings_kept}
 
 -- ---- operands
 
-instance_is : (instance : Option ℕ) → IsNumbered instance → instance_name (instance_number instance) ≡ option_map data_block_name instance
+pub instance_is : (instance : Option ℕ) → IsNumbered instance → instance_name (instance_number instance) ≡ option_map data_block_name instance
 instance_is None h = refl
 instance_is (Some zero) h = absurd (h refl)
 instance_is (Some (suc n)) h = ap (λ (t : Bool). if t then None else Some (data_block_name (suc n))) (ne_eqb (suc n) 0 (λ e. absurd (omega (arith, e))))

@@ -21,7 +21,7 @@ not_not : (t : Bool) → not t ≡ false → t ≡ true
 not_not true e = refl
 not_not false e = absurd cc
 
-same_widths : (a b : Width) → width_number a ≡ width_number b → a ≡ b
+pub same_widths : (a b : Width) → width_number a ≡ width_number b → a ≡ b
 same_widths width.Bit width.Bit e = refl
 same_widths width.Byte width.Byte e = refl
 same_widths width.Word width.Word e = refl
@@ -32,7 +32,7 @@ same_widths width.Word _ e = absurd cc
 same_widths width.Dword _ e = absurd cc
 
 -- the width of what is passed is that of its parameter
-width_is : (f : Formal) (r : ParameterRecord) (w : Width) → IsListedAs f r → not (r.width == width_number w) ≡ false → w ≡ width_of f.kind
+pub width_is : (f : Formal) (r : ParameterRecord) (w : Width) → IsListedAs f r → not (r.width == width_number w) ≡ false → w ≡ width_of f.kind
 width_is f r w h e =
     same_widths w (width_of f.kind) (sym (eqb-true r.width (width_number w) (not_not (r.width == width_number w) e)) ∙ h.width)
 

@@ -8,6 +8,7 @@ use Rattle.plc_base.specs.declared.places.Area.{Area}
 use Rattle.plc_base.specs.declared.places.Area.TheVariants as area
 use Rattle.plc_base.specs.declared.places.Width.{Width}
 use Rattle.stl_ast.specs.declared.blocks.Block.{Block}
+use Rattle.stl_ast.specs.declared.blocks.PartKind.{PartKind}
 use Rattle.stl_ast.specs.declared.blocks.PathStep.{PathStep}
 use Rattle.stl_ast.specs.declared.blocks.PathStep.TheVariants as step
 use Rattle.stl_ast.specs.declared.declarations.Bounds.{Bounds}
@@ -43,16 +44,16 @@ use Rattle.stl_types.specs.declared.views.Resolution.TheVariants.{Resolved}
 use Rattle.stl_types.specs.declared.views.ResolvedOperand.{ResolvedOperand}
 use Rattle.stl_types.specs.declared.views.ResolvedOperand.TheVariants as view
 use Rattle.stl_codegen.specs.Instruction.{in_order, return_last}
-use Rattle.listing_laws.specs.Owned.{AreOwnSeen, IsParameterCell, own_kinds}
+use Rattle.listing_laws.specs.Owned.{AreOwnSeen, IsParameterCell}
 use Rattle.listing_laws.proofs.NameLemmas.{either_way}
 
 -- ---- the parameter at a place
 
 cell_formal : (cells : List Cell) → AllByRecursion IsParameterCell cells → (k : ℕ) (cell : Cell) → slice_get cells k ≡ Some cell
-    → (f : Formal) × (slice_get (formals_of cells) k ≡ Some f) × (plain_kind cell.of ≡ Some f.kind)
+    → (f : Formal) × (slice_get (formals_of cells) k ≡ Some f) × (plain_kind cell.of ≡ Some f.kind) × (f.section ≡ cell.section)
 cell_formal [] h k cell e = absurd cc
 cell_formal (x ∷ cells) h k cell e =
-    subst (λ (fs : List Formal). (f : Formal) × (slice_get (fs ++ formals_of cells) k ≡ Some f) × (plain_kind cell.of ≡ Some f.kind))
+    subst (λ (fs : List Formal). (f : Formal) × (slice_get (fs ++ formals_of cells) k ≡ Some f) × (plain_kind cell.of ≡ Some f.kind) × (f.section ≡ cell.section))
     (sym here) (by k e (λ j e. cell_formal cells h.1 j cell e))
   where
     one : Formal
@@ -64,9 +65,14 @@ cell_formal (x ∷ cells) h k cell e =
         ∙ ap (formal_of x) h.0.2
 
     by : (k : ℕ) → slice_get (x ∷ cells) k ≡ Some cell
-        → ((j : ℕ) → slice_get cells j ≡ Some cell → (f : Formal) × (slice_get (formals_of cells) j ≡ Some f) × (plain_kind cell.of ≡ Some f.kind))
-        → (f : Formal) × (slice_get (formal x.name x.section h.0.0 ∷ formals_of cells) k ≡ Some f) × (plain_kind cell.of ≡ Some f.kind)
-    by zero e more = (formal x.name x.section h.0.0, refl, ap (λ (z : Cell). plain_kind z.of) (sym (same_Some x cell e)) ∙ ap plain_kind h.0.2)
+        → ((j : ℕ) → slice_get cells j ≡ Some cell → (f : Formal) × (slice_get (formals_of cells) j ≡ Some f) × (plain_kind cell.of ≡ Some f.kind) × (f.section ≡ cell.section))
+        → (f : Formal) × (slice_get (formal x.name x.section h.0.0 ∷ formals_of cells) k ≡ Some f) × (plain_kind cell.of ≡ Some f.kind) × (f.section ≡ cell.section)
+    by zero e more = (
+      formal x.name x.section h.0.0,
+      refl,
+      ap (λ (z : Cell). plain_kind z.of) (sym (same_Some x cell e)) ∙ ap plain_kind h.0.2,
+      ap (λ (z : Cell). z.section) (same_Some x cell e),
+    )
     by (suc j) e more = more j e
 
 formals_long : (cells : List Cell) → AllByRecursion IsParameterCell cells → length (formals_of cells) ≡ length cells
@@ -85,7 +91,7 @@ at_seam : (front : List Formal) (x : Formal) → slice_get (front ++ x ∷ []) (
 at_seam [] x = refl
 at_seam (y ∷ front) x = at_seam front x
 
-in_order_at : (o : Option Block) (fs : List Formal) (count k : ℕ) (f : Formal) → length fs ≡ count → slice_get fs k ≡ Some f
+pub in_order_at : (o : Option Block) (fs : List Formal) (count k : ℕ) (f : Formal) → length fs ≡ count → slice_get fs k ≡ Some f
     → slice_get (in_order o fs) (parameter_index count k o) ≡ Some f
 in_order_at None fs count k f n e = e
 in_order_at (Some b) fs count k f n e = by b.result fs k n e
@@ -109,7 +115,9 @@ kind_at (g ∷ fs) (suc i) f e = kind_at fs i f e
 
 module _ (c : Context) (own : in_function c ≡ true → AllByRecursion IsParameterCell (cells_at c.layouts c.block false)) where
   abbrev IsOwn : ResolvedOperand → Type 0
-  IsOwn (view.Parameter index section kind) = slice_get (own_kinds c) index ≡ Some kind
+  IsOwn (view.Parameter index section kind) =
+      (f : Formal) × (slice_get (in_order (slice_get c.blocks c.block) (formals_of (cells_at c.layouts c.block false))) index ≡ Some f)
+      × (f.kind ≡ kind) × (f.section ≡ section)
   IsOwn _ = Unit {0}
 
   abbrev SeenOwn : Resolution → Type 0
@@ -229,12 +237,13 @@ module _ (c : Context) (own : in_function c ≡ true → AllByRecursion IsParame
         by None there = tt
         by (Some cell) there =
             let f = cell_formal (cells_at c.layouts c.block false) (own is) spot.place cell there in
-            let is_kind : f.0.kind ≡ kind = same_Some f.0.kind kind (sym f.2 ∙ of_cell cell (sym (ap (kind_of spot) there) ∙ sym same ∙ e)) in
-            kind_at (in_order (slice_get c.blocks c.block) (formals_of (cells_at c.layouts c.block false)))
-            (parameter_index (length (cells_at c.layouts c.block false)) spot.place (slice_get c.blocks c.block)) f.0
-            (in_order_at (slice_get c.blocks c.block) (formals_of (cells_at c.layouts c.block false)) (length (cells_at c.layouts c.block false)) spot.place f.0
-            (formals_long (cells_at c.layouts c.block false) (own is)) f.1)
-            ∙ ap Some is_kind
+            let is_kind : f.0.kind ≡ kind = same_Some f.0.kind kind (sym f.2 ∙ of_cell cell (sym (ap (kind_of spot) there) ∙ sym same ∙ e)) in (
+              f.0,
+              in_order_at (slice_get c.blocks c.block) (formals_of (cells_at c.layouts c.block false)) (length (cells_at c.layouts c.block false)) spot.place f.0
+                  (formals_long (cells_at c.layouts c.block false) (own is)) f.1,
+              is_kind,
+              f.3,
+            )
 
     function_own : (w : PathEnd) → IsHere w → SeenOwn (own_walked c false w)
     function_own walk.Unknown h = tt
@@ -336,5 +345,67 @@ module _ (c : Context) (own : in_function c ≡ true → AllByRecursion IsParame
   operand_own (operand.Called name instance) = called_own (whole_block c (named_block c.symbols name)) instance (instance_number c instance)
   operand_own _ = tt
 
+-- ---- outside of functions
+
+abbrev IsNoParameter : ResolvedOperand → Type 0
+IsNoParameter (view.Parameter index section kind) = ⊥
+IsNoParameter _ = Unit {0}
+
+abbrev NoParameter : Resolution → Type 0
+NoParameter (Resolved v) = IsNoParameter v
+NoParameter _ = Unit {0}
+
+no_area : (kind : Simple) (a : Area) (n bits : ℕ) → NoParameter (in_area kind (placed a n bits (Some kind)))
+no_area kind a n bits = by (leb (bits / 8) 65535)
+  where
+    by : (b : Bool) → NoParameter (in_area kind (if b then Some (place_at a n bits, width_of kind) else None))
+    by true = tt
+    by false = tt
+
+no_composite : (found : Option Cell) → IsNoParameter (composite found)
+no_composite None = tt
+no_composite (Some cell) = of_ cell.of
+  where
+    of_ : (e : Element) → IsNoParameter (date_or_composite e)
+    of_ element.DateAndTime = tt
+    of_ _ = tt
+
+no_parameter : (c : Context) → in_function c ≡ false → (name : List ℕ) (steps : List PathStep) → NoParameter (own_variable c name steps)
+no_parameter c other name steps = by (not (is_some (component 0 0 0 name (cells_at c.layouts c.block false)))) (walked_local c.layouts c.block name steps)
+  where
+    at : (temporary : Bool) (spot : ComponentAt) (o : Option Simple) → NoParameter (own_at c temporary spot o)
+    at temporary spot None = no_composite (slice_get (cells_at c.layouts spot.block spot.temporary) spot.place)
+    at true spot (Some kind) = no_area kind area.L 0 spot.offset
+    at false spot (Some kind) =
+        subst (λ (t : Bool). NoParameter (if t then parameter_at c spot kind else in_area kind (placed area.Di 0 spot.offset (Some kind)))) (sym other)
+        (no_area kind area.Di 0 spot.offset)
+
+    by : (temporary : Bool) (w : PathEnd) → NoParameter (own_walked c temporary w)
+    by temporary (walk.Reaches spot) = at temporary spot (elementary_at c.layouts spot)
+    by temporary walk.Unknown = tt
+    by temporary walk.Rests = tt
+
 pub own_seen : AreOwnSeen
-own_seen c own o index section kind e = subst (SeenOwn c own) e (operand_own c own o)
+own_seen c own o index section kind e =
+    let h = subst (SeenOwn c own) e (operand_own c own o) in
+    kind_at (in_order (slice_get c.blocks c.block) (formals_of (cells_at c.layouts c.block false))) index h.0 h.1 ∙ ap Some h.2
+
+-- it is one of the parameters that the block declares
+pub own_formal : (c : Context) → (in_function c ≡ true → AllByRecursion IsParameterCell (cells_at c.layouts c.block false))
+    → (name : List ℕ) (steps : List PathStep) (index : ℕ) (section : PartKind) (kind : Simple)
+    → own_variable c name steps ≡ Resolved (view.Parameter index section kind)
+    → (f : Formal) × (slice_get (in_order (slice_get c.blocks c.block) (formals_of (cells_at c.layouts c.block false))) index ≡ Some f)
+    × (f.kind ≡ kind) × (f.section ≡ section)
+own_formal c own name steps index section kind e = subst (SeenOwn c own) e (variable_own c own name steps)
+
+-- and only a function has one
+pub own_function : (c : Context) (name : List ℕ) (steps : List PathStep) (index : ℕ) (section : PartKind) (kind : Simple)
+    → own_variable c name steps ≡ Resolved (view.Parameter index section kind) → in_function c ≡ true
+own_function c name steps index section kind e = by (in_function c) refl
+  where
+    never : ⊥ → false ≡ true
+    never x = absurd x
+
+    by : (t : Bool) → in_function c ≡ t → t ≡ true
+    by true is = refl
+    by false is = never (subst NoParameter e (no_parameter c is name steps))

@@ -15,6 +15,7 @@ use Rattle.flat_code.specs.Loading.{AreVerified, around, lens_of}
 use Rattle.flat_code.specs.Programs.{CodeBlock, DataBlock}
 use Rattle.flat_code.specs.Records.{BlockRecord}
 use Rattle.flat_code.specs.declared.programs.Param.{Param}
+use Rattle.stl_ast.specs.Literals.{AreBytes}
 use Rattle.stl_ast.specs.WellFormed.{IsShapeOf, MayReturn}
 use Rattle.stl_ast.specs.declared.blocks.Block.{Block}
 use Rattle.stl_ast.specs.declared.blocks.PartKind.TheVariants as part
@@ -42,15 +43,15 @@ use Rattle.stl_list.specs.DataBlocks.{listed_data}
 use Rattle.stl_list.specs.Joined.{Chains, chains_of, links, parameter_count}
 use Rattle.stl_list.specs.Lines.{lines_from}
 use Rattle.stl_list.specs.Signatures.{Signature, formals_from, formals_of, signature, signatures, signatures_from}
-use Rattle.sem_kept.specs.Accepted.{program_in}
-use Rattle.sem_kept.proofs.accepted.Accepted.{IsSound, context_at, right_tree, sound_code_blocks, sound_data_blocks}
+use Rattle.sem_kept.specs.Accepted.{IsAccepted, program_in}
+use Rattle.sem_kept.proofs.accepted.Accepted.{IsSound, all_both, context_at, right_tree, sound_code_blocks, sound_data_blocks}
 use Rattle.sem_kept.proofs.accepted.RecordBlocks.{code_blocks_rise}
 use Rattle.sem_kept.proofs.accepted.RecordData.{id_there}
 use Rattle.sem_kept.proofs.accepted.RecordOrder.{Rise, RiseFrom}
 use Rattle.sem_kept.proofs.accepted.RecordParams.{AllBefore, Covers, IsNew, declarations_new, params_right, sections_once}
 use Rattle.sem_kept.proofs.accepted.Shared.{kind_there, same_kind}
 use Rattle.sem_kept.proofs.accepted.Verified.{accepted_verifies}
-use Rattle.listing_laws.specs.Declared.{AreDeclaredAgain, AreKindsWide, AreWide, IsDeclaredAgain, signatures_in}
+use Rattle.listing_laws.specs.Declared.{AreChainsWide, AreDeclaredAgain, AreKindsWide, AreWide, IsDeclaredAgain, signatures_in}
 use Rattle.listing_laws.proofs.declared.Chains.{signatures_wide, widths}
 use Rattle.listing_laws.proofs.declared.Links.{program_good}
 use Rattle.listing_laws.proofs.declared.Groups.{AreListed, AreOf, Ends, HasGroups, Returns, all_listed}
@@ -488,9 +489,43 @@ are_declared_again source file symbols t accepted bytes file_bytes =
     all_again (chains_of p.code_blocks) (signatures_in p) (lens_of p.data_blocks) (map record_of_block p.code_blocks) p.code_blocks verified.blocks from
     (all_known (chains_of p.code_blocks) 0 p.code_blocks (rise_after blocks (code_blocks_rise symbols t tree)) (kinds_wide p (all_codes p.code_blocks from) verified))
 
+-- so all code blocks of an accepted source's program are sourced, and known by their signatures
+pub codes_known : (source file : List ℕ) (symbols : List Symbol) (t : Tree) → IsAccepted source file symbols t → AreBytes source → AreBytes file
+    → AllByRecursion (λ b. IsSourced b × IsKnown (chains_of (program_in symbols t).code_blocks) (signatures_in (program_in symbols t)) b) (program_in symbols t).code_blocks
+unfolding signatures
+codes_known source file symbols t accepted bytes file_bytes =
+    let tree = right_tree source file symbols t accepted in
+    let p = program_in symbols t in
+    let blocks = code_blocks_of t symbols (layouts_of t symbols) in
+    let verified = (accepted_verifies source file symbols t accepted bytes file_bytes).1 in
+    let from = all_compiled IsSourced blocks (sound_code_blocks symbols t (λ x. IsSourced (compiled x)) tree (sourced symbols t)) in
+    all_both IsSourced (IsKnown (chains_of p.code_blocks) (signatures_in p)) p.code_blocks from
+    (all_known (chains_of p.code_blocks) 0 p.code_blocks (rise_after blocks (code_blocks_rise symbols t tree)) (kinds_wide p (all_codes p.code_blocks from) verified))
+
+-- and the types that chains of passings give to parameters have their widths
+pub codes_wide : (source file : List ℕ) (symbols : List Symbol) (t : Tree) → IsAccepted source file symbols t → AreBytes source → AreBytes file → AreChainsWide (program_in symbols t)
+codes_wide source file symbols t accepted bytes file_bytes =
+    let tree = right_tree source file symbols t accepted in
+    let blocks = code_blocks_of t symbols (layouts_of t symbols) in
+    let from = all_compiled IsSourced blocks (sound_code_blocks symbols t (λ x. IsSourced (compiled x)) tree (sourced symbols t)) in
+    kinds_wide (program_in symbols t) (all_codes (program_in symbols t).code_blocks from) (accepted_verifies source file symbols t accepted bytes file_bytes).1
+
+-- no block has the kind and number of one behind it
+pub fronts_apart : (front back : List StatedBlock) (b : StatedBlock) → Rise is_code_before (front ++ b ∷ back)
+    → AllByRecursion (λ (a : StatedBlock). is_same_block a.id b.id ≡ false) front
+fronts_apart front back b rise = by front (rise_after (front ++ b ∷ back) rise)
+  where
+    later : (a : StatedBlock) (xs : List StatedBlock) → AllByRecursion (Before (compiled a)) (map compiled (xs ++ b ∷ back)) → is_same_block a.id b.id ≡ false
+    later a [] h = not_same a.id b.id h.0
+    later a (x ∷ xs) h = later a xs h.1
+
+    by : (xs : List StatedBlock) → AreAfter (map compiled (xs ++ b ∷ back)) → AllByRecursion (λ (a : StatedBlock). is_same_block a.id b.id ≡ false) xs
+    by [] h = tt
+    by (x ∷ xs) h = (later x xs h.0, by xs h.1)
+
 -- ---- the rules of declarations
 
-grouped : (c : Chains) (ss : List Signature) (b : CodeBlock) → IsSourced b → IsKnown c ss b → AreGrouped (formals_of ss b.id)
+pub grouped : (c : Chains) (ss : List Signature) (b : CodeBlock) → IsSourced b → IsKnown c ss b → AreGrouped (formals_of ss b.id)
 grouped c ss b s known = subst AreGrouped (sym known.are) (by s.shape)
   where
     by : HasShape b → AreGrouped (formals_from c (is_function b.id.kind) false 0 known.first b.params)

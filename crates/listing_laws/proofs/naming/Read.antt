@@ -44,9 +44,10 @@ use Rattle.stl_types.specs.Addresses.{area_of}
 use Rattle.listing_laws.proofs.naming.Places.{made, no_bit, no_bit_is}
 use Rattle.listing_laws.specs.Bodies.{IsNoBit}
 
--- an address of an operand, whatever data block stands before it
+-- an address of an operand, whatever data block stands before it, and that of a pointer, which is one of a bit
 abbrev pub OperandIsNoBit : Operand → Type 0
 OperandIsNoBit (operand.Direct name a w byte bit) = IsNoBit (area_of a) w
+OperandIsNoBit (operand.Pointer (Some a) byte bit) = IsNoBit (area_of a) width.Bit
 OperandIsNoBit _ = Unit {0}
 
 abbrev pub ActualIsNoBit : Actual → Type 0
@@ -153,10 +154,10 @@ indirect_plain source address.Counter tokens = number_by_plain source numbered.C
 indirect_plain source (address.Block false) tokens = number_by_plain source numbered.Db tokens
 indirect_plain source (address.Block true) tokens = number_by_plain source numbered.Di tokens
 
-area_pointer_plain : (source : List ℕ) (a : Address) (byte : ℕ) (rest : List Token) → IfSome (spec.area_pointer source a byte rest) OperandIsNoBit
+area_pointer_plain : (source : List ℕ) (a : Address) (byte : ℕ) (rest : List Token) → letters_no_bit a ≡ true → IfSome (spec.area_pointer source a byte rest) OperandIsNoBit
 unfolding spec.area_pointer
-area_pointer_plain source (address.Area a width.Bit) byte rest = made (bit_of source rest) _ OperandIsNoBit (λ bit. tt)
-area_pointer_plain source _ byte rest = tt
+area_pointer_plain source (address.Area a width.Bit) byte rest h = made (bit_of source rest) _ OperandIsNoBit (λ bit. no_bit_is (area_of a) width.Bit h)
+area_pointer_plain source _ byte rest h = tt
 
 plain_pointer_plain : (source : List ℕ) (tokens : List Token) → IfSome (spec.plain_pointer source tokens) OperandIsNoBit
 unfolding spec.plain_pointer
@@ -168,7 +169,7 @@ pointer_plain : (source : List ℕ) (tokens : List Token) → IfSome (spec.point
 unfolding spec.pointer_of
 pointer_plain source tokens =
     either (spec.plain_pointer source tokens) _ OperandIsNoBit (plain_pointer_plain source tokens)
-    (chained (address_at source tokens) _ (λ r. Unit {0}) OperandIsNoBit (none_holds (address_at source tokens)) (λ r h. area_pointer_plain source r.0 r.1 r.2))
+    (chained (address_at source tokens) _ FirstIsNoBit OperandIsNoBit (address_plain source tokens) (λ r h. area_pointer_plain source r.0 r.1 r.2 h))
 
 condition_plain : (source : List ℕ) (t : Token) → IfSome (spec.condition_of source t) OperandIsNoBit
 unfolding spec.condition_of

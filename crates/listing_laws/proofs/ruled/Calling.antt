@@ -117,12 +117,12 @@ whole_id c (Some i) id e = ap (λ (y : BlockId). whole_block c (Some y)) (sym (n
 
 -- ---- its instance
 
-abbrev IsInstanceAgain : Context → Option ℕ → Type 0
+abbrev pub IsInstanceAgain : Context → Option ℕ → Type 0
 IsInstanceAgain listed None = Unit {0}
 IsInstanceAgain listed (Some number) = data_number listed (data_block_name number) ≡ Some number
 
 -- no data block has the number 0
-no_zero : (listed : Context) → data_number listed (data_block_name 0) ≡ Some 0 → ⊥
+pub no_zero : (listed : Context) → data_number listed (data_block_name 0) ≡ Some 0 → ⊥
 no_zero listed e = no e
   where
     no : None ≡ Some zero → ⊥
@@ -132,7 +132,7 @@ named_instance : (listed : Context) (number : ℕ) → data_number listed (data_
 named_instance listed zero e = absurd (no_zero listed e)
 named_instance listed (suc n) e = rw (ne_eqb (suc n) 0 (λ h. omega (arith, h))) refl
 
-called_again : (listed : Context) (id : BlockId) (instance : Option ℕ) → whole_block listed (Some id) ≡ Some id → IsInstanceAgain listed instance
+pub called_again : (listed : Context) (id : BlockId) (instance : Option ℕ) → whole_block listed (Some id) ≡ Some id → IsInstanceAgain listed instance
     → seen listed (operand.Called (block.Number id) (instance_name (instance_of instance))) ≡ Resolved (view.Called id instance)
 unfolding seen
 called_again listed id None h k = ap (λ (x : Option BlockId). called_seen x None None) h
@@ -144,12 +144,12 @@ called_again listed id (Some number) h k =
 -- ---- the statement
 
 -- what a call sees stands in the listing
-record StandsCalled (listed : Context) (v : ResolvedOperand) : Type 0 where
-  id : BlockId
-  instance : Option ℕ
-  is : v ≡ view.Called id instance
-  whole : is_data_type id.kind ≡ false → whole_block listed (Some id) ≡ Some id
-  again : IsInstanceAgain listed instance
+pub record StandsCalled (listed : Context) (v : ResolvedOperand) : Type 0 where
+  pub id : BlockId
+  pub instance : Option ℕ
+  pub is : v ≡ view.Called id instance
+  pub whole : is_data_type id.kind ≡ false → whole_block listed (Some id) ≡ Some id
+  pub again : IsInstanceAgain listed instance
 
 view_is : (y w : ResolvedOperand) → Resolved y ≡ Resolved w → w ≡ y
 view_is y w e = cc
@@ -165,7 +165,7 @@ found_called c listed formals x named v has called e = by (whole_block c x) name
     by (Some id) (Some name) (Some number) g k e =
         record { id = id; instance = Some number; is = view_is (view.Called id (Some number)) v e; whole = λ plain. called id plain (whole_id c x id g); again = has.data_blocks name number k }
 
-sees_called : (c listed : Context) (formals : List Formal) (o : Operand) (v : ResolvedOperand) → HasAgain c listed formals → AreCalledAgain c listed → is_called o ≡ true → seen c o ≡ Resolved v → StandsCalled listed v
+pub sees_called : (c listed : Context) (formals : List Formal) (o : Operand) (v : ResolvedOperand) → HasAgain c listed formals → AreCalledAgain c listed → is_called o ≡ true → seen c o ≡ Resolved v → StandsCalled listed v
 unfolding seen
 sees_called c listed formals (operand.Called name instance) v has called is e = found_called c listed formals (named_block c.symbols name) instance v has called e
 sees_called c listed formals _ v has called is e = absurd cc

@@ -1,0 +1,99 @@
+-- The statements of a source in the listing of its program: what they call, their operands, and what the
+-- listed ones come to.
+use Rattle.std.specs.Prelude.{◌≡◌, ℕ, true, false, not, ◌&&◌, length, List, map, Option, Some}
+use Rattle.std.specs.List.{AllByRecursion}
+use Rattle.std.specs.Option.{option_map}
+use Rattle.plc_base.specs.Kinds.{is_function_block}
+use Rattle.plc_base.specs.declared.blocks.BlockId.{BlockId}
+use Rattle.stl_ast.specs.Literals.{AreBytes}
+use Rattle.stl_ast.specs.Statements.{has_actuals, is_empty}
+use Rattle.stl_ast.specs.declared.blocks.Block.{Block}
+use Rattle.stl_ast.specs.declared.blocks.Tree.{Tree}
+use Rattle.stl_ast.specs.declared.names.BlockName.TheVariants as block
+use Rattle.stl_ast.specs.declared.operands.Operand.TheVariants as operand
+use Rattle.stl_ast.specs.declared.statements.Statement.{Statement}
+use Rattle.stl_symbols.specs.Symbol.{Symbol}
+use Rattle.block_layout.specs.declared.blocks.BlockLayout.{BlockLayout}
+use Rattle.stl_types.specs.Context.{Context}
+use Rattle.stl_types.specs.Parameters.{Callee, callee_of}
+use Rattle.stl_types.specs.Resolved.{resolved}
+use Rattle.stl_types.specs.declared.parameters.Formal.{Formal}
+use Rattle.stl_types.specs.declared.views.ResolvedOperand.TheVariants as view
+use Rattle.stl_codegen.specs.Instruction.{block_at, in_order, instruction, passings_to}
+use Rattle.stl_list.specs.Operands.{data_block_name}
+use Rattle.stl_list.specs.Signatures.{Signature, called_formals, formals_of}
+use Rattle.stl_list.specs.Statements.{statement}
+use Rattle.sem_kept.specs.Accepted.{IsAccepted, program_in}
+use Rattle.listing_laws.specs.Again.{IsMadeOf, IsWholeAgain, again_at, context_at}
+use Rattle.listing_laws.specs.AgainBodies.{around_again, body_again, made_block}
+use Rattle.listing_laws.specs.Declared.{signatures_in}
+use Rattle.listing_laws.specs.Instructions.{IsKept, IsRightOperand}
+use Rattle.listing_laws.specs.Passings.{AreAllPassed, AreNamedApart, AreRising, IsPassable, upper}
+use Rattle.listing_laws.specs.Statements.{offset_in, run_of}
+
+-- what a statement of a source calls, `callee`, is found in its listing with the parameters that the
+-- listing has, `called`, and what is passed fits there. `own` are the parameters of the block that calls
+pub record IsFoundAgain (c listed : Context) (own called : List Formal) (s : Statement) (id : BlockId)
+    (instance : Option ℕ) (callee : Callee) : Type 0 where
+  pub found : Callee
+  pub is : callee_of listed
+      (operand.Called (block.Number id) (option_map data_block_name instance)) ≡ Some found
+  pub same : found.id ≡ callee.id
+  pub size : length found.formals ≡ length callee.formals
+  pub order : in_order (block_at listed.blocks found.place) found.formals ≡ map upper called
+  pub named : AreNamedApart called
+  pub passable : AllByRecursion (IsPassable listed own called) (passings_to c s (Some callee))
+  pub rising : AreRising 0 (passings_to c s (Some callee))
+  pub complete : (has_actuals s.code && not (is_function_block callee.id.kind)) ≡ true
+      → AreAllPassed called (passings_to c s (Some callee))
+
+-- whatever block a statement calls
+abbrev pub IsCalledAgain : (c listed : Context) → List Signature → (own : List Formal) → Statement
+    → Type 0
+IsCalledAgain c listed signatures own s =
+    (id : BlockId) (instance : Option ℕ) (callee : Callee)
+    → resolved c s ≡ Some (view.Called id instance) → callee_of c s.operand ≡ Some callee
+    → IsFoundAgain c listed own (called_formals signatures id) s id instance callee
+
+-- so it is with each statement of an accepted source
+abbrev pub AreCallsAgain : Type 0
+AreCallsAgain =
+    (source file : List ℕ) (symbols : List Symbol) (t : Tree)
+    → IsAccepted source file symbols t → AreBytes source → AreBytes file → (others : List Symbol)
+    → IsWholeAgain symbols t others → (again place : ℕ) (b : Block) (l : BlockLayout) (id : BlockId)
+    → IsMadeOf symbols t again place b l id
+    → AllByRecursion
+    (IsCalledAgain (context_at symbols t place) (again_at symbols t others again)
+    (signatures_in (program_in symbols t)) (formals_of (signatures_in (program_in symbols t)) id))
+    b.body
+
+-- the operands of each statement, and of its actual parameters, are right ones
+pub record IsRightStatement (symbols : List Symbol) (s : Statement) : Type 0 where
+  pub operand : IsRightOperand symbols s.operand
+  pub actuals : AllByRecursion (λ a. IsRightOperand symbols a.value) s.actuals
+
+-- so they are in an accepted source
+abbrev pub AreOperandsRight : Type 0
+AreOperandsRight =
+    (source file : List ℕ) (symbols : List Symbol) (t : Tree)
+    → IsAccepted source file symbols t → AreBytes source
+    → AllByRecursion (λ b. AllByRecursion (IsRightStatement symbols) b.body) t.blocks
+
+-- each listed statement breaks no rule by its operand, and comes to the instruction of the source's, at
+-- whatever number it stands
+abbrev pub AreStatementsAgain : Type 0
+AreStatementsAgain =
+    (source file : List ℕ) (symbols : List Symbol) (t : Tree)
+    → IsAccepted source file symbols t → AreBytes source → AreBytes file → (others : List Symbol)
+    → IsWholeAgain symbols t others → (again place : ℕ) (b : Block) (l : BlockLayout) (id : BlockId)
+    → IsMadeOf symbols t again place b l id
+    → AllByRecursion
+    (λ s.
+    is_empty s.code ≡ false → (n k : ℕ)
+    → IsKept (again_at symbols t others again)
+    (body_again symbols t (made_block symbols t place b l id)) n s.code
+    (instruction (context_at symbols t place) b.body n s)
+    (statement (around_again symbols t (made_block symbols t place b l id)) k
+    (run_of (offset_in (made_block symbols t place b l id).statements)
+    (instruction (context_at symbols t place) b.body n s))))
+    b.body
