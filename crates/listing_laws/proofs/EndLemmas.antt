@@ -182,10 +182,10 @@ abbrev IsFree : StatedBlock → Type 0
 IsFree b = (n : ℕ) → suc n ≡ length b.statements → list_any (λ s. jumps_to n s.instr) b.statements ≡ false
 
 -- a block of the source whose jumps have their labels
-abbrev IsRight : Block → Type 0
+abbrev pub IsRight : Block → Type 0
 IsRight b = AllByRecursion IsStatement b.body × (unknown_labels (labels_of b.body) b.body ≡ [])
 
-statements_free : (c : Context) (b : Block) → IsRight b → (n : ℕ) → suc n ≡ length (statements_of c b) → list_any (λ s. jumps_to n s.instr) (statements_of c b) ≡ false
+pub statements_free : (c : Context) (b : Block) → IsRight b → (n : ℕ) → suc n ≡ length (statements_of c b) → list_any (λ s. jumps_to n s.instr) (statements_of c b) ≡ false
 unfolding statements_of
 statements_free c b is n e =
     let front = stated_from c b.body 0 b.body in

@@ -37,17 +37,17 @@ use Rattle.listing_laws.proofs.RunLemmas.{numbers_found, runs_found, targets_fou
 -- ---- none twice
 
 -- labels of statements before this one
-abbrev Others : ℕ → List (List ℕ) → Type 0
+abbrev pub Others : ℕ → List (List ℕ) → Type 0
 Others k before = AllByRecursion (λ l. (n : ℕ) → k ≤ n → n < 93312 → bytes_eq (label_of n) l ≡ false) before
 
-others_later : (k : ℕ) (before : List (List ℕ)) → Others k before → Others (suc k) before
+pub others_later : (k : ℕ) (before : List (List ℕ)) → Others k before → Others (suc k) before
 others_later k [] h = tt
 others_later k (l ∷ before) h = ((λ n low few. h.0 n (omega (arith, low)) few), others_later k before h.1)
 
 other_one : (k n : ℕ) → suc k ≤ n → n < 93312 → bytes_eq (label_of n) (label_of k) ≡ false
 other_one k n low few = other_label n k few (omega (arith, low, few)) (λ e. omega (arith, e, low))
 
-others_more : (k : ℕ) (before : List (List ℕ)) → Others k before → Others (suc k) (before ++ label_of k ∷ [])
+pub others_more : (k : ℕ) (before : List (List ℕ)) → Others k before → Others (suc k) (before ++ label_of k ∷ [])
 others_more k before h = all_append (λ l. (n : ℕ) → suc k ≤ n → n < 93312 → bytes_eq (label_of n) l ≡ false) before (label_of k ∷ []) (others_later k before h) (other_one k, tt)
 
 no_place : (k : ℕ) (before : List (List ℕ)) → k < 93312 → Others k before → place_of (label_of k) before ≡ None

@@ -65,14 +65,14 @@ pub other_label : (m n : ℕ) → m < 93312 → n < 93312 → (m ≡ n → ⊥) 
 other_label m n h k apart = false_from_ne_true (bytes_eq (label_of m) (label_of n)) (λ y. apart (labels_apart m n h k ((bytes_eq-Decides (label_of m) (label_of n)).0 y)))
 
 -- a statement before the one that has the label
-not_here : (targets : List Bool) (k n : ℕ) → k < n → n < 93312 → has_label (label_of n) (label_at targets k) ≡ false
+pub not_here : (targets : List Bool) (k n : ℕ) → k < n → n < 93312 → has_label (label_of n) (label_at targets k) ≡ false
 not_here targets k n h few = by (unwrap_or (slice_get targets k) false)
   where
     by : (b : Bool) → has_label (label_of n) (if b then Some (label_of k) else None) ≡ false
     by true = other_label n k few (omega (arith, h, few)) (λ e. omega (arith, e, h))
     by false = refl
 
-here : (targets : List Bool) (n : ℕ) → unwrap_or (slice_get targets n) false ≡ true → label_at targets n ≡ Some (label_of n)
+pub here : (targets : List Bool) (n : ℕ) → unwrap_or (slice_get targets n) false ≡ true → label_at targets n ≡ Some (label_of n)
 here targets n h = rw h refl
 
 -- in the list of what follows

@@ -26,5 +26,6 @@ pub mod declared
 mod naming
 mod made
 mod remade
+mod right
 mod ruled
 mod unbroken

@@ -137,7 +137,7 @@ in_block_sees c writes number w byte bit some e =
     ∙ ap (λ (t : Bool). Some (if true && not t then passed.InBlock number area.Db w byte bit else passed.Direct area.Db w byte bit)) some
 
 -- an actual parameter passes what its op passes
-sees : (c : Context) (own : List Formal) (f : Formal) (p : Passed) → FitsListed c own f p
+pub sees : (c : Context) (own : List Formal) (f : Formal) (p : Passed) → FitsListed c own f p
     → passed_seen (passed_operand own f p) (seen c (passed_operand own f p)) ≡ Some p
 sees c own f (passed.Literal value) h = literal_sees c f.kind value ∙ ap (λ (n : ℕ). Some (passed.Literal n)) (literal_bits f.kind value h.1 h.2 h.3)
 sees c own f (passed.Direct a w byte bit) h = direct_sees c (is_written f.section) a w byte bit
@@ -212,7 +212,7 @@ direct_dated : (c : Context) (writes : Bool) (a : Area) (w : Width) (byte bit : 
 unfolding seen
 direct_dated c writes a w byte bit = refl
 
-undated : (c : Context) (own : List Formal) (f : Formal) (p : Passed) → FitsListed c own f p → sees_date (seen c (passed_operand own f p)) ≡ false
+pub undated : (c : Context) (own : List Formal) (f : Formal) (p : Passed) → FitsListed c own f p → sees_date (seen c (passed_operand own f p)) ≡ false
 undated c own f (passed.Literal value) h = plain_dated c f.kind value
 undated c own f (passed.Direct a w byte bit) h = direct_dated c (is_written f.section) a w byte bit
 undated c own f (passed.InBlock number a w byte bit) h =
@@ -325,14 +325,14 @@ from_upper (f ∷ fs) (suc i) g e = from_upper fs i g e
 
 -- ---- the actual parameters of a call
 
-abbrev listed : (line : ℕ) (own called : List Formal) → List Passing → List Actual
+abbrev pub listed : (line : ℕ) (own called : List Formal) → List Passing → List Actual
 listed line own called ps = actuals_before line own called (passing ps)
 
 one_more : (line : ℕ) (own called : List Formal) (p : Passing) (ps : List Passing) (f : Formal) → slice_get called p.index ≡ Some f
     → listed line own called (p ∷ ps) ≡ actual line own f p.actual ∷ listed line own called ps
 one_more line own called p ps f e = ap (λ (o : Option Formal). actual_for line own o p.actual ++ listed line own called ps) e
 
-all_actuals : (c : Context) (own called : List Formal) (line : ℕ) (P : Actual → Type 0)
+pub all_actuals : (c : Context) (own called : List Formal) (line : ℕ) (P : Actual → Type 0)
     → ((p : Passing) (f : Formal) → slice_get called p.index ≡ Some f → FitsListed c own f p.actual → P (actual line own f p.actual))
     → (ps : List Passing) → AllByRecursion (IsPassable c own called) ps → AllByRecursion P (listed line own called ps)
 all_actuals c own called line P each [] h = tt

@@ -123,18 +123,18 @@ does_again c listed sur f again n k s v has right some jumps calls ends e =
 
 -- ---- the end of a block
 
-end_taken : (listed : Context) (m : Mnemonic) (how : EndOperation) → end_of m ≡ Some how → operand_rule listed (form_of m) operand.Nothing ≡ None
+pub end_taken : (listed : Context) (m : Mnemonic) (how : EndOperation) → end_of m ≡ Some how → operand_rule listed (form_of m) operand.Nothing ≡ None
 unfolding form_of takes rule_of takes_width seen
 end_taken listed code.Be how h = refl
 end_taken listed code.Bec how h = refl
 end_taken listed code.Beu how h = refl
 end_taken listed _ how h = absurd cc
 
-end_operand : (sur : Surroundings) (k : ℕ) (f : ℕ → ℕ) (how : EndOperation) → (statement sur k (run_of f (Returns how))).operand ≡ operand.Nothing
+pub end_operand : (sur : Surroundings) (k : ℕ) (f : ℕ → ℕ) (how : EndOperation) → (statement sur k (run_of f (Returns how))).operand ≡ operand.Nothing
 unfolding operand_by
 end_operand sur k f how = ap implied_operand (operation_again (operation.End how))
 
-nothing_seen : (c : Context) → seen c operand.Nothing ≡ Resolved view.Nothing
+pub nothing_seen : (c : Context) → seen c operand.Nothing ≡ Resolved view.Nothing
 unfolding seen
 nothing_seen c = refl
 
@@ -168,7 +168,7 @@ instructions_kept c listed sur f body again n k s v has right some jumps calls e
 
 -- ---- jumps
 
-jump_taken : (listed : Context) (m : Mnemonic) (how : JumpOperation) (name : List ℕ) → jump_of m ≡ Some how → operand_rule listed (form_of m) (operand.Label name) ≡ None
+pub jump_taken : (listed : Context) (m : Mnemonic) (how : JumpOperation) (name : List ℕ) → jump_of m ≡ Some how → operand_rule listed (form_of m) (operand.Label name) ≡ None
 unfolding form_of takes rule_of takes_width seen
 jump_taken listed code.Ju how name h = refl
 jump_taken listed code.Jl how name h = refl
@@ -214,7 +214,7 @@ leap_word f m jump.Jmz n target h = jump_words_found m jump.Jmz h
 leap_word f m jump.Juo n target h = jump_words_found m jump.Juo h
 leap_word f m jump.Loop n target h = jump_words_found m jump.Loop h
 
-leap_operand : (sur : Surroundings) (k : ℕ) (f : ℕ → ℕ) (how : JumpOperation) (n target : ℕ) → (statement sur k (run_of f (leap how n target))).operand ≡ operand.Label (label_of (number_at sur.starts (f target)))
+pub leap_operand : (sur : Surroundings) (k : ℕ) (f : ℕ → ℕ) (how : JumpOperation) (n target : ℕ) → (statement sur k (run_of f (leap how n target))).operand ≡ operand.Label (label_of (number_at sur.starts (f target)))
 unfolding operand_by
 leap_operand sur k f jump.Jl n target = refl
 leap_operand sur k f _ n target = refl

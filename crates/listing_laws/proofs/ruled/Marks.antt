@@ -37,10 +37,10 @@ use Rattle.listing_laws.proofs.ruled.Rules.{taken_view}
 
 -- ---- words
 
-abbrev IsWorded : (ℕ → ℕ) → Mnemonic → Instr → Type 0
+abbrev pub IsWorded : (ℕ → ℕ) → Mnemonic → Instr → Type 0
 IsWorded f m i = mnemonic_of (run_of f i).op ≡ m
 
-calls_block : (m : Mnemonic) (how : CallOperation) → call_of m ≡ Some how → is_call m ≡ true
+pub calls_block : (m : Mnemonic) (how : CallOperation) → call_of m ≡ Some how → is_call m ≡ true
 calls_block code.Call how h = refl
 calls_block code.Uc how h = refl
 calls_block code.Cc how h = refl
@@ -50,7 +50,7 @@ called_word : (c : Context) (f : ℕ → ℕ) (s : Statement) (how : CallOperati
 called_word c f s how (view.Called id instance) h e = call_words_found s.code how h
 called_word c f s how _ h e = absurd cc
 
-call_comes : (c : Context) (body : List Statement) (n : ℕ) (s : Statement) (v : ResolvedOperand) (how : CallOperation) → call_of s.code ≡ Some how → resolved c s ≡ Some v → instruction c body n s ≡ call_instr c s how v
+pub call_comes : (c : Context) (body : List Statement) (n : ℕ) (s : Statement) (v : ResolvedOperand) (how : CallOperation) → call_of s.code ≡ Some how → resolved c s ≡ Some v → instruction c body n s ≡ call_instr c s how v
 unfolding instruction
 call_comes c body n s v how h e = ap (instr_by c body n s) (no_jump s.code how h) ∙ ap (resolved_instr c s) e ∙ ap (view_instr c s v) h
 
@@ -68,7 +68,7 @@ word_by_view c body n f s v is some jumps e = by_call (call_of s.code) refl
         let rule = rule_called c (form_of s.code) s.operand v (is.called ∙ calls_block s.code how calls) (rule_broken c s v e) (what_seen c s v e) in
         rw (call_comes c body n s v how calls e) (called_word c f s how v calls (same_kind s.code how v calls (taken_view (form_of s.code) v rule)))
 
-word_is : (c : Context) (body : List Statement) (n : ℕ) (f : ℕ → ℕ) (s : Statement) → IsReadable c s → is_empty s.code ≡ false → IsWorded f s.code (instruction c body n s)
+pub word_is : (c : Context) (body : List Statement) (n : ℕ) (f : ℕ → ℕ) (s : Statement) → IsReadable c s → is_empty s.code ≡ false → IsWorded f s.code (instruction c body n s)
 word_is c body n f s is some = by_jump (jump_of s.code) refl
   where
     by_view : (found : Option ResolvedOperand) → jump_of s.code ≡ None → resolved c s ≡ found → IsWorded f s.code (instruction c body n s)

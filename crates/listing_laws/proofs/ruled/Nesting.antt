@@ -16,10 +16,10 @@ use Rattle.stl_types.specs.declared.brackets.Bracket.{Bracket}
 use Rattle.listing_laws.specs.Nesting.{AreNestingsKept, Mark, marks}
 
 -- the plainest statement with a word on a line
-abbrev stub : Mark → Statement
+abbrev pub stub : Mark → Statement
 stub m = record { line = m.line; code = m.code; label = None; operand = operand.Nothing; actuals = [] }
 
-abbrev stub_of : Statement → Statement
+abbrev pub stub_of : Statement → Statement
 stub_of s = stub (record { code = s.code; line = s.line })
 
 abbrev stubs : List Statement → List Statement
@@ -56,11 +56,11 @@ walked {S} broken known h x (s ∷ ss) = by (is_empty s.code) refl (λ y. walked
 
 -- ---- brackets
 
-bracket_still : (x : List Bracket) (s : Statement) → is_empty s.code ≡ true → behind x s ≡ x
+pub bracket_still : (x : List Bracket) (s : Statement) → is_empty s.code ≡ true → behind x s ≡ x
 unfolding opening closes
 bracket_still x s e = ap (λ (m : Mnemonic). opened x s (opening m)) (empty_code s.code e) ∙ ap (closed x) (empty_code s.code e)
 
-brackets_alike : (x : List Bracket) (s : Statement) (found : Option ℕ) → opened x s found ≡ opened x (stub_of s) found
+pub brackets_alike : (x : List Bracket) (s : Statement) (found : Option ℕ) → opened x s found ≡ opened x (stub_of s) found
 brackets_alike x s None = refl
 brackets_alike x s (Some function) = refl
 
@@ -93,7 +93,7 @@ brackets_left x (s ∷ ss) = by (is_empty s.code) refl (λ y. brackets_left y ss
 
 -- ---- zones
 
-zone_still : (x : List ℕ) (s : Statement) → is_empty s.code ≡ true → zones_behind x s ≡ x
+pub zone_still : (x : List ℕ) (s : Statement) → is_empty s.code ≡ true → zones_behind x s ≡ x
 unfolding opens_zone ends_zone
 zone_still x s e = ap (λ (m : Mnemonic). if opens_zone m then x ++ s.line ∷ [] else zones_ended x m) (empty_code s.code e)
 

@@ -118,7 +118,7 @@ timer_no true number labels = refl
 timer_no false number labels = refl
 
 -- what a jump is told by
-abbrev JumpsIn : (List (List ℕ)) → (starts : List ℕ) → FlatOperand → Type 0
+abbrev pub JumpsIn : (List (List ℕ)) → (starts : List ℕ) → FlatOperand → Type 0
 JumpsIn labels starts (flat.Jump kind target) = is_some (place_of (label_of (number_at starts target)) labels) ≡ true
 JumpsIn labels starts _ = Unit {0}
 
@@ -126,7 +126,7 @@ none_is : {A : Type 0} (o : Option A) → is_some o ≡ true → is_none o ≡ f
 none_is None e = absurd cc
 none_is (Some x) e = refl
 
-no_unknown : (labels : List (List ℕ)) (formals : List Formal) (starts : List ℕ) (opened : Option ℕ) (w : Operation) (f : FlatOperand) → JumpsIn labels starts f → is_unknown_label labels (operand_by formals starts opened w f) ≡ false
+pub no_unknown : (labels : List (List ℕ)) (formals : List Formal) (starts : List ℕ) (opened : Option ℕ) (w : Operation) (f : FlatOperand) → JumpsIn labels starts f → is_unknown_label labels (operand_by formals starts opened w f) ≡ false
 unfolding operand_by plain_operand
 no_unknown labels formals starts opened w flat.Nothing h = implied_no w labels
 no_unknown labels formals starts opened w (flat.Literal value) h = constant_no w value labels
@@ -163,10 +163,10 @@ all_known sur labels k (r ∷ rs) h = here_known sur labels k r (statements_from
 itself : (t : ℕ) → (t == t) ≡ true
 itself t = eq-eqb t t refl
 
-abbrev IsMet : List (List ℕ) → (starts : List ℕ) → (ℕ → ℕ) → ℕ → Type 0
+abbrev pub IsMet : List (List ℕ) → (starts : List ℕ) → (ℕ → ℕ) → ℕ → Type 0
 IsMet labels starts f t = is_some (place_of (label_of (number_at starts (f t))) labels) ≡ true
 
-one : (labels : List (List ℕ)) (starts : List ℕ) (f : ℕ → ℕ) (i : Instr) → ((t : ℕ) → jumps_to t i ≡ true → IsMet labels starts f t) → JumpsIn labels starts (run_of f i).op.operand
+pub one : (labels : List (List ℕ)) (starts : List ℕ) (f : ℕ → ℕ) (i : Instr) → ((t : ℕ) → jumps_to t i ≡ true → IsMet labels starts f t) → JumpsIn labels starts (run_of f i).op.operand
 one labels starts f (Does u w (flat.Jump kind t)) h = h t (itself t)
 one labels starts f (Does u w _) h = tt
 one labels starts f (Jumps how t) h = h t (itself t)

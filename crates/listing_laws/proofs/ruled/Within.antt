@@ -33,7 +33,7 @@ use Rattle.listing_laws.specs.Statements.{goes_to, jumps_to}
 
 -- ---- how many statements there are
 
-target_low : (name : List ℕ) (body : List Statement) → target_in name body ≤ count_of body
+pub target_low : (name : List ℕ) (body : List Statement) → target_in name body ≤ count_of body
 unfolding target_in
 target_low name [] = omega arith
 target_low name (s ∷ ss) = by (has_label name s.label) (counted s) (target_in name ss) (count_of ss) (target_low name ss)
@@ -47,7 +47,7 @@ aim_low body (operand.Label name) = target_low name body
 aim_low body operand.Nothing = omega arith
 aim_low body _ = omega arith
 
-stated_count : (c : Context) (body : List Statement) (n : ℕ) (ss : List Statement) → length (stated_from c body n ss) ≡ count_of ss
+pub stated_count : (c : Context) (body : List Statement) (n : ℕ) (ss : List Statement) → length (stated_from c body n ss) ≡ count_of ss
 stated_count c body n [] = refl
 stated_count c body n (s ∷ ss) = by (is_empty s.code) (stated_count c body n ss) (stated_count c body (suc n) ss)
   where
@@ -80,7 +80,7 @@ operand_stays o (view.Register which) n = register_stays which n
 operand_stays o (view.NumberBy what from byte) n = number_stays what from byte n
 operand_stays o _ n = refl
 
-abbrev Stays : Instr → Type 0
+abbrev pub Stays : Instr → Type 0
 Stays i = (n : ℕ) → jumps_to n i ≡ false
 
 end_stays : (s : Statement) (v : ResolvedOperand) (how : Option EndOperation) → Stays (end_instr s v how)
@@ -95,7 +95,7 @@ view_stays : (c : Context) (s : Statement) (v : ResolvedOperand) (how : Option C
 view_stays c s v None n = end_stays s v (end_of s.code) n
 view_stays c s v (Some how) n = call_stays c s how v n
 
-resolved_stays : (c : Context) (s : Statement) (v : Option ResolvedOperand) → Stays (resolved_instr c s v)
+pub resolved_stays : (c : Context) (s : Statement) (v : Option ResolvedOperand) → Stays (resolved_instr c s v)
 resolved_stays c s None n = refl
 resolved_stays c s (Some v) n = view_stays c s v (call_of s.code) n
 

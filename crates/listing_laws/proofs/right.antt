@@ -1,0 +1,10 @@
+-- The bodies of a listing break no rule.
+pub mod Bodies
+pub mod Instances
+pub mod Named
+pub mod Numbered
+pub mod Placed
+pub mod Shared
+pub mod Statements
+pub mod Trees
+pub mod Words

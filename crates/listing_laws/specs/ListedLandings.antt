@@ -1,0 +1,23 @@
+-- What is open at the jumps of a listing and at their labels.
+use Rattle.std.specs.Prelude.{◌≡◌, ℕ, List, [], Some, slice_get}
+use Rattle.plc_base.specs.declared.blocks.BlockId.{BlockId}
+use Rattle.stl_ast.specs.Literals.{AreBytes}
+use Rattle.stl_ast.specs.declared.blocks.Block.{Block}
+use Rattle.stl_ast.specs.declared.blocks.Tree.{Tree}
+use Rattle.stl_symbols.specs.Symbol.{Symbol}
+use Rattle.block_layout.specs.declared.blocks.BlockLayout.{BlockLayout}
+use Rattle.stl_types.specs.Labels.{labels_of}
+use Rattle.stl_types.specs.Landings.{crossing_jumps, landings_at_labels, outside}
+use Rattle.sem_kept.specs.Accepted.{IsAccepted}
+use Rattle.listing_laws.specs.Again.{IsMadeOf, listed_again}
+
+-- at each jump in a listed body of an accepted source and at its label equal brackets are open, and as
+-- many zones
+abbrev pub AreLandingsKept : Type 0
+AreLandingsKept =
+    (source file : List ℕ) (symbols : List Symbol) (t : Tree)
+    → IsAccepted source file symbols t → AreBytes source → AreBytes file
+    → (again place : ℕ) (b : Block) (l : BlockLayout) (id : BlockId)
+    → IsMadeOf symbols t again place b l id
+    → (x : Block) → slice_get (listed_again symbols t).blocks again ≡ Some x
+    → crossing_jumps (labels_of x.body) (landings_at_labels outside x.body) x.body ≡ []
