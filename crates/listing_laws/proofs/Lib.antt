@@ -23,4 +23,5 @@ mod SymbolOrderLemmas
 mod WordLemmas
 mod called
 pub mod declared
+mod filled
 mod ruled

@@ -106,7 +106,7 @@ listed_by false false width.Byte = refl
 listed_by false false width.Word = refl
 listed_by false false width.Dword = refl
 
-kind_listed : (c : Chains) (n : ℕ) (w : Width) → is_listed (kind_at c n w) ≡ true
+pub kind_listed : (c : Chains) (n : ℕ) (w : Width) → is_listed (kind_at c n w) ≡ true
 unfolding kind_at
 kind_listed c n w = listed_by (mark_at c.ints (slice_get c.labels n)) (mark_at c.times (slice_get c.labels n)) w
 
