@@ -71,10 +71,10 @@ right_setting l k bytes s offset kind w leads fit at wide value true_of = record
 writes_joined : (l : List BlockLayout) (k : ℕ) (xs ys : List Setting) → setting_writes l k (xs ++ ys) ≡ setting_writes l k xs ++ setting_writes l k ys
 writes_joined l k xs ys = flat_map-append (λ (s : Setting). setting_write l s.value (walked_data l k (folded_path s.path))) xs ys
 
-reached_front : (l : List BlockLayout) (k j i : ℕ) (xs ys : List Setting) → OneReaches (setting_writes l k xs) j i → OneReaches (setting_writes l k (xs ++ ys)) j i
+pub reached_front : (l : List BlockLayout) (k j i : ℕ) (xs ys : List Setting) → OneReaches (setting_writes l k xs) j i → OneReaches (setting_writes l k (xs ++ ys)) j i
 reached_front l k j i xs ys r = subst (λ ws. OneReaches ws j i) (sym (writes_joined l k xs ys)) (reaches_front (setting_writes l k xs) (setting_writes l k ys) j i r)
 
-reached_back : (l : List BlockLayout) (k j i : ℕ) (xs ys : List Setting) → OneReaches (setting_writes l k ys) j i → OneReaches (setting_writes l k (xs ++ ys)) j i
+pub reached_back : (l : List BlockLayout) (k j i : ℕ) (xs ys : List Setting) → OneReaches (setting_writes l k ys) j i → OneReaches (setting_writes l k (xs ++ ys)) j i
 reached_back l k j i xs ys r = subst (λ ws. OneReaches ws j i) (sym (writes_joined l k xs ys)) (reaches_back (setting_writes l k xs) (setting_writes l k ys) j i r)
 
 reached_alone : (l : List BlockLayout) (k j i : ℕ) (s : Setting) (w : Write) → setting_write l s.value (walked_data l k (folded_path s.path)) ≡ w ∷ [] → Reaches w j i

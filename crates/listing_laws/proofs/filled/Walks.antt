@@ -48,7 +48,7 @@ AllLead l k (f ∷ fs) (p ∷ ps) = LeadsTo l k (step.Named (folded f.name) ∷ 
 AllLead l k _ _ = ⊥
 
 -- what the outermost names find, from a place among the cells on
-abbrev Looks : (look : List ℕ → Option Member) → (at place : ℕ) → (all cs : List Cell) → Type 0
+abbrev pub Looks : (look : List ℕ → Option Member) → (at place : ℕ) → (all cs : List Cell) → Type 0
 Looks look at place all cs = AllByRecursion (λ c. look c.name ≡ component 0 at place c.name all) cs
 
 looks_later : (look : List ℕ → Option Member) (at place : ℕ) (c : Cell) (kind : Simple) (rest cs : List Cell) → IsElementary c kind → AllByRecursion (λ d. bytes_eq d.name c.name ≡ false) cs
@@ -58,12 +58,12 @@ looks_later look at place c kind rest (d ∷ ds) is (other, others) (one, more) 
     let passed = passed_by at place d.name c rest (not_both (nat_eq c.level 0) (bytes_eq d.name c.name) (λ e. other)) in
     (one ∙ passed ∙ ap (λ n. component 0 n (place + 1) d.name rest) (past_any at c rest kind is), looks_later look at place c kind rest ds is others more)
 
-all_look : (all cs : List Cell) → Looks (λ name. component 0 0 0 name all) 0 0 all cs
+pub all_look : (all cs : List Cell) → Looks (λ name. component 0 0 0 name all) 0 0 all cs
 all_look all [] = tt
 all_look all (c ∷ cs) = (refl, all_look all cs)
 
 -- VAR stands behind the parameters
-static_found : (at place i : ℕ) (ds : List Cell) (ps : List Param) (c : Cell) → AreNamed i ds → ArePlaced at ds ps → c.name ≡ folded static_name → c.level ≡ 0 → c.opens ≡ true
+pub static_found : (at place i : ℕ) (ds : List Cell) (ps : List Param) (c : Cell) → AreNamed i ds → ArePlaced at ds ps → c.name ≡ folded static_name → c.level ≡ 0 → c.opens ≡ true
     → component 0 at place (folded static_name) (ds ++ c ∷ []) ≡ Some (record { place = place + length ds; offset = up (end_of 0 at ds) 16 })
 unfolding end_of
 static_found at place i [] [] c named h name outer opens =
