@@ -1,5 +1,5 @@
-use Rattle.listing_laws.proofs.filled.Instances.{data_back, data_long, lies_there, listed_there, settings_right}
+use Rattle.listing_laws.proofs.filled.Listed.{instances_again, instances_are_long}
 use Rattle.listing_laws.proofs.instances.law_of_instances.Goals as goal
 
 pub returns : goal.returns
-returns c = let a = data_back in let b = listed_there in let d = data_long in ?
+returns c = record { long = instances_are_long; again = instances_again }
