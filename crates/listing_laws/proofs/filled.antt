@@ -9,3 +9,5 @@ pub mod Settings
 pub mod Origins
 pub mod Instances
 pub mod Listed
+pub mod Rules
+pub mod DataBlocks

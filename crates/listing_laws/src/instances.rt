@@ -12,3 +12,14 @@ pub fn law_of_instances()
     ensures long { AreInstancesLong }
     ensures again { AreInstancesAgain }
 {}
+
+/// The settings in the listing of an accepted source's program break no rule 20, 41 or 42, where no
+/// block of the listing breaks a rule as a whole.
+pub fn law_of_listed_settings()
+    ensures { AreListedSettingsRight }
+{}
+
+/// So the program of the listing has the data blocks of the source's program, in their order.
+pub fn law_of_listed_data_blocks()
+    ensures { AreDataBlocksAgain }
+{}

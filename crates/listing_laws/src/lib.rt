@@ -54,7 +54,7 @@ pub use forms::law_of_listed_forms;
 pub use handed_on::law_of_handed_types;
 pub use heads::law_of_listed_heads;
 pub use ids::law_of_listed_ids;
-pub use instances::law_of_instances;
+pub use instances::{law_of_instances, law_of_listed_data_blocks, law_of_listed_settings};
 pub use instructions::law_of_listed_instructions;
 pub use jumps::law_of_listed_jumps;
 pub use label_rules::law_of_label_rules;

@@ -60,9 +60,9 @@ use Rattle.listing_laws.proofs.filled.Settings.{IsRight}
 -- ---- the code blocks of a program
 
 -- where one of some stands
-record HasPlace {A : Type 0} (xs : List A) (x : A) : Type 0 where
-  place : ℕ
-  there : slice_get xs place ≡ Some x
+pub record HasPlace {A : Type 0} (xs : List A) (x : A) : Type 0 where
+  pub place : ℕ
+  pub there : slice_get xs place ≡ Some x
 
 later_places : {A : Type 0} (z : A) (xs ys : List A) → AllByRecursion (HasPlace xs) ys → AllByRecursion (HasPlace (z ∷ xs)) ys
 later_places z xs [] h = tt
