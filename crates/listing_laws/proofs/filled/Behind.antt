@@ -1,6 +1,6 @@
 -- What a structure writes, and where its paths lead, from a place on.
-use Rattle.std.proofs.Common.{◌≡◌, ℕ, zero, suc, ◌+◌, ◌*◌, ◌≤◌, Bool, true, false, ◌&&◌, List, [], ◌∷◌, ◌++◌, length, map, Option, Some, None, refl, sym, ap, subst, ◌∙◌, arith}
-use Rattle.std.specs.Prelude.{ℤ, drop, if◌then◌else◌, min, nat_eq, nat_lt, slice_get}
+use Rattle.std.proofs.Common.{◌≡◌, ℕ, zero, suc, ◌+◌, ◌*◌, ◌≤◌, Bool, true, false, ◌&&◌, List, [], ◌∷◌, ◌++◌, length, map, Option, Some, None, subst, arith}
+use Rattle.std.specs.Prelude.{ℤ, drop, if◌then◌else◌, nat_eq, nat_lt, slice_get}
 use Rattle.std.specs.List.{AllByRecursion, flat_map, range_with_len}
 use Rattle.std.specs.Str.{bytes_eq}
 use Rattle.plc_base.proofs.ListLemmas.{all_append}
@@ -25,7 +25,6 @@ use Rattle.block_layout.specs.declared.walks.ComponentAt.{ComponentAt}
 use Rattle.block_layout.specs.declared.walks.PathEnd.{PathEnd}
 use Rattle.block_layout.specs.declared.walks.PathEnd.TheVariants as walk
 use Rattle.sem_kept.proofs.accepted.OperandsWalks.{Grows, step_grows}
-use Rattle.sem_kept.proofs.accepted.RecordParams.{found_here, never_less, passed_by}
 
 -- ---- places that meet an alignment
 

@@ -1,14 +1,12 @@
 -- The program of a listing has the data blocks of the source's program.
-use Rattle.std.proofs.Common.{◌≡◌, ℕ, zero, suc, ◌+◌, ◌<◌, ◌≤◌, Bool, true, false, List, [], ◌∷◌, ◌++◌, map, Option, Some, None, refl, sym, ap, subst, ◌∙◌, arith}
+use Rattle.std.proofs.Common.{◌≡◌, ℕ, suc, ◌+◌, Bool, true, false, List, [], ◌∷◌, ◌++◌, map, Option, Some, None, refl, sym, ap, ◌∙◌, arith}
 use Rattle.std.specs.Prelude.{if◌then◌else◌, nat_lt, slice_get}
 use Rattle.std.specs.List.{AllByRecursion}
 use Rattle.std.proofs.lemmas.Bool.Decides.{nat_tests}
 use Rattle.plc_base.specs.Kinds.{is_code, is_data_block, is_same_kind}
-use Rattle.plc_base.specs.declared.blocks.BlockId.{BlockId}
 use Rattle.plc_base.specs.declared.blocks.BlockKind.{BlockKind}
 use Rattle.plc_base.specs.declared.blocks.BlockKind.TheVariants as kinds
 use Rattle.flat_code.specs.Programs.{CodeBlock, DataBlock, Program}
-use Rattle.stl_ast.specs.Literals.{AreBytes}
 use Rattle.stl_ast.specs.declared.blocks.Block.{Block}
 use Rattle.stl_ast.specs.declared.blocks.Tree.{Tree}
 use Rattle.stl_symbols.specs.Symbol.{Symbol}
@@ -16,7 +14,7 @@ use Rattle.block_layout.specs.Layouts.{block_layout, layouts_of}
 use Rattle.block_layout.specs.Measures.{types_of}
 use Rattle.block_layout.specs.Types.{Types}
 use Rattle.block_layout.specs.declared.blocks.BlockLayout.{BlockLayout}
-use Rattle.stl_codegen.specs.Compiled.{StatedBlock, compiled}
+use Rattle.stl_codegen.specs.Compiled.{compiled}
 use Rattle.stl_codegen.specs.Generated.{code_blocks_of, data_block, data_block_of, data_blocks_of, each_block}
 use Rattle.stl_codegen.specs.Order.{is_data_before, sorted}
 use Rattle.stl_list.specs.CodeBlocks.{in_lines, line_reached, listed_block, listed_blocks}
@@ -24,17 +22,17 @@ use Rattle.stl_list.specs.DataBlocks.{listed_data}
 use Rattle.stl_list.specs.Lines.{line_behind, stands_before}
 use Rattle.stl_list.specs.Listing.{listed_tree}
 use Rattle.stl_list.specs.Signatures.{Signature}
-use Rattle.sem_kept.specs.Accepted.{IsAccepted, program_in}
+use Rattle.sem_kept.specs.Accepted.{program_in}
 use Rattle.sem_kept.proofs.accepted.Accepted.{context_at, right_tree, sound_code_blocks}
 use Rattle.sem_kept.proofs.accepted.OperandsCells.{all_there}
-use Rattle.listing_laws.specs.Again.{IsWholeAgain, listed_again}
+use Rattle.listing_laws.specs.Again.{listed_again}
 use Rattle.listing_laws.specs.Declared.{signatures_in}
-use Rattle.listing_laws.specs.Instances.{AreDataBlocksAgain, IsInstanceAgain, data_again}
+use Rattle.listing_laws.specs.Instances.{AreDataBlocksAgain, data_again}
 use Rattle.listing_laws.specs.OwnData.{IsOwnDataAgain}
 use Rattle.listing_laws.proofs.OrderLemmas.{all_sorted, in_order, order_sorted}
 use Rattle.listing_laws.proofs.declared.Blocks.{IsSourced, all_codes, all_compiled, sourced}
-use Rattle.listing_laws.proofs.declared.OwnData.{IsLaid, laid_in, own_data}
-use Rattle.listing_laws.proofs.declared.OwnKept.{HasLayout, layout_there}
+use Rattle.listing_laws.proofs.declared.OwnData.{laid_in, own_data}
+use Rattle.listing_laws.proofs.declared.OwnKept.{layout_there}
 use Rattle.listing_laws.proofs.filled.Listed.{IsAgain, all_instances}
 
 -- ---- the data blocks of a source block by block

@@ -1,15 +1,15 @@
 -- A listed instance comes to the data block that it was made of.
-use Rattle.std.proofs.Common.{◌≡◌, ℕ, zero, suc, ◌+◌, ◌-◌, ◌*◌, ◌/◌, ◌%◌, ◌<◌, ◌≤◌, ◌⊎◌, inl, inr, Bool, true, false, List, [], ◌∷◌, ◌++◌, append-nil, length, map, pos, replicate, Option, Some, None, is_some, refl, sym, ap, subst, ◌∙◌, arith}
-use Rattle.std.specs.Prelude.{◌==◌, ◌&&◌, IfSome, find, get_or, if◌then◌else◌, nat_eq, nat_lt, slice_get}
+use Rattle.std.proofs.Common.{◌≡◌, ℕ, zero, suc, ◌+◌, ◌-◌, ◌*◌, ◌/◌, ◌<◌, ◌≤◌, ◌⊎◌, inl, inr, Bool, true, false, List, [], ◌∷◌, ◌++◌, length, map, pos, replicate, Some, None, is_some, refl, sym, ap, subst, ◌∙◌, arith}
+use Rattle.std.specs.Prelude.{◌==◌, ◌&&◌, find, if◌then◌else◌, nat_eq, nat_lt, slice_get}
 use Rattle.std.specs.List.{AllByRecursion, flat_map, fold}
 use Rattle.std.specs.Option.{option_and_then}
 use Rattle.std.proofs.lemmas.Bool.Decides.{nat_tests}
 use Rattle.plc_base.proofs.ListLemmas.{all_append}
 use Rattle.plc_base.specs.Folding.{folded}
-use Rattle.plc_base.specs.Kinds.{is_code, is_data_block, is_function, is_function_block, is_same_block, is_same_kind}
+use Rattle.plc_base.specs.Kinds.{is_same_block, is_same_kind}
 use Rattle.plc_base.specs.declared.blocks.BlockId.{BlockId}
 use Rattle.plc_base.specs.declared.blocks.BlockKind.TheVariants as kinds
-use Rattle.flat_code.specs.Programs.{CodeBlock, DataBlock, Program}
+use Rattle.flat_code.specs.Programs.{CodeBlock, Program}
 use Rattle.flat_code.specs.declared.programs.Param.{Param}
 use Rattle.stl_ast.specs.declared.blocks.Block.{Block}
 use Rattle.stl_ast.specs.declared.blocks.PartKind.TheVariants as part
@@ -17,54 +17,48 @@ use Rattle.stl_ast.specs.declared.blocks.PathStep.TheVariants as step
 use Rattle.stl_ast.specs.declared.blocks.Setting.{Setting}
 use Rattle.stl_ast.specs.declared.blocks.Tree.{Tree}
 use Rattle.stl_ast.specs.declared.declarations.Simple.TheVariants as simple
-use Rattle.stl_ast.specs.declared.names.BlockName.TheVariants as block
 use Rattle.stl_symbols.specs.Symbol.{Symbol}
-use Rattle.block_layout.specs.Blocks.{has_structure, ids_of, known_block}
+use Rattle.block_layout.specs.Blocks.{ids_of, known_block}
 use Rattle.block_layout.specs.Cells.{components_of}
 use Rattle.block_layout.specs.InitialBytes.{Write, begun, cell_writes, component_writes, element_starts, initial_bytes, length_at, preset_values, put, setting_writes, settings_at, structure_writes, type_writes, writes_at, writes_from}
 use Rattle.block_layout.specs.Layouts.{block_layout, layouts_of}
 use Rattle.block_layout.specs.Lengths.{block_bits, length_of, shape_at, shape_bits, shape_of}
 use Rattle.block_layout.specs.Measures.{types_of}
 use Rattle.block_layout.specs.Listed.{AreAlike}
-use Rattle.block_layout.specs.Members.{component}
-use Rattle.block_layout.specs.Paths.{cells_at, cells_in, setting_structure, shape_block, structure_of, whole_at}
+use Rattle.block_layout.specs.Paths.{cells_at, cells_in, setting_structure, shape_block, structure_of}
 use Rattle.block_layout.specs.Rebuilt.{OneReaches, bit_in}
 use Rattle.block_layout.specs.Sizes.{cell_bits, element_of, end_of, largest, plain_bits, stepped, structure_bits, up}
 use Rattle.block_layout.specs.Types.{Types}
 use Rattle.block_layout.specs.declared.blocks.BlockLayout.{BlockLayout}
 use Rattle.block_layout.specs.declared.blocks.Shape.TheVariants as shape
 use Rattle.block_layout.specs.declared.cells.Cell.{Cell}
-use Rattle.block_layout.specs.declared.cells.Element.TheVariants.{Plain}
 use Rattle.block_layout.proofs.RebuiltLemmas.{rebuilt}
 use Rattle.stl_types.specs.declared.parameters.Formal.{Formal}
-use Rattle.stl_codegen.specs.Compiled.{StatedBlock, compiled}
-use Rattle.stl_codegen.specs.Generated.{code_block, data_block, data_block_of, function_block_number, instance_in}
-use Rattle.stl_list.specs.CodeBlocks.{in_lines, line_reached, listed_block, listed_blocks}
-use Rattle.stl_list.specs.DataBlocks.{function_block, instance_signature, known_settings, listed_data, listed_data_blocks}
+use Rattle.stl_codegen.specs.Generated.{data_block_of, function_block_number, instance_in}
+use Rattle.stl_list.specs.CodeBlocks.{in_lines, listed_block, listed_blocks}
+use Rattle.stl_list.specs.DataBlocks.{function_block, known_settings, listed_data}
 use Rattle.stl_list.specs.Initial.{byte_settings, parameter_settings, settings_of}
-use Rattle.stl_list.specs.Joined.{Chains, chains_of, kind_at}
+use Rattle.stl_list.specs.Joined.{Chains}
 use Rattle.stl_list.specs.Lines.{line_behind}
-use Rattle.stl_list.specs.Listing.{listed_tree}
 use Rattle.stl_list.specs.Sections.{static_len, static_name, static_start}
 use Rattle.stl_list.specs.Signatures.{Signature, formals_from, formals_of, is_behind, signature, signatures_from}
 use Rattle.sem_kept.proofs.accepted.Accepted.{context_at}
 use Rattle.sem_kept.proofs.accepted.OperandsCells.{all_there}
 use Rattle.sem_kept.proofs.accepted.OperandsViews.{data_length, whole_is}
-use Rattle.sem_kept.proofs.accepted.OperandsWalks.{structure_even}
 use Rattle.listing_laws.specs.Chains.{is_listed}
 use Rattle.listing_laws.specs.Declared.{AreWide}
-use Rattle.listing_laws.proofs.IdLemmas.{source_ids, source_symbols}
+use Rattle.listing_laws.proofs.IdLemmas.{source_ids}
 use Rattle.listing_laws.proofs.called.Listed.{kind_listed}
-use Rattle.listing_laws.proofs.declared.Blocks.{AreAfter, IsKnown, all_not_same, same_self}
+use Rattle.listing_laws.proofs.declared.Blocks.{AreAfter, all_not_same, same_self}
 use Rattle.listing_laws.proofs.declared.Cells.{byte_cell, byte_cells}
-use Rattle.listing_laws.proofs.declared.Kept.{HasBoth, HasNoValues, own_length}
-use Rattle.listing_laws.proofs.declared.Own.{below_all, no_values, whole_writes}
-use Rattle.listing_laws.proofs.declared.OwnData.{IsLaid, initial_long, laid_cells, laid_in, laid_length}
+use Rattle.listing_laws.proofs.declared.Kept.{HasBoth, HasNoValues}
+use Rattle.listing_laws.proofs.declared.Own.{below_all, whole_writes}
+use Rattle.listing_laws.proofs.declared.OwnData.{IsLaid, laid_cells, laid_in, laid_length}
 use Rattle.listing_laws.proofs.declared.OwnKept.{HasLayout, layout_there}
 use Rattle.listing_laws.proofs.declared.Placed.{alike_of, all_found, end_alike, look_in}
 use Rattle.listing_laws.proofs.declared.Sources.{Begins}
-use Rattle.listing_laws.proofs.filled.Params.{ArePlaced, IsPlaced, IsWithin, bare, past_cell, placed_alike, placed_from, placed_within}
-use Rattle.listing_laws.proofs.filled.Settings.{AllSettable, IndicesLead, IsRight, IsSettable, bytes_reached, bytes_right, parameters_reached, parameters_right, reached_back, reached_front, writes_true}
+use Rattle.listing_laws.proofs.filled.Params.{ArePlaced, IsWithin, bare, past_cell, placed_alike, placed_from, placed_within}
+use Rattle.listing_laws.proofs.filled.Settings.{AllSettable, IndicesLead, IsRight, bytes_reached, bytes_right, parameters_reached, parameters_right, reached_back, reached_front, writes_true}
 use Rattle.listing_laws.proofs.filled.Walks.{AllLead, LeadsTo, all_lead, all_look, index_leads, static_found}
 
 -- ---- signatures

@@ -1,41 +1,31 @@
 -- The data blocks of an accepted source's program, in its listing.
-use Rattle.std.proofs.Common.{◌≡◌, ℕ, zero, suc, ◌+◌, ◌*◌, ◌/◌, ◌%◌, ◌<◌, ◌≤◌, ◌⊎◌, Bool, true, false, List, [], ◌∷◌, ◌++◌, append-nil, append_assoc, length, map, Option, Some, None, refl, sym, ap, subst, ◌∙◌, arith}
-use Rattle.std.specs.Prelude.{if◌then◌else◌, nat_lt, slice_get}
-use Rattle.std.specs.List.{AllByRecursion, flat_map}
-use Rattle.plc_base.specs.Gathered.{gathered}
-use Rattle.plc_base.specs.Kinds.{is_code, is_data_block, is_function}
-use Rattle.plc_base.specs.Least.{broken_if}
-use Rattle.plc_base.specs.declared.blocks.BlockId.{BlockId}
-use Rattle.plc_base.specs.declared.refusals.Refusal.{Refusal}
+use Rattle.std.proofs.Common.{◌≡◌, ℕ, suc, ◌*◌, ◌/◌, ◌%◌, ◌<◌, ◌≤◌, true, false, List, [], ◌∷◌, length, map, Some, refl, sym, ap, subst, ◌∙◌, arith}
+use Rattle.std.specs.Prelude.{slice_get}
+use Rattle.std.specs.List.{AllByRecursion}
+use Rattle.plc_base.specs.Kinds.{is_function}
 use Rattle.flat_code.specs.Programs.{CodeBlock, DataBlock, Program}
 use Rattle.stl_ast.specs.Literals.{AreBytes}
-use Rattle.stl_ast.specs.declared.blocks.Block.{Block}
-use Rattle.stl_ast.specs.declared.blocks.Setting.{Setting}
 use Rattle.stl_ast.specs.declared.blocks.Tree.{Tree}
 use Rattle.stl_symbols.specs.Symbol.{Symbol}
-use Rattle.block_layout.specs.Blocks.{ids_of, known_block}
 use Rattle.block_layout.specs.Layouts.{layouts_of}
 use Rattle.block_layout.specs.Lengths.{length_of}
 use Rattle.block_layout.specs.Measures.{types_of}
-use Rattle.block_layout.specs.Rebuilt.{OneReaches, bit_in}
 use Rattle.block_layout.specs.Rule22.{rule_22}
 use Rattle.block_layout.specs.Rule44.{rule_44}
-use Rattle.block_layout.specs.Settings.{in_settings, on_settings}
-use Rattle.block_layout.specs.Sizes.{end_of, largest, structure_bits, up}
+use Rattle.block_layout.specs.Sizes.{structure_bits}
 use Rattle.block_layout.specs.declared.blocks.BlockLayout.{BlockLayout}
-use Rattle.block_layout.specs.declared.cells.Cell.{Cell}
 use Rattle.stl_codegen.specs.Compiled.{StatedBlock, compiled}
-use Rattle.stl_codegen.specs.Generated.{code_block, code_blocks_of, data_block, data_block_of, data_blocks_of, each_block}
-use Rattle.stl_codegen.specs.Order.{is_code_before, is_data_before, sorted}
+use Rattle.stl_codegen.specs.Generated.{code_block, code_blocks_of, data_block, data_block_of}
+use Rattle.stl_codegen.specs.Order.{sorted}
 use Rattle.stl_codegen.proofs.ProgramLemmas.{all_before}
-use Rattle.stl_list.specs.CodeBlocks.{in_lines, line_reached, listed_blocks}
+use Rattle.stl_list.specs.CodeBlocks.{in_lines, line_reached}
 use Rattle.stl_list.specs.DataBlocks.{function_block, listed_data, listed_data_blocks}
 use Rattle.stl_list.specs.Joined.{Chains, chains_of}
 use Rattle.stl_list.specs.Lines.{stands_before}
 use Rattle.stl_list.specs.Listing.{listed_tree}
-use Rattle.stl_list.specs.Signatures.{Signature, formals_from, formals_of, signatures, signatures_from}
+use Rattle.stl_list.specs.Signatures.{Signature, signatures}
 use Rattle.sem_kept.specs.Accepted.{IsAccepted, program_in}
-use Rattle.sem_kept.proofs.accepted.Accepted.{IsSound, IsSoundTree, context_at, right_tree, sound_code_blocks, sound_data_blocks}
+use Rattle.sem_kept.proofs.accepted.Accepted.{IsSoundTree, context_at, right_tree, sound_code_blocks, sound_data_blocks}
 use Rattle.sem_kept.proofs.accepted.OperandsMembers.{code_block_there, data_block_there}
 use Rattle.sem_kept.proofs.accepted.OperandsWalks.{structure_even}
 use Rattle.sem_kept.proofs.accepted.RecordBlocks.{code_blocks_rise}
@@ -43,18 +33,16 @@ use Rattle.sem_kept.proofs.accepted.Verified.{accepted_verifies}
 use Rattle.listing_laws.specs.Again.{IsWholeAgain, listed_again}
 use Rattle.listing_laws.specs.Chains.{is_listed}
 use Rattle.listing_laws.specs.Declared.{AreWide, signatures_in}
-use Rattle.listing_laws.specs.Ids.{data_id, program_ids}
+use Rattle.listing_laws.specs.Ids.{data_id}
 use Rattle.listing_laws.specs.Instances.{AreInstancesAgain, AreInstancesLong, IsInstanceAgain, data_again}
 use Rattle.listing_laws.proofs.CompiledLemmas.{written_compiled}
 use Rattle.listing_laws.proofs.IdLemmas.{blocks_found, source_symbols}
 use Rattle.listing_laws.proofs.RangeLemmas.{IsListedData, program_listed}
 use Rattle.listing_laws.proofs.declared.Blocks.{IsKnown, IsLaidInstance, IsSourced, all_codes, all_compiled, all_known, kinds_wide, laid_instance, rise_after, sourced}
-use Rattle.listing_laws.proofs.declared.Groups.{AreListed, HasGroups, all_listed}
+use Rattle.listing_laws.proofs.declared.Groups.{AreListed, all_listed}
 use Rattle.listing_laws.proofs.declared.Kept.{IsKeptInstance, instance_groups, instance_kept, own_length}
-use Rattle.listing_laws.proofs.declared.Sources.{Begins}
 use Rattle.listing_laws.proofs.filled.Instances.{HasSignature, IsFunctionBlockAt, IsListedAt, all_signed, data_back, data_long, formals_listed, in_front, lies_there, listed_there, mapped, settings_right}
 use Rattle.listing_laws.proofs.filled.Origins.{IsSourceInstance, source_instance}
-use Rattle.listing_laws.proofs.filled.Params.{ArePlaced, bare}
 use Rattle.listing_laws.proofs.filled.Settings.{IsRight}
 
 -- ---- the code blocks of a program

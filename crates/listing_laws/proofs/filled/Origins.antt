@@ -1,23 +1,23 @@
 -- An instance in a source: its bits that are set lie in the parameters of its function block, or behind them.
-use Rattle.std.proofs.Common.{◌≡◌, ℕ, suc, ◌+◌, ◌*◌, ◌/◌, ◌%◌, ◌<◌, ◌≤◌, ◌⊎◌, Bool, true, false, List, [], ◌∷◌, ◌++◌, length, map, replicate, Option, Some, None, is_some, refl, sym, ap, subst, ◌∙◌, arith}
+use Rattle.std.proofs.Common.{◌≡◌, ℕ, ◌*◌, ◌/◌, ◌<◌, ◌≤◌, ◌⊎◌, Bool, true, false, List, [], ◌∷◌, ◌++◌, length, map, Option, Some, None, is_some, refl, sym, ap, subst, ◌∙◌, arith}
 use Rattle.std.specs.Prelude.{if◌then◌else◌, nat_eq, slice_get}
-use Rattle.std.specs.List.{AllByRecursion, flat_map, fold}
+use Rattle.std.specs.List.{AllByRecursion}
 use Rattle.std.specs.Option.{option_and_then}
 use Rattle.plc_base.proofs.ListLemmas.{all_append, all_back}
 use Rattle.plc_base.specs.Kinds.{is_data_block, is_function_block}
 use Rattle.plc_base.specs.declared.blocks.BlockId.{BlockId}
 use Rattle.plc_base.specs.declared.blocks.BlockKind.{BlockKind}
 use Rattle.plc_base.specs.declared.blocks.BlockKind.TheVariants as kinds
-use Rattle.flat_code.specs.Programs.{CodeBlock, DataBlock}
+use Rattle.flat_code.specs.Programs.{DataBlock}
 use Rattle.flat_code.specs.declared.programs.Param.{Param}
 use Rattle.stl_ast.specs.Literals.{AreBytes}
 use Rattle.stl_ast.specs.declared.blocks.Block.{Block}
 use Rattle.stl_ast.specs.declared.blocks.Setting.{Setting}
 use Rattle.stl_ast.specs.declared.blocks.Tree.{Tree}
 use Rattle.stl_symbols.specs.Symbol.{Symbol}
-use Rattle.block_layout.specs.InitialBytes.{Write, initial_bytes, length_at, put, setting_write, setting_writes, settings_at, structure_writes, type_writes, writes_from}
+use Rattle.block_layout.specs.InitialBytes.{Write, initial_bytes, setting_write, setting_writes, settings_at, structure_writes, type_writes, writes_from}
 use Rattle.block_layout.specs.Layouts.{layouts_of}
-use Rattle.block_layout.specs.Paths.{cells_at, cells_in, folded_path, shape_block, structure_of, walked_data, walked_or_rests, whole_at}
+use Rattle.block_layout.specs.Paths.{cells_at, cells_in, folded_path, shape_block, structure_of, walked_data, walked_or_rests}
 use Rattle.block_layout.specs.Rebuilt.{OneReaches, Reaches, bit_in}
 use Rattle.block_layout.specs.Sizes.{alignment, element_alignment, end_of, largest, structure_bits, up}
 use Rattle.block_layout.specs.declared.blocks.BlockLayout.{BlockLayout}
@@ -33,7 +33,7 @@ use Rattle.sem_kept.proofs.accepted.Accepted.{IsSound, IsSoundTree, context_at, 
 use Rattle.sem_kept.proofs.accepted.Initial.{initial_values_are_whole}
 use Rattle.sem_kept.proofs.accepted.OperandsCells.{IsLaid as LaidBlock, block_of_layout}
 use Rattle.sem_kept.proofs.accepted.OperandsViews.{IsStructured, IsThere, layout_id, structured, whole_is}
-use Rattle.sem_kept.proofs.accepted.Shared.{kind_there, written_length}
+use Rattle.sem_kept.proofs.accepted.Shared.{kind_there}
 use Rattle.listing_laws.proofs.declared.Blocks.{IsLaidInstance, laid_instance}
 use Rattle.listing_laws.proofs.declared.Own.{whole_writes}
 use Rattle.listing_laws.proofs.declared.OwnData.{initial_long}

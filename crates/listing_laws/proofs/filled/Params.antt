@@ -1,7 +1,7 @@
 -- Parameters that lie where the cells of a structure do, and what the source writes: within them, or behind them all.
-use Rattle.std.proofs.Common.{◌≡◌, ℕ, zero, suc, ◌+◌, ◌*◌, ◌/◌, ◌%◌, ◌<◌, ◌≤◌, ◌⊎◌, inl, inr, Bool, true, false, ◌&&◌, List, [], ◌∷◌, ◌++◌, append-nil, map, Option, Some, None, refl, sym, ap, subst, ◌∙◌, arith}
+use Rattle.std.proofs.Common.{◌≡◌, ℕ, suc, ◌+◌, ◌*◌, ◌/◌, ◌%◌, ◌<◌, ◌≤◌, ◌⊎◌, inl, inr, Bool, true, false, ◌&&◌, List, [], ◌∷◌, ◌++◌, append-nil, map, Option, Some, None, refl, sym, ap, subst, ◌∙◌, arith}
 use Rattle.std.specs.Prelude.{if◌then◌else◌, nat_eq, nat_lt, slice_get}
-use Rattle.std.specs.List.{AllByRecursion, flat_map}
+use Rattle.std.specs.List.{AllByRecursion}
 use Rattle.std.specs.Str.{bytes_eq}
 use Rattle.std.proofs.lemmas.Bool.{eq-eqb}
 use Rattle.plc_base.proofs.ListLemmas.{all_append}
@@ -9,27 +9,25 @@ use Rattle.plc_base.specs.Widths.{bit_count}
 use Rattle.flat_code.specs.declared.programs.Param.{Param}
 use Rattle.stl_ast.specs.declared.blocks.PathStep.{PathStep}
 use Rattle.stl_ast.specs.declared.blocks.PathStep.TheVariants as step
-use Rattle.stl_ast.specs.declared.blocks.Setting.{Setting}
 use Rattle.stl_ast.specs.declared.declarations.Simple.{Simple}
 use Rattle.stl_ast.specs.declared.literals.Literal.{Literal}
 use Rattle.block_layout.specs.Fits.{bits_of}
-use Rattle.block_layout.specs.InitialBytes.{Write, begun, cell_writes, component_writes, element_starts, preset_values, setting_write, setting_writes, type_writes, write_of, writes_at, writes_from}
-use Rattle.block_layout.specs.Listed.{AreAlike, AreApart, IsAlike, IsElementary, offset_named}
+use Rattle.block_layout.specs.InitialBytes.{Write, begun, cell_writes, component_writes, element_starts, preset_values, setting_write, type_writes, write_of, writes_at, writes_from}
+use Rattle.block_layout.specs.Listed.{AreAlike, AreApart, IsElementary, offset_named}
 use Rattle.block_layout.specs.Members.{component}
-use Rattle.block_layout.specs.Paths.{cells_at, elementary_at, entered, folded_path, found_at, goes_on, indexed, indexed_behind, kind_of, named, named_behind, named_in, outermost, plain_kind, step_of, structure_of, walked, walked_data, walked_from, walked_or_rests, within}
-use Rattle.block_layout.specs.Rebuilt.{InBit, InBytes, OneReaches, Reaches}
+use Rattle.block_layout.specs.Paths.{cells_at, found_at, goes_on, outermost, walked, walked_from}
+use Rattle.block_layout.specs.Rebuilt.{OneReaches, Reaches}
 use Rattle.block_layout.specs.Sizes.{alignment, capped, cell_bits, element_of, end_of, largest, plain_bits, stepped, up}
 use Rattle.block_layout.specs.declared.blocks.BlockLayout.{BlockLayout}
 use Rattle.block_layout.specs.declared.cells.Cell.{Cell}
-use Rattle.block_layout.specs.declared.cells.Element.{Element}
 use Rattle.block_layout.specs.declared.cells.Element.TheVariants.{Plain}
 use Rattle.block_layout.specs.declared.members.Member.{Member}
 use Rattle.block_layout.specs.declared.walks.ComponentAt.{ComponentAt}
 use Rattle.block_layout.specs.declared.walks.PathEnd.{PathEnd}
 use Rattle.block_layout.specs.declared.walks.PathEnd.TheVariants as walk
 use Rattle.sem_kept.proofs.accepted.OperandsWalks.{here_within}
-use Rattle.sem_kept.proofs.accepted.RecordParams.{end_behind, end_step, found_here, never_less, not_both, passed_by, past_behind}
-use Rattle.listing_laws.proofs.declared.Placed.{AreSame, Finds, IsSame, align, alignment_is, bits_is, finds_later, next, plain_width, stepped_is}
+use Rattle.sem_kept.proofs.accepted.RecordParams.{end_step, found_here, never_less, passed_by, past_behind}
+use Rattle.listing_laws.proofs.declared.Placed.{AreSame, Finds, align, alignment_is, bits_is, finds_later, next, plain_width, stepped_is}
 use Rattle.listing_laws.proofs.filled.Behind.{Behind, FirstBehind, LeadsBehind, entered_behind, path_behind, rest_component, rest_writes, write_behind}
 use Rattle.listing_laws.proofs.filled.Reached.{reach_behind, same_reach}
 use Rattle.listing_laws.proofs.filled.Spots.{entered_sound, kind_there, named_here, no_step, outer_spot}

@@ -1,12 +1,8 @@
 -- The settings of a listing break no rule.
-use Rattle.std.proofs.Common.{◌≡◌, ℕ, zero, suc, ◌+◌, Bool, true, false, List, [], ◌∷◌, ◌++◌, map, Option, Some, None, refl, sym, ap, subst, ◌∙◌, arith}
-use Rattle.std.specs.Prelude.{if◌then◌else◌, slice_get}
-use Rattle.std.specs.List.{AllByRecursion, flat_map}
-use Rattle.plc_base.specs.Gathered.{gathered}
-use Rattle.plc_base.specs.Least.{broken_if}
-use Rattle.plc_base.specs.declared.refusals.Refusal.{Refusal}
+use Rattle.std.proofs.Common.{◌≡◌, ℕ, zero, suc, ◌+◌, Bool, false, List, [], ◌∷◌, ◌++◌, map, Option, Some, None, refl, sym, ap, subst, ◌∙◌, arith}
+use Rattle.std.specs.Prelude.{slice_get}
+use Rattle.std.specs.List.{AllByRecursion}
 use Rattle.flat_code.specs.Programs.{CodeBlock, DataBlock, Program}
-use Rattle.stl_ast.specs.Literals.{AreBytes}
 use Rattle.stl_ast.specs.declared.blocks.Block.{Block}
 use Rattle.stl_ast.specs.declared.blocks.Setting.{Setting}
 use Rattle.stl_ast.specs.declared.blocks.Tree.{Tree}
@@ -22,10 +18,10 @@ use Rattle.stl_list.specs.DataBlocks.{listed_data}
 use Rattle.stl_list.specs.Lines.{line_behind}
 use Rattle.stl_list.specs.Listing.{listed_tree}
 use Rattle.stl_list.specs.Signatures.{Signature}
-use Rattle.sem_kept.specs.Accepted.{IsAccepted, program_in}
-use Rattle.listing_laws.specs.Again.{IsWholeAgain, listed_again}
+use Rattle.sem_kept.specs.Accepted.{program_in}
+use Rattle.listing_laws.specs.Again.{listed_again}
 use Rattle.listing_laws.specs.Declared.{signatures_in}
-use Rattle.listing_laws.specs.Instances.{AreListedSettingsRight, AreSettingsRight, data_again}
+use Rattle.listing_laws.specs.Instances.{AreListedSettingsRight, data_again}
 use Rattle.listing_laws.proofs.declared.OwnKept.{HasLayout, layout_there}
 use Rattle.listing_laws.proofs.filled.Listed.{IsAgain, all_instances}
 use Rattle.listing_laws.proofs.filled.Settings.{IsRight}

@@ -1,5 +1,5 @@
 -- The settings of a listed instance: each breaks no rule and writes what the bytes have, and together they reach each bit that is set.
-use Rattle.std.proofs.Common.{◌≡◌, ℕ, zero, suc, ◌+◌, ◌*◌, ◌/◌, ◌%◌, ◌^◌, ◌<◌, ◌≤◌, ◌⊎◌, inl, inr, Bool, true, false, not, List, [], ◌∷◌, ◌++◌, append-nil, length, map, pos, Option, Some, None, refl, sym, ap, subst, ◌∙◌, arith}
+use Rattle.std.proofs.Common.{◌≡◌, ℕ, zero, suc, ◌+◌, ◌*◌, ◌/◌, ◌%◌, ◌^◌, ◌<◌, ◌≤◌, inl, inr, Bool, true, false, not, List, [], ◌∷◌, ◌++◌, append-nil, length, map, pos, refl, sym, ap, subst, ◌∙◌, arith}
 use Rattle.std.specs.Prelude.{◌==◌, get_or, if◌then◌else◌, nat_eq, nat_le}
 use Rattle.std.specs.List.{AllByRecursion, flat_map, range_with_len}
 use Rattle.std.specs.Int.{bit_at}
@@ -11,37 +11,30 @@ use Rattle.plc_base.proofs.ListLemmas.{all_append}
 use Rattle.plc_base.specs.Folding.{folded}
 use Rattle.plc_base.specs.Widths.{bit_count}
 use Rattle.flat_code.specs.declared.programs.Param.{Param}
-use Rattle.stl_ast.specs.declared.blocks.PathStep.{PathStep}
 use Rattle.stl_ast.specs.declared.blocks.PathStep.TheVariants as step
 use Rattle.stl_ast.specs.declared.blocks.Setting.{Setting}
 use Rattle.stl_ast.specs.declared.declarations.Simple.{Simple}
 use Rattle.stl_ast.specs.declared.declarations.Simple.TheVariants as simple
-use Rattle.stl_ast.specs.declared.literals.Literal.{Literal}
 use Rattle.stl_ast.specs.declared.literals.Literal.TheVariants as literal
 use Rattle.block_layout.specs.Fits.{bits_of, fits}
 use Rattle.block_layout.specs.InitialBytes.{Write, bytes_of, setting_write, setting_writes, write_of}
 use Rattle.block_layout.specs.Offsets.{width_of}
-use Rattle.block_layout.specs.Paths.{elementary_at, folded_path, walked_data}
+use Rattle.block_layout.specs.Paths.{folded_path, walked_data}
 use Rattle.block_layout.specs.Rebuilt.{InBytes, IsTrueOf, OfBytes, OneReaches, Reaches, bit_in}
 use Rattle.block_layout.specs.Rule41.{fits_kind, misfits, setting_misfits}
 use Rattle.block_layout.specs.Rule42.{setting_is_outside}
 use Rattle.block_layout.specs.Sizes.{plain_bits}
 use Rattle.block_layout.specs.declared.blocks.BlockLayout.{BlockLayout}
-use Rattle.block_layout.specs.declared.walks.ComponentAt.{ComponentAt}
-use Rattle.block_layout.specs.declared.walks.PathEnd.{PathEnd}
-use Rattle.block_layout.specs.declared.walks.PathEnd.TheVariants as walk
 use Rattle.stl_types.specs.Unknown.{leads_nowhere, sets_unknown}
 use Rattle.stl_types.specs.declared.parameters.Formal.{Formal}
-use Rattle.stl_list.specs.Constants.{typed_constant}
 use Rattle.stl_list.specs.Initial.{byte_at, byte_here, byte_setting, byte_settings, parameter_here, parameter_setting, parameter_settings, value_in}
 use Rattle.stl_list.specs.Sections.{static_name}
 use Rattle.listing_laws.specs.Chains.{is_listed}
-use Rattle.listing_laws.specs.Declared.{AreWide}
 use Rattle.listing_laws.proofs.BlockLemmas.{byte_is as byte_small}
 use Rattle.listing_laws.proofs.called.Passings.{literal_kind}
 use Rattle.listing_laws.proofs.declared.Own.{past_end}
 use Rattle.listing_laws.proofs.declared.Placed.{plain_width}
-use Rattle.listing_laws.proofs.filled.Params.{IsWithin, bare}
+use Rattle.listing_laws.proofs.filled.Params.{bare}
 use Rattle.listing_laws.proofs.filled.Reached.{not_reached, reaches_back, reaches_front, same_reach}
 use Rattle.listing_laws.proofs.filled.Values.{byte_is, value_bits, value_true, value_write}
 use Rattle.listing_laws.proofs.filled.Walks.{AllLead, LeadsTo}

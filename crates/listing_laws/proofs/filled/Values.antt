@@ -1,6 +1,6 @@
 -- The values of settings are those of the bytes that they stand for.
-use Rattle.std.proofs.Common.{◌≡◌, ℕ, zero, suc, ◌+◌, ◌*◌, ◌/◌, ◌%◌, ◌^◌, ◌<◌, ◌≤◌, Bool, true, false, List, [], ◌∷◌, length, refl, sym, ap, subst, ◌∙◌, arith}
-use Rattle.std.specs.Prelude.{◌==◌, get_or, if◌then◌else◌, nat_eq, nat_le, nat_lt}
+use Rattle.std.proofs.Common.{◌≡◌, ℕ, zero, suc, ◌+◌, ◌*◌, ◌/◌, ◌%◌, ◌^◌, ◌<◌, ◌≤◌, true, List, length, refl, sym, ap, ◌∙◌, arith}
+use Rattle.std.specs.Prelude.{get_or, nat_le}
 use Rattle.std.specs.List.{AllByRecursion}
 use Rattle.std.proofs.lemmas.Bool.Decides.{nat_tests}
 use Rattle.std.proofs.lemmas.Option.{unwrap_or-slice_get}
@@ -14,13 +14,11 @@ use Rattle.block_layout.specs.Fits.{bits_of}
 use Rattle.block_layout.specs.InitialBytes.{Write, bytes_of}
 use Rattle.block_layout.specs.Offsets.{width_of}
 use Rattle.block_layout.specs.Rebuilt.{IsTrueOf, OfBit, OfBytes, bit_in}
-use Rattle.block_layout.specs.Sizes.{plain_bits}
 use Rattle.stl_list.specs.Constants.{typed_constant}
 use Rattle.stl_list.specs.Initial.{byte_at, value_in, word_at}
 use Rattle.listing_laws.specs.Chains.{is_listed}
 use Rattle.listing_laws.proofs.BlockLemmas.{byte_is as byte_small, value_is}
 use Rattle.listing_laws.proofs.called.Passings.{literal_bits}
-use Rattle.listing_laws.proofs.declared.Placed.{plain_width}
 
 -- ---- bytes of numbers
 

@@ -1,6 +1,6 @@
 -- Where the paths of an instance's settings lead in the listing.
-use Rattle.std.proofs.Common.{◌≡◌, ℕ, zero, suc, ◌+◌, ◌-◌, ◌*◌, ◌/◌, ◌<◌, ◌≤◌, Bool, true, false, ◌&&◌, List, [], ◌∷◌, ◌++◌, length, map, pos, Option, Some, None, refl, sym, ap, subst, ◌∙◌, arith}
-use Rattle.std.specs.Prelude.{◌-ℤ◌, ◌||◌, ℤ, drop, if◌then◌else◌, int_lt, nat_eq, slice_get, unsigned_abs}
+use Rattle.std.proofs.Common.{◌≡◌, ℕ, suc, ◌+◌, ◌-◌, ◌*◌, ◌<◌, ◌≤◌, Bool, true, false, ◌&&◌, List, [], ◌∷◌, ◌++◌, length, pos, Option, Some, refl, sym, ap, subst, ◌∙◌, arith}
+use Rattle.std.specs.Prelude.{◌-ℤ◌, ◌||◌, if◌then◌else◌, int_lt, nat_eq, slice_get, unsigned_abs}
 use Rattle.std.specs.List.{AllByRecursion}
 use Rattle.std.specs.Str.{bytes_eq}
 use Rattle.std.proofs.lemmas.Bool.{eq-eqb}
@@ -14,13 +14,12 @@ use Rattle.stl_ast.specs.declared.declarations.Simple.{Simple}
 use Rattle.stl_ast.specs.declared.declarations.Simple.TheVariants as simple
 use Rattle.block_layout.specs.Listed.{AreApart, IsElementary}
 use Rattle.block_layout.specs.Members.{component}
-use Rattle.block_layout.specs.Paths.{cells_at, elementary_at, found_at, further, goes_on, indexed, indexed_behind, is_beyond, is_beyond_in, is_judged, kind_of, leaves, leaves_from, leaves_judged, outermost, setting_structure, step_is_beyond, step_of, structure_of, walked, walked_data, walked_from, walked_or_rests, walked_setting, within}
-use Rattle.block_layout.specs.Sizes.{alignment, array_bits, capped, cell_bits, element_alignment, element_of, end_of, largest, up}
+use Rattle.block_layout.specs.Paths.{cells_at, elementary_at, found_at, further, goes_on, indexed, indexed_behind, is_beyond, is_beyond_in, is_judged, kind_of, leaves, leaves_judged, outermost, setting_structure, step_of, structure_of, walked, walked_data, walked_from, walked_or_rests, walked_setting}
+use Rattle.block_layout.specs.Sizes.{alignment, capped, cell_bits, element_alignment, element_of, end_of, largest, up}
 use Rattle.block_layout.specs.declared.blocks.BlockLayout.{BlockLayout}
 use Rattle.block_layout.specs.declared.cells.Cell.{Cell}
 use Rattle.block_layout.specs.declared.members.Member.{Member}
 use Rattle.block_layout.specs.declared.walks.ComponentAt.{ComponentAt}
-use Rattle.block_layout.specs.declared.walks.PathEnd.{PathEnd}
 use Rattle.block_layout.specs.declared.walks.PathEnd.TheVariants as walk
 use Rattle.stl_types.specs.declared.parameters.Formal.{Formal}
 use Rattle.stl_list.specs.Sections.{static_name}
@@ -29,7 +28,7 @@ use Rattle.sem_kept.proofs.accepted.RecordParams.{found_here, never_less, not_bo
 use Rattle.listing_laws.proofs.declared.Cells.{byte_cell}
 use Rattle.listing_laws.proofs.declared.Kept.{AreCellsOf}
 use Rattle.listing_laws.proofs.declared.Placed.{AreNamed}
-use Rattle.listing_laws.proofs.filled.Params.{ArePlaced, IsPlaced, end_past, past_any, past_cell, past_near}
+use Rattle.listing_laws.proofs.filled.Params.{ArePlaced, end_past, past_any, past_cell, past_near}
 use Rattle.listing_laws.proofs.filled.Spots.{entered_sound, kind_there, outer_spot}
 
 -- a path of the data block at a place leads to an elementary component so many bits from the start, and leaves no array on the way
