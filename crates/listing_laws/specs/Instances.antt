@@ -1,5 +1,5 @@
 -- The instances of function blocks, in the listing of an accepted source's program.
-use Rattle.std.specs.Prelude.{◌≡◌, ℕ, List, [], ◌∷◌, length, Some, slice_get}
+use Rattle.std.specs.Prelude.{◌≡◌, ℕ, false, List, [], ◌∷◌, length, Some, slice_get}
 use Rattle.std.specs.List.{AllByRecursion}
 use Rattle.flat_code.specs.Programs.{DataBlock}
 use Rattle.stl_ast.specs.Literals.{AreBytes}
@@ -11,6 +11,7 @@ use Rattle.block_layout.specs.Lengths.{length_of}
 use Rattle.block_layout.specs.Measures.{types_of}
 use Rattle.block_layout.specs.Rule41.{setting_misfits}
 use Rattle.block_layout.specs.Rule42.{setting_is_outside}
+use Rattle.block_layout.specs.Rule51.{is_too_long}
 use Rattle.block_layout.specs.Settings.{on_settings}
 use Rattle.block_layout.specs.declared.blocks.BlockLayout.{BlockLayout}
 use Rattle.stl_types.specs.Unknown.{sets_unknown}
@@ -25,15 +26,21 @@ abbrev pub data_again : (symbols : List Symbol) → Tree → (line : ℕ) → Da
 data_again symbols t line d =
     listed_data (signatures_in (program_in symbols t)) line d.number d.bytes d.instance_of
 
--- an instance, listed, is as long as it was, whatever symbols stand beside it
+-- an instance, listed, is as long as it was and not too long (rule 51)
+pub record IsInstanceLong (symbols : List Symbol) (t : Tree) (others : List Symbol) (d : DataBlock) : Type 0 where
+  pub length : (line : ℕ)
+      → length_of (types_of others (listed_again symbols t).blocks) (listed_again symbols t).blocks
+      (data_again symbols t line d) ≡ length d.bytes
+  pub by_51 : (line : ℕ)
+      → is_too_long (types_of others (listed_again symbols t).blocks) (listed_again symbols t).blocks
+      (data_again symbols t line d) ≡ false
+
+-- so it is with each instance of an accepted source's program, whatever symbols stand beside it
 abbrev pub AreInstancesLong : Type 0
 AreInstancesLong =
     (source file : List ℕ) (symbols : List Symbol) (t : Tree)
     → IsAccepted source file symbols t → AreBytes source → AreBytes file → (others : List Symbol)
-    → AllByRecursion
-    (λ d. (n line : ℕ) → d.instance_of ≡ Some n
-    → length_of (types_of others (listed_again symbols t).blocks) (listed_again symbols t).blocks
-    (data_again symbols t line d) ≡ length d.bytes)
+    → AllByRecursion (λ d. (n : ℕ) → d.instance_of ≡ Some n → IsInstanceLong symbols t others d)
     (program_in symbols t).data_blocks
 
 -- where an instance stands in the listing, the program of the listing has it again, with its number, its

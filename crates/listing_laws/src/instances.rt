@@ -6,7 +6,7 @@ ghost use Rattle.listing_laws.specs.Instances.{
 };
 
 /// The instances of function blocks in an accepted source's program are as long in its listing as they
-/// were (`long`). Where no block of the listing breaks a rule as a whole, its program has each again,
+/// were, and not too long (`long`). Where no block of the listing breaks a rule as a whole, its program has each again,
 /// with its number, its function block and its bytes (`again`).
 pub fn law_of_instances()
     ensures long { AreInstancesLong }

@@ -194,7 +194,7 @@ pub record IsSourced (b : CodeBlock) : Type 0 where
   pub least : least_local b.id.kind ≤ b.local_len
   pub shape : HasShape b
 
-fb_kind : (k : BlockKind) → is_function_block k ≡ true → k ≡ kinds.Fb
+pub fb_kind : (k : BlockKind) → is_function_block k ≡ true → k ≡ kinds.Fb
 fb_kind kinds.Ob e = absurd cc
 fb_kind kinds.Fc e = absurd cc
 fb_kind kinds.Fb e = refl
@@ -568,7 +568,7 @@ no_data_type kinds.Db e = absurd cc
 no_data_type kinds.Udt e = absurd cc
 no_data_type kinds.Sfc e = absurd cc
 
-own_kind : (k : BlockKind) → is_same_kind k k ≡ true
+pub own_kind : (k : BlockKind) → is_same_kind k k ≡ true
 own_kind kinds.Ob = refl
 own_kind kinds.Fc = refl
 own_kind kinds.Fb = refl

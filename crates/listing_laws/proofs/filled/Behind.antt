@@ -24,6 +24,7 @@ use Rattle.block_layout.specs.declared.members.Member.{Member}
 use Rattle.block_layout.specs.declared.walks.ComponentAt.{ComponentAt}
 use Rattle.block_layout.specs.declared.walks.PathEnd.{PathEnd}
 use Rattle.block_layout.specs.declared.walks.PathEnd.TheVariants as walk
+use Rattle.sem_kept.proofs.accepted.Accepted.{all_mapped}
 use Rattle.sem_kept.proofs.accepted.OperandsWalks.{Grows, step_grows}
 
 -- ---- places that meet an alignment
@@ -76,10 +77,6 @@ all_flat P Q f each (x ∷ xs) h = all_append Q (f x) (flat_map f xs) (each x h.
 all_images : {A B : Type 0} (P : A → Type 0) (Q : B → Type 0) (f : A → B) → ((x : A) → P x → Q (f x)) → (xs : List A) → AllByRecursion P xs → AllByRecursion Q (map f xs)
 all_images P Q f each [] h = tt
 all_images P Q f each (x ∷ xs) h = (each x h.0, all_images P Q f each xs h.1)
-
-all_held : {A : Type 0} (P Q : A → Type 0) → ((x : A) → P x → Q x) → (xs : List A) → AllByRecursion P xs → AllByRecursion Q xs
-all_held P Q each [] h = tt
-all_held P Q each (x ∷ xs) h = (each x h.0, all_held P Q each xs h.1)
 
 all_counted : {A : Type 0} (P : A → Type 0) (f : ℕ → A) → ((k : ℕ) → P (f k)) → (from n : ℕ) → AllByRecursion P (map f (range_with_len from n))
 all_counted P f each from zero = tt
@@ -154,7 +151,7 @@ module _ (low : ℕ) (near : low ≤ largest) where
       further s n k g = omega (arith, k, g)
 
   from_zero : (starts : List ℕ) → StartBehind low starts → AllByRecursion (λ s. low ≤ s + 0) starts
-  from_zero starts h = all_held (λ s. low ≤ s) (λ s. low ≤ s + 0) (λ s k. omega (arith, k)) starts h
+  from_zero starts h = all_mapped (λ s. low ≤ s) (λ s. low ≤ s + 0) (λ s k. omega (arith, k)) starts h
 
   cells_behind : (of_type : ℕ → List ℕ → List Write) → ((u : ℕ) (starts : List ℕ) → StartBehind low starts → Behind low (of_type u starts)) → (level at : ℕ) (starts : List ℕ) (cells : List Cell)
       → at ≤ largest → AllByRecursion (λ s. low ≤ s + at) starts → Behind low (writes_from of_type level starts at cells)
@@ -163,7 +160,7 @@ module _ (low : ℕ) (near : low ≤ largest) where
       by (nat_lt c.level level)
       (λ inner k. cells_behind of_type types (c.level + 1) 0 inner cs (omega arith) (from_zero inner k))
       (cells_behind of_type types level (stepped level at c (cell_bits c cs)) starts cs grows.near
-      (all_held (λ s. low ≤ s + at) (λ s. low ≤ s + stepped level at c (cell_bits c cs)) (λ s k. further s (stepped level at c (cell_bits c cs)) k grows.above) starts h))
+      (all_mapped (λ s. low ≤ s + at) (λ s. low ≤ s + stepped level at c (cell_bits c cs)) (λ s k. further s (stepped level at c (cell_bits c cs)) k grows.above) starts h))
     where
       grows : Grows at (stepped level at c (cell_bits c cs))
       grows = step_grows level at c (cell_bits c cs) few

@@ -3,7 +3,7 @@ use Rattle.std.proofs.Common.{◌≡◌, ℕ, suc, ◌+◌, Bool, true, false, L
 use Rattle.std.specs.Prelude.{if◌then◌else◌, nat_lt, slice_get}
 use Rattle.std.specs.List.{AllByRecursion}
 use Rattle.std.proofs.lemmas.Bool.Decides.{nat_tests}
-use Rattle.plc_base.specs.Kinds.{is_code, is_data_block, is_same_kind}
+use Rattle.plc_base.specs.Kinds.{is_code, is_data_block}
 use Rattle.plc_base.specs.declared.blocks.BlockKind.{BlockKind}
 use Rattle.plc_base.specs.declared.blocks.BlockKind.TheVariants as kinds
 use Rattle.flat_code.specs.Programs.{CodeBlock, DataBlock, Program}
@@ -30,7 +30,7 @@ use Rattle.listing_laws.specs.Declared.{signatures_in}
 use Rattle.listing_laws.specs.Instances.{AreDataBlocksAgain, data_again}
 use Rattle.listing_laws.specs.OwnData.{IsOwnDataAgain}
 use Rattle.listing_laws.proofs.OrderLemmas.{all_sorted, in_order, order_sorted}
-use Rattle.listing_laws.proofs.declared.Blocks.{IsSourced, all_codes, all_compiled, sourced}
+use Rattle.listing_laws.proofs.declared.Blocks.{IsSourced, all_codes, all_compiled, own_kind, sourced}
 use Rattle.listing_laws.proofs.declared.OwnData.{laid_in, own_data}
 use Rattle.listing_laws.proofs.declared.OwnKept.{layout_there}
 use Rattle.listing_laws.proofs.filled.Listed.{IsAgain, all_instances}
@@ -44,14 +44,6 @@ no_data kinds.Fb e = refl
 no_data kinds.Db e = absurd cc
 no_data kinds.Udt e = absurd cc
 no_data kinds.Sfc e = absurd cc
-
-own_kind : (k : BlockKind) → is_same_kind k k ≡ true
-own_kind kinds.Ob = refl
-own_kind kinds.Fc = refl
-own_kind kinds.Fb = refl
-own_kind kinds.Db = refl
-own_kind kinds.Udt = refl
-own_kind kinds.Sfc = refl
 
 code_id : (y : Types) (blocks before : List Block) (ss : List Signature) (reached : ℕ) (b : CodeBlock) → (block_layout y blocks before (listed_block ss reached b)).id ≡ Some b.id
 unfolding block_layout

@@ -1,6 +1,6 @@
 -- The data blocks of an accepted source's program, in its listing.
 use Rattle.std.proofs.Common.{◌≡◌, ℕ, suc, ◌*◌, ◌/◌, ◌%◌, ◌<◌, ◌≤◌, true, false, List, [], ◌∷◌, length, map, Some, refl, sym, ap, subst, ◌∙◌, arith}
-use Rattle.std.specs.Prelude.{slice_get}
+use Rattle.std.specs.Prelude.{nat_lt, slice_get}
 use Rattle.std.specs.List.{AllByRecursion}
 use Rattle.plc_base.specs.Kinds.{is_function}
 use Rattle.flat_code.specs.Programs.{CodeBlock, DataBlock, Program}
@@ -34,13 +34,14 @@ use Rattle.listing_laws.specs.Again.{IsWholeAgain, listed_again}
 use Rattle.listing_laws.specs.Chains.{is_listed}
 use Rattle.listing_laws.specs.Declared.{AreWide, signatures_in}
 use Rattle.listing_laws.specs.Ids.{data_id}
-use Rattle.listing_laws.specs.Instances.{AreInstancesAgain, AreInstancesLong, IsInstanceAgain, data_again}
+use Rattle.listing_laws.specs.Instances.{AreInstancesAgain, AreInstancesLong, IsInstanceAgain, IsInstanceLong, data_again}
 use Rattle.listing_laws.proofs.CompiledLemmas.{written_compiled}
 use Rattle.listing_laws.proofs.IdLemmas.{blocks_found, source_symbols}
 use Rattle.listing_laws.proofs.RangeLemmas.{IsListedData, program_listed}
 use Rattle.listing_laws.proofs.declared.Blocks.{IsKnown, IsLaidInstance, IsSourced, all_codes, all_compiled, all_known, kinds_wide, laid_instance, rise_after, sourced}
 use Rattle.listing_laws.proofs.declared.Groups.{AreListed, all_listed}
 use Rattle.listing_laws.proofs.declared.Kept.{IsKeptInstance, instance_groups, instance_kept, own_length}
+use Rattle.listing_laws.proofs.declared.OwnData.{not_long}
 use Rattle.listing_laws.proofs.filled.Instances.{HasSignature, IsFunctionBlockAt, IsListedAt, all_signed, data_back, data_long, formals_listed, in_front, lies_there, listed_there, mapped, settings_right}
 use Rattle.listing_laws.proofs.filled.Origins.{IsSourceInstance, source_instance}
 use Rattle.listing_laws.proofs.filled.Settings.{IsRight}
@@ -176,6 +177,12 @@ module _ (source file : List ℕ) (symbols : List Symbol) (t : Tree) (accepted :
         ap (λ o. length_of (types_of others again.blocks) again.blocks (listed_data ss line d.number d.bytes o)) e
         ∙ data_long others again ss n b laid.instance.cells function_block_at line d.number d.bytes ∙ sym s.long
 
+    is_long : d.instance_of ≡ Some n → IsInstanceLong symbols t others d
+    is_long e = record {
+      length = λ line. long_again line e;
+      by_51 = λ line. ap (nat_lt 16384) (long_again line e) ∙ not_long (length d.bytes) (subst (λ m. m ≤ 16384) (sym s.long) laid.instance.short);
+    }
+
     is_again : AllByRecursion (λ b. b < 256) d.bytes → IsWholeAgain symbols t others → d.instance_of ≡ Some n → IsAgain symbols t others d
     is_again small whole e = record { again = λ k line l there laid_. back k line l there laid_; right = λ k line l there laid_. fine k line l there laid_ }
       where
@@ -205,10 +212,10 @@ module _ (source file : List ℕ) (symbols : List Symbol) (t : Tree) (accepted :
       from [] h = tt
       from (d ∷ ds) (one, more) = (one.bytes, from ds more)
 
-  instances_long : AllByRecursion (λ d. (n line : ℕ) → d.instance_of ≡ Some n → length_of (types_of others again.blocks) again.blocks (data_again symbols t line d) ≡ length d.bytes) p.data_blocks
+  instances_long : AllByRecursion (λ d. (n : ℕ) → d.instance_of ≡ Some n → IsInstanceLong symbols t others d) p.data_blocks
   instances_long =
-      sound_data_blocks symbols t (λ d. (n line : ℕ) → d.instance_of ≡ Some n → length_of (types_of others again.blocks) again.blocks (data_again symbols t line d) ≡ length d.bytes) tree
-      (λ k b l id h e db n line is. long_again n (data_block (context_at symbols t k) l id) (source_instance source file symbols t accepted bytes k b l id h e db n is) line is)
+      sound_data_blocks symbols t (λ d. (n : ℕ) → d.instance_of ≡ Some n → IsInstanceLong symbols t others d) tree
+      (λ k b l id h e db n is. is_long n (data_block (context_at symbols t k) l id) (source_instance source file symbols t accepted bytes k b l id h e db n is) is)
 
   pub all_instances : IsWholeAgain symbols t others → AllByRecursion (λ d. (n : ℕ) → d.instance_of ≡ Some n → IsAgain symbols t others d) p.data_blocks
   all_instances whole =

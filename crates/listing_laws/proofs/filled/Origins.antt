@@ -6,8 +6,6 @@ use Rattle.std.specs.Option.{option_and_then}
 use Rattle.plc_base.proofs.ListLemmas.{all_append, all_back}
 use Rattle.plc_base.specs.Kinds.{is_data_block, is_function_block}
 use Rattle.plc_base.specs.declared.blocks.BlockId.{BlockId}
-use Rattle.plc_base.specs.declared.blocks.BlockKind.{BlockKind}
-use Rattle.plc_base.specs.declared.blocks.BlockKind.TheVariants as kinds
 use Rattle.flat_code.specs.Programs.{DataBlock}
 use Rattle.flat_code.specs.declared.programs.Param.{Param}
 use Rattle.stl_ast.specs.Literals.{AreBytes}
@@ -34,7 +32,7 @@ use Rattle.sem_kept.proofs.accepted.Initial.{initial_values_are_whole}
 use Rattle.sem_kept.proofs.accepted.OperandsCells.{IsLaid as LaidBlock, block_of_layout}
 use Rattle.sem_kept.proofs.accepted.OperandsViews.{IsStructured, IsThere, layout_id, structured, whole_is}
 use Rattle.sem_kept.proofs.accepted.Shared.{kind_there}
-use Rattle.listing_laws.proofs.declared.Blocks.{IsLaidInstance, laid_instance}
+use Rattle.listing_laws.proofs.declared.Blocks.{IsLaidInstance, fb_kind, laid_instance}
 use Rattle.listing_laws.proofs.declared.Own.{whole_writes}
 use Rattle.listing_laws.proofs.declared.OwnData.{initial_long}
 use Rattle.listing_laws.proofs.declared.Sources.{Begins}
@@ -51,14 +49,6 @@ record HasFunctionBlock (symbols : List Symbol) (t : Tree) (n : ℕ) (s : Shape)
   there : slice_get (layouts_of t symbols) place ≡ Some layout
   is : layout.id ≡ Some (function_block n)
   shape : s ≡ shape.Of place
-
-fb_kind : (k : BlockKind) → is_function_block k ≡ true → k ≡ kinds.Fb
-fb_kind kinds.Ob e = absurd cc
-fb_kind kinds.Fc e = absurd cc
-fb_kind kinds.Fb e = refl
-fb_kind kinds.Db e = absurd cc
-fb_kind kinds.Udt e = absurd cc
-fb_kind kinds.Sfc e = absurd cc
 
 has_function_block : (symbols : List Symbol) (t : Tree) (n : ℕ) (s : Shape) → instance_in (layouts_of t symbols) s ≡ Some n → HasFunctionBlock symbols t n s
 has_function_block symbols t n shape.Own e = absurd cc

@@ -67,6 +67,15 @@ end_past at c cs kind h = end_step at c cs ∙ ap (λ n. end_of 0 n cs) (past_an
 pub past_near : (at : ℕ) (c : Cell) → at ≤ largest → past_cell at c ≤ largest
 past_near at c near = (past_behind at c (cell_bits c []) near).1
 
+-- an elementary cell begins before the end
+begins_near : (at : ℕ) (c : Cell) (cs : List Cell) (kind : Simple) → IsElementary c kind → at ≤ largest → end_of 0 at (c ∷ cs) < largest → up at (alignment c) ≤ largest
+begins_near at c cs kind h near short =
+    let inside = here_within 0 at c cs near (never_less c.level) (eq-eqb c.level 0 h.level) h.sound short in
+    sums (up at (alignment c)) (cell_bits c cs) (end_of 0 at (c ∷ cs)) inside short
+  where
+    sums : (offset bits end : ℕ) → offset + bits ≤ end → end < largest → offset ≤ largest
+    sums offset bits end e f = omega (arith, e, f)
+
 by_bits : (n byte bit : ℕ) → byte ≡ n / 8 → bit ≡ n % 8 → n ≡ 8 * byte + bit
 by_bits n byte bit e f = omega (arith, e, f)
 
@@ -216,12 +225,7 @@ module _ (l : List BlockLayout) (start : ℕ) (near : 8 * start ≤ largest) whe
       end = end_past at c cs one.kind one.cell
 
       begins : up at (alignment c) ≤ largest
-      begins =
-          let inside = here_within 0 at c cs few (never_less c.level) (eq-eqb c.level 0 one.cell.level) one.cell.sound short in
-          sums (up at (alignment c)) (cell_bits c cs) (end_of 0 at (c ∷ cs)) inside short
-        where
-          sums : (offset bits end : ℕ) → offset + bits ≤ end → end < largest → offset ≤ largest
-          sums offset bits end e f = omega (arith, e, f)
+      begins = begins_near at c cs one.kind one.cell few short
 
       next_place : ℕ
       next_place = stepped 0 at c (cell_bits c (cs ++ rest))
@@ -263,12 +267,7 @@ module _ (l : List BlockLayout) (start : ℕ) (near : 8 * start ≤ largest) whe
       end = end_past at c cs one.kind one.cell
 
       begins : up at (alignment c) ≤ largest
-      begins =
-          let inside = here_within 0 at c cs few (never_less c.level) (eq-eqb c.level 0 one.cell.level) one.cell.sound short in
-          sums (up at (alignment c)) (cell_bits c cs) (end_of 0 at (c ∷ cs)) inside short
-        where
-          sums : (offset bits end : ℕ) → offset + bits ≤ end → end < largest → offset ≤ largest
-          sums offset bits end e f = omega (arith, e, f)
+      begins = begins_near at c cs one.kind one.cell few short
 
       by : (t : Bool) → (nat_eq c.level 0 && bytes_eq name c.name) ≡ t → (component 0 (past_cell at c) (place + 1) name (cs ++ rest) ≡ Some m → IsFound ps (place + 1) (cs ++ rest) m)
           → IsFound (p ∷ ps) place (c ∷ cs ++ rest) m
@@ -301,13 +300,13 @@ module _ (l : List BlockLayout) (start : ℕ) (near : 8 * start ≤ largest) whe
       low : (m : Member) → 8 * start ≤ m.offset → 8 * start ≤ capped (0 + capped m.offset)
       low m k = omega (arith, near, k)
 
-      at_parameter : (m : Member) (spot : ComponentAt) (c : Cell) (kind : Simple) → slice_get (cells_at l spot.block spot.temporary) spot.place ≡ Some c → spot.depth ≡ 0 → IsElementary c kind
+      at_parameter : (spot : ComponentAt) (c : Cell) (kind : Simple) → slice_get (cells_at l spot.block spot.temporary) spot.place ≡ Some c → spot.depth ≡ 0 → IsElementary c kind
           → ((w : Write) → w.offset ≡ spot.offset → w.width ≡ plain_bits kind → IsIn ps start w) → (steps : List PathStep)
           → AllByRecursion (IsIn ps start) (setting_write l value (walked l spot steps))
-      at_parameter m spot c kind there depth is each [] =
+      at_parameter spot c kind there depth is each [] =
           subst (λ o. AllByRecursion (IsIn ps start) (write_of spot.offset (bits_of value) o)) (sym (kind_there l spot c kind there is depth))
           (each (record { offset = spot.offset; width = plain_bits kind; value = bits_of value }) refl refl, tt)
-      at_parameter m spot c kind there depth is each (s ∷ steps) =
+      at_parameter spot c kind there depth is each (s ∷ steps) =
           subst (λ e. AllByRecursion (IsIn ps start) (setting_write l value (goes_on e (λ next. walked l next steps)))) (sym (no_step l spot c kind there is s)) tt
 
       lies : (m : Member) → IsFound ps 0 (cs ++ rest) m → AllByRecursion (IsIn ps start) (setting_write l value (goes_on (found_at cells block false 0 0 (Some m)) (λ spot. walked l spot ss)))
@@ -316,7 +315,7 @@ module _ (l : List BlockLayout) (start : ℕ) (near : 8 * start ≤ largest) whe
           let here : slice_get cells k ≡ Some c = ap (λ cells. slice_get cells k) are ∙ there in
           let place : m.place ≡ k = omega (arith, at) in
           subst (λ e. AllByRecursion (IsIn ps start) (setting_write l value (goes_on e (λ spot. walked l spot ss)))) (sym (entered_sound cells block k m c place here is.sound few))
-          (at_parameter m (outer_spot block k m.offset) c kind here refl is each ss)
+          (at_parameter (outer_spot block k m.offset) c kind here refl is each ss)
 
       by : (o : Option Member) → component 0 0 0 name cells ≡ o → AllByRecursion (IsIn ps start) (setting_write l value (goes_on (found_at cells block false 0 0 o) (λ spot. walked l spot ss)))
       by None e = tt

@@ -19,6 +19,7 @@ use Rattle.stl_list.specs.Lines.{line_behind}
 use Rattle.stl_list.specs.Listing.{listed_tree}
 use Rattle.stl_list.specs.Signatures.{Signature}
 use Rattle.sem_kept.specs.Accepted.{program_in}
+use Rattle.sem_kept.proofs.accepted.Accepted.{all_mapped}
 use Rattle.listing_laws.specs.Again.{listed_again}
 use Rattle.listing_laws.specs.Declared.{signatures_in}
 use Rattle.listing_laws.specs.Instances.{AreListedSettingsRight, data_again}
@@ -62,10 +63,6 @@ block_listed P of ss reached [] ds i b h e = data_listed P of ds i b h e
 block_listed P of ss reached (c ∷ cs) ds zero b h e = let same : listed_block ss reached c ≡ b = cc in Bare (ap (λ (x : Block). x.settings) (sym same))
 block_listed P of ss reached (c ∷ cs) ds (suc i) b h e = block_listed P of ss (line_behind reached c.lines) cs ds i b h e
 
-all_held : (P Q : Setting → Type 0) → ((s : Setting) → P s → Q s) → (ss : List Setting) → AllByRecursion P ss → AllByRecursion Q ss
-all_held P Q each [] h = tt
-all_held P Q each (s ∷ ss) (one, more) = (each s one, all_held P Q each ss more)
-
 -- no rule of settings is broken by one
 record IsFine (l : List BlockLayout) (k : ℕ) (s : Setting) : Type 0 where
   known : sets_unknown l k s ≡ false
@@ -92,7 +89,7 @@ module _ (symbols : List Symbol) (t : Tree) (others : List Symbol) (line : ℕ) 
       by : (o : Option ℕ) → d.instance_of ≡ o → AllByRecursion (IsFine ls i) (data_again symbols t line d).settings
       by None e = subst (λ o. AllByRecursion (IsFine ls i) (listed_data (signatures_in (program_in symbols t)) line d.number d.bytes o).settings) (sym e) tt
       by (Some n) e =
-          all_held (IsRight ls i d.bytes) (IsFine ls i) (λ s r. record { known = r.known; fit = r.fit; inside = r.inside }) (data_again symbols t line d).settings
+          all_mapped (IsRight ls i d.bytes) (IsFine ls i) (λ s r. record { known = r.known; fit = r.fit; inside = r.inside }) (data_again symbols t line d).settings
           ((h n e).right i line laid.layout at laid.there)
 
 pub settings_are_right : AreListedSettingsRight
@@ -120,7 +117,7 @@ settings_are_right source file symbols t accepted bytes file_bytes others whole 
     at breaks holds i b e =
         let none : i ≡ 0 + i = omega arith in
         subst (λ k. AllByRecursion (λ s. breaks k s ≡ false) b.settings) none
-        (all_held (IsFine ls i) (λ s. breaks i s ≡ false) (holds i) b.settings
+        (all_mapped (IsFine ls i) (λ s. breaks i s ≡ false) (holds i) b.settings
         (fine_at symbols t others line i b e
         (block_listed (λ d. (n : ℕ) → d.instance_of ≡ Some n → IsAgain symbols t others d) (data_again symbols t line) (signatures_in p) 1 (in_lines p.code_blocks) p.data_blocks i b
         (all_instances source file symbols t accepted bytes file_bytes others whole) e)))
