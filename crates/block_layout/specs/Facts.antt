@@ -21,6 +21,6 @@ pub record AreFacts (y : Types) (blocks : List Block) (f : Facts) : Type 0 where
 
 -- the same of one block, before which some of the blocks stand
 pub record AreFactsOf (y : Types) (blocks some : List Block) (b : Block) (in_itself : Bool) (local len : ℕ) : Type 0 where
-  pub in_itself : in_itself ≡ contains_itself y blocks some b
-  pub local : local ≡ local_len y b
-  pub len : len ≡ length_of y blocks b
+  pub itself : in_itself ≡ contains_itself y blocks some b
+  pub locals : local ≡ local_len y b
+  pub bytes : len ≡ length_of y blocks b

@@ -1,5 +1,5 @@
 -- The last of a list, seen reversed.
-use Rattle.std.proofs.Common.{◌≡◌, ◌∙◌, ℕ, ◌≤◌, Bool, true, List, [], ◌∷◌, ◌++◌, length, reverse, refl, ap, sym, get_or, suc, ◌+◌, ◌<◌, arith, take}
+use Rattle.std.proofs.Common.{◌≡◌, ◌∙◌, ℕ, Bool, true, List, [], ◌∷◌, length, reverse, refl, ap, sym, get_or, ◌+◌, ◌<◌, arith, take}
 use Rattle.std.specs.Prelude.{◌-◌}
 use Rattle.std.proofs.lemmas.List.{take_all, get_or_default}
 use Rattle.frames.specs.Relay.{zone_value}

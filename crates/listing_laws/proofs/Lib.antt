@@ -24,4 +24,6 @@ mod WordLemmas
 mod called
 pub mod declared
 mod filled
+mod naming
 mod ruled
+mod unbroken

@@ -22,4 +22,4 @@ returns c = λ blocks some outline facts before.
     made c.args.types.now blocks some c.args.block.now c.id_of.result c.is_broken-broken.result c.shape_of.result c.args.outline c.args.local c.args.len
     (c.id_of.ensures ∙ ap (λ (t : Types). id_of t.symbols c.args.block.now) c.types.view_is)
     (c.is_broken-broken.ensures blocks some facts before)
-    c.shape_of.ensures outline facts.local facts.len
+    c.shape_of.ensures outline facts.locals facts.bytes

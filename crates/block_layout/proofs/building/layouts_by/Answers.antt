@@ -61,7 +61,7 @@ loop-outline-preserved c =
     c.number_at-local.ensures ∙ ap (λ (l : List ℕ). get_or l place 0) c.deref-in-loop-outline.ensures.value ∙ mapped_at (local_len y) blocks _ place block facts.local_lens within c.index-blocks-place.is in
     let len : c.number_at-len.result ≡ length_of y blocks block =
     c.number_at-len.ensures ∙ ap (λ (l : List ℕ). get_or l place 0) c.deref-in-loop-outline-2.ensures.value ∙ mapped_at (length_of y blocks) blocks _ place block facts.lengths within c.index-blocks-place.is in
-    let one = c.block_layout-layout.ensures blocks at.some is_outline (record { in_itself = itself; local = local; len = len }) at.known in
+    let one = c.block_layout-layout.ensures blocks at.some is_outline (record { itself = itself; locals = local; bytes = len }) at.known in
     let pushed = c.in_ok-push.ensures.items in record {
       turns = ap length pushed ∙ length-append done (c.block_layout-layout.result ∷ []) ∙ ap (λ (n : ℕ). n + 1) turns ∙ sym (length-append c.loop-outline.yielded (c.in-Some.outline ∷ []));
       laid =

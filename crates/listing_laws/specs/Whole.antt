@@ -1,0 +1,97 @@
+-- No block of a listing breaks a rule as a whole, and none of its heads and declarations breaks one.
+use Rattle.std.specs.Prelude.{◌≡◌, ◌+◌, ℕ, List, [], length, Option, Some, None, slice_get}
+use Rattle.stl_ast.specs.Literals.{AreBytes}
+use Rattle.stl_ast.specs.declared.blocks.Block.{Block}
+use Rattle.stl_ast.specs.declared.blocks.Tree.{Tree}
+use Rattle.stl_symbols.specs.Symbol.{Symbol}
+use Rattle.flat_code.specs.Programs.{CodeBlock, DataBlock, Program}
+use Rattle.block_layout.specs.Around.{in_blocks}
+use Rattle.block_layout.specs.Heads.{on_heads}
+use Rattle.block_layout.specs.Layouts.{layouts_of}
+use Rattle.block_layout.specs.Measures.{types_of}
+use Rattle.block_layout.specs.Rule21.{rule_21}
+use Rattle.block_layout.specs.Rule22.{rule_22}
+use Rattle.block_layout.specs.Rule23.{broken_23, has_unknown_head}
+use Rattle.block_layout.specs.Rule41.{broken_41}
+use Rattle.block_layout.specs.Rule42.{broken_42}
+use Rattle.block_layout.specs.Rule43.{rule_43}
+use Rattle.block_layout.specs.Rule44.{rule_44}
+use Rattle.block_layout.specs.Rule50.{rule_50}
+use Rattle.block_layout.specs.Rule51.{rule_51}
+use Rattle.block_layout.specs.Rule52.{rule_52}
+use Rattle.block_layout.specs.Rule53.{rule_53}
+use Rattle.block_layout.specs.Rule54.{rule_54}
+use Rattle.block_layout.specs.Rule55.{rule_55}
+use Rattle.block_layout.specs.Rule56.{rule_56}
+use Rattle.block_layout.specs.declared.blocks.BlockLayout.{BlockLayout}
+use Rattle.block_layout.specs.declared.blocks.Shape.{Shape}
+use Rattle.block_layout.specs.declared.blocks.Shape.TheVariants as shape
+use Rattle.stl_list.specs.CodeBlocks.{in_lines, line_reached}
+use Rattle.stl_list.specs.DataBlocks.{function_block, listed_data}
+use Rattle.sem_kept.specs.Accepted.{IsAccepted, program_in}
+use Rattle.listing_laws.specs.Again.{listed_again}
+use Rattle.listing_laws.specs.Declared.{signatures_in}
+use Rattle.listing_laws.specs.Ids.{data_id}
+
+-- the heads and the declarations of blocks break no rule: of the rules of layouts this leaves out those of
+-- settings and of operands
+pub record AreBlocksRight (symbols : List Symbol) (blocks : List Block) : Type 0 where
+  pub by_21 : rule_21 blocks ≡ []
+  pub by_22 : rule_22 (types_of symbols blocks) blocks ≡ []
+  pub heads_23 : on_heads (λ before b. has_unknown_head (types_of symbols blocks) b) 23 blocks ≡ []
+  pub declared_23 : in_blocks (broken_23 (types_of symbols blocks)) blocks ≡ []
+  pub declared_41 : in_blocks broken_41 blocks ≡ []
+  pub declared_42 : in_blocks broken_42 blocks ≡ []
+  pub by_43 : rule_43 (types_of symbols blocks) blocks ≡ []
+  pub by_44 : rule_44 symbols blocks ≡ []
+  pub by_50 : rule_50 (types_of symbols blocks) blocks ≡ []
+  pub by_51 : rule_51 (types_of symbols blocks) blocks ≡ []
+  pub by_52 : rule_52 blocks ≡ []
+  pub by_53 : rule_53 blocks ≡ []
+  pub by_54 : rule_54 (types_of symbols blocks) blocks ≡ []
+  pub by_55 : rule_55 blocks ≡ []
+  pub by_56 : rule_56 (types_of symbols blocks) blocks ≡ []
+
+-- so it is with the listing of each accepted source's program, whatever symbols stand beside it
+abbrev pub AreBlocksRightAgain : Type 0
+AreBlocksRightAgain =
+    (source file : List ℕ) (symbols : List Symbol) (t : Tree)
+    → IsAccepted source file symbols t → AreBytes source → AreBytes file → (others : List Symbol)
+    → AreBlocksRight others (listed_again symbols t).blocks
+
+-- a data block of a program is an instance of the function block that a listing has at a place, and as long
+-- as the structure of that one
+pub record IsInstanceOf (p : Program) (number size : ℕ) (s : Shape) : Type 0 where
+  pub place : ℕ
+  pub block : CodeBlock
+  pub there : slice_get (in_lines p.code_blocks) place ≡ Some block
+  pub id : block.id ≡ function_block number
+  pub length : block.instance_len ≡ size
+  pub shape : s ≡ shape.Of place
+
+-- a data block has its own structure, or that of the function block whose instance it is
+abbrev pub HasShapeAgain : Program → DataBlock → Option ℕ → Shape → Type 0
+HasShapeAgain p d None s = s ≡ shape.Own
+HasShapeAgain p d (Some number) s = IsInstanceOf p number (length d.bytes) s
+
+-- a data block of a program stands at a place in its listing: its number, its length and its shape there
+pub record IsDataAt (p : Program) (blocks : List Block) (layouts : List BlockLayout) (place : ℕ)
+    (d : DataBlock) : Type 0 where
+  pub layout : BlockLayout
+  pub block : slice_get blocks place
+      ≡ Some (listed_data (signatures_in p) (line_reached 1 (in_lines p.code_blocks)) d.number
+      d.bytes d.instance_of)
+  pub laid : slice_get layouts place ≡ Some layout
+  pub id : layout.id ≡ Some (data_id d.number)
+  pub size : layout.length ≡ length d.bytes
+  pub shape : HasShapeAgain p d d.instance_of layout.shape
+
+-- so does each data block of an accepted source's program, behind its code blocks
+abbrev pub AreDataLaid : Type 0
+AreDataLaid =
+    (source file : List ℕ) (symbols : List Symbol) (t : Tree)
+    → IsAccepted source file symbols t → AreBytes source → AreBytes file → (others : List Symbol)
+    → (k : ℕ) (d : DataBlock) → slice_get (program_in symbols t).data_blocks k ≡ Some d
+    → IsDataAt (program_in symbols t) (listed_again symbols t).blocks
+    (layouts_of (listed_again symbols t) others)
+    (length (program_in symbols t).code_blocks + k) d
