@@ -23,6 +23,7 @@ mod SymbolOrderLemmas
 mod WordLemmas
 mod called
 pub mod declared
+mod filled
 mod naming
 mod made
 mod remade
