@@ -4,7 +4,6 @@ pub mod Instances
 pub mod Named
 pub mod Numbered
 pub mod Placed
-pub mod Shared
 pub mod Statements
 pub mod Trees
 pub mod Words

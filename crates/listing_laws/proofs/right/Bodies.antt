@@ -43,7 +43,7 @@ use Rattle.listing_laws.specs.Declared.{signatures_in}
 use Rattle.listing_laws.specs.Instructions.{HasAgain, IsRightOperand}
 use Rattle.listing_laws.specs.LabelRules.{LeadsWithin}
 use Rattle.listing_laws.specs.Nesting.{AreNestedAlike}
-use Rattle.listing_laws.specs.RightBodies.{IsBodyReady, IsCallKept}
+use Rattle.listing_laws.specs.CallsAgain.{IsCalledAgain}
 use Rattle.listing_laws.specs.Statements.{offset_in}
 use Rattle.listing_laws.proofs.right.Instances.{instance_there}
 use Rattle.listing_laws.proofs.right.Named.{AreTypesOf}
@@ -202,8 +202,14 @@ module _ (y : Types) (c : Context) (body : List Statement) (h : AreRight y c bod
 
 -- ---- each statement of a listed body
 
+-- what the body of a block names and calls is there in the listing, at the block that was made of it
+pub record IsBodyReady (c listed : Context) (signatures : List Signature) (own : List Formal) (body : List Statement) : Type 0 where
+  pub has : HasAgain c listed own
+  pub operands : AllByRecursion (λ s. IsRightOperand c.symbols s.operand) body
+  pub calls : AllByRecursion (IsCalledAgain c listed signatures own) body
+
 numbered_right : (y y' : Types) (c listed : Context) (sur : Surroundings) (f : ℕ → ℕ) (body : List Statement) (k : ℕ) (ss : List Statement)
-    → AreTypesOf y listed → HasAgain c listed sur.formals → AllByRecursion (λ s. IsRightOperand c.symbols s.operand) ss → AllByRecursion (IsCallKept c listed sur.signatures sur.formals) ss → AllByRecursion (IsInstanceKept c listed) ss
+    → AreTypesOf y listed → HasAgain c listed sur.formals → AllByRecursion (λ s. IsRightOperand c.symbols s.operand) ss → AllByRecursion (IsCalledAgain c listed sur.signatures sur.formals) ss → AllByRecursion (IsInstanceKept c listed) ss
     → AllByRecursion (IsSettled c body) ss → AllByRecursion (IsSoundStatement y' c) ss
     → AreRight y listed (numbered_from (listed_as sur f c body) k ss)
 numbered_right y y' c listed sur f body k [] types has operands calls instances settled sound = tt

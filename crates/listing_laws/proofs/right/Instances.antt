@@ -41,12 +41,10 @@ use Rattle.stl_types.specs.declared.views.Resolution.TheVariants.{Resolved}
 use Rattle.stl_types.specs.declared.views.ResolvedOperand.TheVariants as view
 use Rattle.stl_codegen.specs.Generated.{data_block, function_block_number, instance_in}
 use Rattle.stl_codegen.specs.Operations.{call_of}
-use Rattle.stl_list.specs.CodeBlocks.{in_lines, line_reached, listed_blocks}
-use Rattle.stl_list.specs.DataBlocks.{function_block, listed_data, listed_data_blocks}
-use Rattle.stl_list.specs.Joined.{chains_of}
-use Rattle.stl_list.specs.Listing.{listed_tree}
+use Rattle.stl_list.specs.CodeBlocks.{in_lines, line_reached}
+use Rattle.stl_list.specs.DataBlocks.{function_block, listed_data}
 use Rattle.stl_list.specs.Operands.{data_block_name}
-use Rattle.stl_list.specs.Signatures.{Signature, signatures}
+use Rattle.stl_list.specs.Signatures.{Signature}
 use Rattle.sem_kept.specs.Accepted.{program_in}
 use Rattle.sem_kept.proofs.accepted.Accepted.{IsSoundStatement, IsSoundTree, context_at}
 use Rattle.sem_kept.proofs.accepted.OperandsCells.{known_there, measured_symbols, origin}
@@ -55,10 +53,11 @@ use Rattle.sem_kept.proofs.accepted.OperandsViews.{IsData, data_there, ids_same,
 use Rattle.sem_kept.proofs.accepted.Shared.{or_second}
 use Rattle.listing_laws.specs.Again.{listed_again}
 use Rattle.listing_laws.specs.Calls.{IsInstanceAt}
+use Rattle.listing_laws.specs.Declared.{signatures_in}
 use Rattle.listing_laws.specs.Ids.{data_id, program_ids}
 use Rattle.listing_laws.specs.Instructions.{HasAgain}
 use Rattle.listing_laws.proofs.IdLemmas.{blocks_found, source_ids}
-use Rattle.listing_laws.proofs.right.Shared.{lines_length, listed_length}
+use Rattle.listing_laws.proofs.made.Origins.{at_back, data_listed, lines_count, mapped_at}
 use Rattle.listing_laws.proofs.ruled.Calling.{rule_called, same_kind}
 use Rattle.listing_laws.proofs.ruled.Instructions.{rule_broken, what_seen}
 use Rattle.listing_laws.proofs.ruled.Rules.{taken_view}
@@ -85,29 +84,7 @@ stands_all xs = stands_from xs 0 xs (λ i x e. subst (λ (n : ℕ). slice_get xs
     first : (i : ℕ) → i ≡ 0 + i
     first i = omega arith
 
-get_behind : {A : Type 0} (front rest : List A) (n j : ℕ) (x : A) → length front ≡ n → slice_get rest j ≡ Some x → slice_get (front ++ rest) (n + j) ≡ Some x
-get_behind [] rest n j x size e = let same : n + j ≡ j = omega (arith, size) in ap (slice_get rest) same ∙ e
-get_behind (y ∷ front) rest zero j x size e = absurd (omega (arith, size))
-get_behind (y ∷ front) rest (suc n) j x size e =
-    let more : suc n + j ≡ suc (n + j) = omega arith in
-    ap (slice_get (y ∷ (front ++ rest))) more ∙ get_behind front rest n j x (omega (arith, size)) e
-
-get_mapped : {A B : Type 0} (f : A → B) (xs : List A) (j : ℕ) (x : A) → slice_get xs j ≡ Some x → slice_get (map f xs) j ≡ Some (f x)
-get_mapped f [] j x e = absurd cc
-get_mapped f (y ∷ xs) zero x e = ap (λ z. Some (f z)) (same_Some y x e)
-get_mapped f (y ∷ xs) (suc j) x e = get_mapped f xs j x e
-
 -- ---- a data block of a program in its listing
-
-data_at : (p : Program) (j : ℕ) (d : DataBlock) → slice_get p.data_blocks j ≡ Some d
-    → slice_get (listed_tree p).blocks (length p.code_blocks + j)
-    ≡ Some (listed_data (signatures (chains_of p.code_blocks) p.code_blocks) (line_reached 1 (in_lines p.code_blocks)) d.number d.bytes d.instance_of)
-unfolding listed_tree
-data_at p j d e =
-    let names : List Signature = signatures (chains_of p.code_blocks) p.code_blocks in
-    get_behind (listed_blocks names 1 (in_lines p.code_blocks)) (listed_data_blocks names (line_reached 1 (in_lines p.code_blocks)) p.data_blocks) (length p.code_blocks) j _
-    (listed_length names 1 (in_lines p.code_blocks) ∙ lines_length p.code_blocks)
-    (get_mapped (λ (d : DataBlock). listed_data names (line_reached 1 (in_lines p.code_blocks)) d.number d.bytes d.instance_of) p.data_blocks j d e)
 
 map_length : {A B : Type 0} (f : A → B) (xs : List A) → length (map f xs) ≡ length xs
 map_length f [] = refl
@@ -115,9 +92,11 @@ map_length f (x ∷ xs) = ap suc (map_length f xs)
 
 id_at : (p : Program) (j : ℕ) (d : DataBlock) → slice_get p.data_blocks j ≡ Some d → slice_get (program_ids p) (length p.code_blocks + j) ≡ Some (data_id d.number)
 id_at p j d e =
-    get_behind (map (λ (b : CodeBlock). b.id) (in_lines p.code_blocks)) (map (λ (d : DataBlock). data_id d.number) p.data_blocks) (length p.code_blocks) j (data_id d.number)
-    (map_length (λ (b : CodeBlock). b.id) (in_lines p.code_blocks) ∙ lines_length p.code_blocks)
-    (get_mapped (λ (d : DataBlock). data_id d.number) p.data_blocks j d e)
+    let front : List BlockId = map (λ (b : CodeBlock). b.id) (in_lines p.code_blocks) in
+    let size = map_length (λ (b : CodeBlock). b.id) (in_lines p.code_blocks) in
+    let count = lines_count p.code_blocks in
+    at_back front (map (λ (d : DataBlock). data_id d.number) p.data_blocks) (length p.code_blocks + j) j (omega (arith, size, count))
+    ∙ mapped_at (λ (d : DataBlock). data_id d.number) p.data_blocks j d e
 
 -- ---- layouts
 
@@ -386,7 +365,7 @@ instance_placed symbols t tree others again id n found fb inst placed numbered =
     place_is = ap (option_and_then (if_whole (layouts_of listed others))) data_is ∙ whole.is
 
     names : List Signature
-    names = signatures (chains_of p.code_blocks) p.code_blocks
+    names = signatures_in p
 
     line : ℕ
     line = line_reached 1 (in_lines p.code_blocks)
@@ -399,7 +378,7 @@ instance_placed symbols t tree others again id n found fb inst placed numbered =
 
     shape_is : whole.layout.shape ≡ shape.Of placed.place
     shape_is =
-        shape_laid others listed m (listed_data names line inst.stored.number inst.stored.bytes inst.stored.instance_of) whole.layout (data_at p inst.place inst.stored inst.there) whole.there
+        shape_laid others listed m (listed_data names line inst.stored.number inst.stored.bytes inst.stored.instance_of) whole.layout (data_listed p inst.place inst.stored inst.there) whole.there
         ∙ refers inst.stored.instance_of inst.of
         ∙ ap₂ (λ (i : BlockId) (is : List (Option BlockId)). shape_at (known_block i is)) (sym (function_block_is id fb)) (sym (ids_same others listed))
         ∙ ap shape_at placed.known

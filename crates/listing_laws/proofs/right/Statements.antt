@@ -66,7 +66,7 @@ use Rattle.listing_laws.specs.Calls.{IsInstanceAt}
 use Rattle.listing_laws.specs.Instructions.{HasAgain, IsRightOperand}
 use Rattle.listing_laws.specs.Operands.{acting}
 use Rattle.listing_laws.specs.Passings.{BreaksNone, FitsListed, IsListedCall}
-use Rattle.listing_laws.specs.RightBodies.{IsCallKept, IsCallable}
+use Rattle.listing_laws.specs.CallsAgain.{IsCalledAgain, IsFoundAgain}
 use Rattle.listing_laws.specs.Statements.{run_of}
 use Rattle.listing_laws.proofs.called.Calls.{calls_listed, calls_whole, instances_right, statements_listed}
 use Rattle.listing_laws.proofs.called.Passings.{actuals_right, all_actuals, calls_complete, sees, undated}
@@ -384,7 +384,7 @@ IsInstanceKept c listed s =
 
 called_right : (y : Types) (c listed : Context) (sur : Surroundings) (f : ℕ → ℕ) (k : ℕ) (s : Statement) (how : CallOperation) (id : BlockId) (instance : Option ℕ) (callee : Callee)
     → AreTypesOf y listed → HasAgain c listed sur.formals → call_of s.code ≡ Some how → resolved c s ≡ Some (view.Called id instance) → is_called s.operand ≡ true
-    → IsSoundCall c callee s → (q : IsCallable c listed sur.formals (called_formals sur.signatures id) s id instance callee)
+    → IsSoundCall c callee s → (q : IsFoundAgain c listed sur.formals (called_formals sur.signatures id) s id instance callee)
     → IsInstanceAt listed q.found.place (option_map data_block_name instance)
     → IsShownAgain y listed sur f k (Calls how id instance (passings_to c s (Some callee)))
 called_right y c listed sur f k s how id instance callee types has h e is_call sound q instances = record {
@@ -471,7 +471,7 @@ called_right y c listed sur f k s how id instance callee types has h e is_call s
     }
 
 call_right : (y y' : Types) (c listed : Context) (sur : Surroundings) (f : ℕ → ℕ) (body : List Statement) (k : ℕ) (s : Statement) (how : CallOperation)
-    → AreTypesOf y listed → HasAgain c listed sur.formals → call_of s.code ≡ Some how → HasCalled c s → IsSoundStatement y' c s → IsCallKept c listed sur.signatures sur.formals s → IsInstanceKept c listed s
+    → AreTypesOf y listed → HasAgain c listed sur.formals → call_of s.code ≡ Some how → HasCalled c s → IsSoundStatement y' c s → IsCalledAgain c listed sur.signatures sur.formals s → IsInstanceKept c listed s
     → IsRightAgain y listed (listed_as sur f c body k s)
 call_right y y' c listed sur f body k s how types has h called sound kept instances =
     subst (IsShownAgain y listed sur f k) (sym is)
@@ -481,7 +481,7 @@ call_right y y' c listed sur f body k s how types has h called sound kept instan
     is_call : is_called s.operand ≡ true
     is_call = sound.well_formed.called ∙ calls_block s.code how h
 
-    q : IsCallable c listed sur.formals (called_formals sur.signatures called.id) s called.id called.instance called.callee
+    q : IsFoundAgain c listed sur.formals (called_formals sur.signatures called.id) s called.id called.instance called.callee
     q = kept called.id called.instance called.callee called.called called.found
 
     is : instruction c body k s ≡ Calls how called.id called.instance (passings_to c s (Some called.callee))
@@ -492,7 +492,7 @@ call_right y y' c listed sur f body k s how types has h called sound kept instan
 -- ---- any statement
 
 pub statement_right : (y y' : Types) (c listed : Context) (sur : Surroundings) (f : ℕ → ℕ) (body : List Statement) (k : ℕ) (s : Statement)
-    → AreTypesOf y listed → HasAgain c listed sur.formals → IsRightOperand c.symbols s.operand → IsCallKept c listed sur.signatures sur.formals s → IsInstanceKept c listed s
+    → AreTypesOf y listed → HasAgain c listed sur.formals → IsRightOperand c.symbols s.operand → IsCalledAgain c listed sur.signatures sur.formals s → IsInstanceKept c listed s
     → IsSettled c body s → IsSoundStatement y' c s → is_empty s.code ≡ false
     → IsRightAgain y listed (listed_as sur f c body k s)
 statement_right y y' c listed sur f body k s types has right kept instances settled sound some = by (jump_of s.code) refl settled.instruction

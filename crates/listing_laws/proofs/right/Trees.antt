@@ -4,8 +4,10 @@ use Rattle.std.specs.Prelude.{slice_get, nat_lt}
 use Rattle.std.specs.List.{AllByRecursion, flat_map}
 use Rattle.std.proofs.lemmas.Bool.{ltb-false, ltb-true}
 use Rattle.plc_base.specs.Least.{broken_if}
+use Rattle.plc_base.specs.declared.blocks.BlockId.{BlockId}
 use Rattle.plc_base.specs.declared.refusals.Refusal.{Refusal}
 use Rattle.flat_code.specs.Programs.{DataBlock, Program}
+use Rattle.stl_ast.specs.Literals.{AreBytes}
 use Rattle.stl_ast.specs.declared.blocks.Block.{Block}
 use Rattle.stl_ast.specs.declared.blocks.Tree.{Tree}
 use Rattle.stl_ast.specs.declared.statements.Statement.{Statement}
@@ -17,6 +19,7 @@ use Rattle.block_layout.specs.Operands.{in_body}
 use Rattle.block_layout.specs.Rule23.{operand_23}
 use Rattle.block_layout.specs.Rule42.{operand_42}
 use Rattle.block_layout.specs.Types.{Types}
+use Rattle.block_layout.specs.declared.blocks.BlockLayout.{BlockLayout}
 use Rattle.stl_types.specs.Bodies.{in_bodies, in_contexts}
 use Rattle.stl_types.specs.Brackets.{closes_none, is_eighth, left_open, rule_29, rule_30, rule_31, with_brackets}
 use Rattle.stl_types.specs.Calls.{call_37, calls_unknown, dates_in, has_wrong_instance, is_bare_call, lacks_actual, rule_24_of_actuals, rule_34, rule_35, rule_36, rule_37, rule_38, rule_40, rule_46, supplied_twice, unnamed}
@@ -29,18 +32,24 @@ use Rattle.stl_types.specs.Unknown.{operand_20}
 use Rattle.stl_types.specs.Zones.{ends_none, is_ninth, rule_47, rule_48, rule_49, with_zones, zones_left_open}
 use Rattle.stl_list.specs.CodeBlocks.{in_lines, line_reached, listed_blocks}
 use Rattle.stl_list.specs.DataBlocks.{listed_data, listed_data_blocks}
-use Rattle.stl_list.specs.Joined.{chains_of}
 use Rattle.stl_list.specs.Listing.{listed_tree}
-use Rattle.stl_list.specs.Signatures.{Signature, signatures}
-use Rattle.sem_kept.specs.Accepted.{program_in}
+use Rattle.stl_list.specs.Signatures.{Signature, formals_of}
+use Rattle.sem_kept.specs.Accepted.{IsAccepted, program_in}
 use Rattle.sem_kept.proofs.accepted.Accepted.{AllFrom, context_at}
 use Rattle.sem_kept.proofs.accepted.OperandsCells.{all_there, measured_symbols}
 use Rattle.sem_kept.proofs.accepted.OperandsViews.{ids_same}
-use Rattle.listing_laws.specs.Again.{listed_again}
+use Rattle.listing_laws.specs.Again.{IsMadeOf, IsWholeAgain, again_at, context_at as source_at, listed_again}
+use Rattle.listing_laws.specs.CallsAgain.{IsRightStatement}
+use Rattle.listing_laws.specs.Declared.{signatures_in}
+use Rattle.listing_laws.specs.Instructions.{HasAgain, IsRightOperand}
 use Rattle.listing_laws.specs.RightBodies.{AreBodiesRight, AreListedBodiesRight}
-use Rattle.listing_laws.proofs.right.Bodies.{IsRightBody, by_calls, made_right, none_right}
+use Rattle.listing_laws.proofs.made.Found.{data_found}
+use Rattle.listing_laws.proofs.made.Origins.{blocks_count, lines_count, made_of_source, tree_blocks}
+use Rattle.listing_laws.proofs.remade.Calls.{calls_again}
+use Rattle.listing_laws.proofs.remade.Parameters.{parameters_again}
+use Rattle.listing_laws.proofs.remade.Right.{operands_right}
+use Rattle.listing_laws.proofs.right.Bodies.{IsBodyReady, IsRightBody, by_calls, made_right, none_right}
 use Rattle.listing_laws.proofs.right.Named.{AreTypesOf}
-use Rattle.listing_laws.proofs.right.Shared.{lines_length, listed_length}
 use Rattle.listing_laws.proofs.right.Words.{crossing, listed_is}
 
 -- ---- rules over the blocks of a tree
@@ -149,18 +158,35 @@ behind_front P (y ∷ front) rest zero x le e h = absurd (omega (arith, le))
 behind_front P (y ∷ front) rest (suc i) x le e h = behind_front P front rest i x (omega (arith, le)) e h
 
 data_bodiless : (p : Program) (i : ℕ) (x : Block) → length p.code_blocks ≤ i → slice_get (listed_tree p).blocks i ≡ Some x → x.body ≡ []
-unfolding listed_tree
 data_bodiless p i x le e =
-    let names : List Signature = signatures (chains_of p.code_blocks) p.code_blocks in
-    let one = listed_length names 1 (in_lines p.code_blocks) in
-    let two = lines_length p.code_blocks in
+    let names : List Signature = signatures_in p in
+    let one = blocks_count names 1 (in_lines p.code_blocks) in
+    let two = lines_count p.code_blocks in
     behind_front (λ (z : Block). z.body ≡ []) (listed_blocks names 1 (in_lines p.code_blocks)) (listed_data_blocks names (line_reached 1 (in_lines p.code_blocks)) p.data_blocks) i x
-    (omega (arith, one, two, le)) e (all_bodiless names (line_reached 1 (in_lines p.code_blocks)) p.data_blocks)
+    (omega (arith, one, two, le)) (ap (λ (bs : List Block). slice_get bs i) (sym (tree_blocks p)) ∙ e) (all_bodiless names (line_reached 1 (in_lines p.code_blocks)) p.data_blocks)
 
 -- ---- all of them
 
+right_operands : (symbols : List Symbol) (ss : List Statement) → AllByRecursion (IsRightStatement symbols) ss → AllByRecursion (λ (s : Statement). IsRightOperand symbols s.operand) ss
+right_operands symbols [] h = tt
+right_operands symbols (s ∷ ss) h = (h.0.operand, right_operands symbols ss h.1)
+
+-- what a body of an accepted source names and calls is there
+body_ready : (source file : List ℕ) (symbols : List Symbol) (t : Tree) → IsAccepted source file symbols t → AreBytes source → AreBytes file → (others : List Symbol) → IsWholeAgain symbols t others
+    → (again place : ℕ) (b : Block) (l : BlockLayout) (id : BlockId) → IsMadeOf symbols t again place b l id
+    → IsBodyReady (source_at symbols t place) (again_at symbols t others again) (signatures_in (program_in symbols t)) (formals_of (signatures_in (program_in symbols t)) id) b.body
+body_ready source file symbols t accepted bytes file_bytes others whole again place b l id made = record {
+  has = record {
+    data_blocks = data_found symbols t others place again whole;
+    parameter = parameters_again source file symbols t accepted bytes file_bytes others whole again place b l id made;
+  };
+  operands = right_operands symbols b.body
+      (all_there (λ (x : Block). AllByRecursion (IsRightStatement symbols) x.body) t.blocks place b (operands_right source file symbols t accepted bytes) made.source.block);
+  calls = calls_again source file symbols t accepted bytes file_bytes others whole again place b l id made;
+}
+
 pub listed_bodies_right : AreListedBodiesRight
-listed_bodies_right source file symbols t accepted bytes file_bytes others made ready =
+listed_bodies_right source file symbols t accepted bytes file_bytes others whole =
     tree_right others (listed_again symbols t)
     (from_each (λ k b. IsRightBody (types_of others (listed_again symbols t).blocks) (context_at others (listed_again symbols t) k) b.body) 0 (listed_again symbols t).blocks
     (λ i x e. subst (λ (n : ℕ). IsRightBody y (context_at others (listed_again symbols t) n) x.body) (from_zero i) (at i x e)))
@@ -176,10 +202,11 @@ listed_bodies_right source file symbols t accepted bytes file_bytes others made 
       where
         by : (code : Bool) → nat_lt i (length (program_in symbols t).code_blocks) ≡ code → IsRightBody y (context_at others (listed_again symbols t) i) x.body
         by true low =
-            let found = made source file symbols t accepted bytes file_bytes i (ltb-true i (length (program_in symbols t).code_blocks) low) in
+            let found = made_of_source source file symbols t accepted bytes file_bytes i (ltb-true i (length (program_in symbols t).code_blocks) low) in
             subst (λ (z : Block). IsRightBody y (context_at others (listed_again symbols t) i) z.body) (listed_is symbols t i found.0 found.1 found.2 found.3 found.4 x e)
             (made_right source file symbols t accepted bytes i found.0 found.1 found.2 found.3 found.4 y others
-            (types_are others (listed_again symbols t) i) (ready i found.0 found.1 found.2 found.3 found.4))
+            (types_are others (listed_again symbols t) i)
+            (body_ready source file symbols t accepted bytes file_bytes others whole i found.0 found.1 found.2 found.3 found.4))
         by false high =
             subst (λ (body : List Statement). IsRightBody y (context_at others (listed_again symbols t) i) body)
             (sym (data_bodiless (program_in symbols t) i x (ltb-false i (length (program_in symbols t).code_blocks) high) e))
