@@ -23,8 +23,9 @@ mod SymbolOrderLemmas
 mod WordLemmas
 mod called
 pub mod declared
-mod made
+mod filled
 mod naming
+mod made
 mod remade
 mod right
 mod ruled

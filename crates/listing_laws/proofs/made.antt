@@ -2,5 +2,7 @@
 pub mod CodeBlocks
 pub mod Compiled
 pub mod Found
+pub mod Listings
 pub mod Origins
+pub mod Refusals
 pub mod Sorting

@@ -1,4 +1,4 @@
-mod RunLemmas
+pub mod RunLemmas
 mod SourceLemmas
 mod StageLemmas
 mod Suspended

@@ -36,7 +36,8 @@ none_of_both None b none = (refl, none)
 none_of_both (Some r) None none = cc
 none_of_both (Some r) (Some q) none = absurd (grind arith)
 
-accepted : (language : Language) (source symbols : List ℕ) (list : List Symbol)
+-- a source that compiles is accepted
+pub accepted : (language : Language) (source symbols : List ℕ) (list : List Symbol)
     (tokens : List Token) (tree : Tree)
     → AreFiles source symbols
     → HasSymbolsIn language symbols (Ok list) → HasTokens source (Ok tokens)

@@ -72,7 +72,7 @@ time_bits n h = elim (cases_lt n 2147483648) as (λ _. bits_of (typed_constant s
   | inr ge ↦ rw (le-ltb n 2147483648 ge) (omega (arith, ge, h))
 ]
 
-literal_bits : (k : Simple) (n : ℕ) → is_listed k ≡ true → literal_fits (width_number (width_of k)) n ≡ true → n < 4294967296
+pub literal_bits : (k : Simple) (n : ℕ) → is_listed k ≡ true → literal_fits (width_number (width_of k)) n ≡ true → n < 4294967296
     → bits_of (typed_constant k n) ≡ n
 unfolding bits_of
 literal_bits simple.Bool n e h few = truth_bits n h
@@ -92,7 +92,7 @@ int_fits n = elim (cases_lt (n % 65536) 32768) as (λ _. fits (typed_constant si
   | inr ge ↦ rw (le-ltb (n % 65536) 32768 ge) (lt-ltb _ 32768 (omega (arith, ge)))
 ]
 
-literal_kind : (k : Simple) (n : ℕ) → is_listed k ≡ true → fits (typed_constant k n) k ≡ true
+pub literal_kind : (k : Simple) (n : ℕ) → is_listed k ≡ true → fits (typed_constant k n) k ≡ true
 unfolding fits
 literal_kind simple.Bool n e = refl
 literal_kind simple.Byte n e = refl

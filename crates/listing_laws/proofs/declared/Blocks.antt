@@ -195,7 +195,7 @@ pub record IsSourced (b : CodeBlock) : Type 0 where
   pub least : least_local b.id.kind ≤ b.local_len
   pub shape : HasShape b
 
-fb_kind : (k : BlockKind) → is_function_block k ≡ true → k ≡ kinds.Fb
+pub fb_kind : (k : BlockKind) → is_function_block k ≡ true → k ≡ kinds.Fb
 fb_kind kinds.Ob e = absurd cc
 fb_kind kinds.Fc e = absurd cc
 fb_kind kinds.Fb e = refl
@@ -222,6 +222,78 @@ local_of y b code =
 structure_len : (y : Types) (blocks : List Block) (b : Block) → b.kind ≡ kinds.Fb → b.shape ≡ None → b.instance_of ≡ None → length_of y blocks b ≡ structure_bits (components_of y b) / 8
 unfolding length_of
 structure_len y blocks b kind shape instance = rw kind (rw shape (rw instance refl))
+
+-- the instance of a compiled function block, by the components of its layout
+pub record IsLaidInstance (l : BlockLayout) (b : CodeBlock) : Type 0 where
+  pub instance : IsInstance b
+  pub are : l.components ≡ instance.cells
+
+pub laid_instance : (symbols : List Symbol) (t : Tree) (k : ℕ) (b : Block) (l : BlockLayout) (id : BlockId) → IsSound symbols t k b l → l.id ≡ Some id → is_code id.kind ≡ true
+    → is_function_block id.kind ≡ true → IsLaidInstance l (compiled (code_block (context_at symbols t k) b l id))
+unfolding block_layout params_of
+laid_instance symbols t k b l id h e code fb = record {
+  instance = record {
+    cells = cells;
+    by_sections = parts;
+    apart = sections_apart cells parts (sections_once y o (λ k. not (is_temp k)) [] b.parts [] covers new);
+    params = (λ i. return_last (result i) (flat_map (λ x. param_here (own_fb i) (are i) x) (are i))) ∙ made_sections true cells cells parts;
+    length = has_length ∙ length_is;
+    short = omega (arith, has_length, ap (λ (x : BlockLayout). x.length) h.layout, ltb-false 16384 (length_of y t.blocks b) h.head.by_51);
+  };
+  are = are;
+}
+  where
+    y : Types
+    y = types_of symbols t.blocks
+
+    o : Outside
+    o = of_sections b
+
+    kind : b.kind ≡ id.kind
+    kind = kind_there y.symbols b id (sym (id_there symbols t k b l h) ∙ e)
+
+    own_code : is_code b.kind ≡ true
+    own_code = ap is_code kind ∙ code
+
+    none : (b.shape ≡ None) × (b.instance_of ≡ None) × (b.components ≡ [])
+    none = no_components b.kind b own_code h.well_formed.shaped
+
+    cells : List Cell
+    cells = section_cells y o (λ k. not (is_temp k)) [] b.parts
+
+    new : AllBefore (IsNew o) [] (section_declarations b)
+    new = declarations_new b h.declarations.by_21 h.declarations.by_41
+
+    parts : HasSections cells
+    parts = has_sections b.kind y o b.parts refl h.well_formed.sections.0 h.well_formed.sections.1 new
+
+    layout : l.components ≡ components_of y b
+    layout = ap (λ (x : BlockLayout). x.components) h.layout
+
+    own : b.kind ≡ kinds.Fb
+    own = kind ∙ fb_kind id.kind fb
+
+    own_fb : is_function_block b.kind ≡ true
+    own_fb = ap is_function_block kind ∙ fb
+
+    result : b.result ≡ None
+    result = subst (λ (z : BlockKind). MayReturn z b.result) own h.well_formed.returns
+
+    are : l.components ≡ cells
+    are =
+        layout ∙ ap (λ ds. returned_cells b.result ++ cells ++ cells_of y of_structure part.Static [] ds) none.2 ∙ append-nil (returned_cells b.result ++ cells)
+        ∙ ap (λ r. returned_cells r ++ cells) result
+
+    covers : Covers (returned_names b.result) [] []
+    covers = λ n out. tt
+
+    length_is : l.length ≡ structure_bits cells / 8
+    length_is =
+        ap (λ (x : BlockLayout). x.length) h.layout ∙ structure_len y t.blocks b own none.0 none.1
+        ∙ ap (λ cs. structure_bits cs / 8) (sym layout ∙ are)
+
+    has_length : instance_len b l ≡ l.length
+    has_length = ap (λ (s : Bool). if s then l.length else 0) own_fb
 
 pub sourced : (symbols : List Symbol) (t : Tree) (k : ℕ) (b : Block) (l : BlockLayout) (id : BlockId) → IsSound symbols t k b l → l.id ≡ Some id → is_code id.kind ≡ true
     → IsSourced (compiled (code_block (context_at symbols t k) b l id))
@@ -276,40 +348,7 @@ sourced symbols t k b l id h e code = record {
     all = layout ∙ ap (λ ds. returned_cells b.result ++ cells ++ cells_of y of_structure part.Static [] ds) none.2 ∙ append-nil (returned_cells b.result ++ cells)
 
     shape : (f : Bool) → is_function_block id.kind ≡ f → HasShape c
-    shape true fb = OfInstance fb instance
-      where
-        own : b.kind ≡ kinds.Fb
-        own = kind ∙ fb_kind id.kind fb
-
-        own_fb : is_function_block b.kind ≡ true
-        own_fb = ap is_function_block kind ∙ fb
-
-        result : b.result ≡ None
-        result = subst (λ (z : BlockKind). MayReturn z b.result) own h.well_formed.returns
-
-        are : l.components ≡ cells
-        are = all ∙ ap (λ r. returned_cells r ++ cells) result
-
-        covers : Covers (returned_names b.result) [] []
-        covers = λ n out. tt
-
-        length_is : l.length ≡ structure_bits cells / 8
-        length_is =
-            ap (λ (x : BlockLayout). x.length) h.layout ∙ structure_len y t.blocks b own none.0 none.1
-            ∙ ap (λ cs. structure_bits cs / 8) (sym layout ∙ are)
-
-        has_length : instance_len b l ≡ l.length
-        has_length = ap (λ (s : Bool). if s then l.length else 0) own_fb
-
-        instance : IsInstance c
-        instance = record {
-          cells = cells;
-          by_sections = parts;
-          apart = sections_apart cells parts (sections_once y o (λ k. not (is_temp k)) [] b.parts [] covers new);
-          params = (λ i. return_last (result i) (flat_map (λ x. param_here (own_fb i) (are i) x) (are i))) ∙ made_sections true cells cells parts;
-          length = has_length ∙ length_is;
-          short = omega (arith, has_length, ap (λ (x : BlockLayout). x.length) h.layout, ltb-false 16384 (length_of y t.blocks b) h.head.by_51);
-        }
+    shape true fb = OfInstance fb (laid_instance symbols t k b l id h e code fb).instance
     shape false fb = Ordinary fb ordinary
       where
         own_fb : is_function_block b.kind ≡ false
@@ -362,7 +401,7 @@ all_later x y (z ∷ zs) h (first, more) =
     let next = ids_later x.id y.id z.id h first in
     (next, all_later x z zs next more)
 
-abbrev AreAfter : List CodeBlock → Type 0
+abbrev pub AreAfter : List CodeBlock → Type 0
 AreAfter [] = Unit {0}
 AreAfter (b ∷ bs) = AllByRecursion (Before b) bs × AreAfter bs
 
@@ -370,7 +409,7 @@ all_after : (x : StatedBlock) (xs : List StatedBlock) → RiseFrom is_code_befor
 all_after x [] rise = (tt, tt)
 all_after x (y ∷ ys) (first, more) = ((first, all_later x y ys first more), all_after y ys more)
 
-rise_after : (xs : List StatedBlock) → Rise is_code_before xs → AreAfter (map compiled xs)
+pub rise_after : (xs : List StatedBlock) → Rise is_code_before xs → AreAfter (map compiled xs)
 rise_after [] rise = tt
 rise_after (x ∷ xs) rise = all_after x xs rise
 
@@ -387,7 +426,7 @@ not_same a b h = by (is_same_kind a.kind b.kind) refl
         (ap (λ z. nat_lt (kind_number a.kind) (kind_number z) || nat_eq (kind_number a.kind) (kind_number z) && nat_lt a.number b.number) same ∙ h)
     by false e = refl
 
-same_self : (i : BlockId) → is_same_block i i ≡ true
+pub same_self : (i : BlockId) → is_same_block i i ≡ true
 same_self i = and_from (is_same_kind i.kind i.kind) (nat_eq i.number i.number) (by i.kind) (eq-eqb i.number i.number refl)
   where
     by : (k : BlockKind) → is_same_kind k k ≡ true
@@ -416,11 +455,11 @@ known_behind c s ss (b ∷ bs) (other, others) (one, more) = (
   known_behind c s ss bs others more,
 )
 
-all_not_same : (b : CodeBlock) (bs : List CodeBlock) → AllByRecursion (Before b) bs → AllByRecursion (λ x. is_same_block b.id x.id ≡ false) bs
+pub all_not_same : (b : CodeBlock) (bs : List CodeBlock) → AllByRecursion (Before b) bs → AllByRecursion (λ x. is_same_block b.id x.id ≡ false) bs
 all_not_same b [] h = tt
 all_not_same b (x ∷ xs) (one, more) = (not_same b.id x.id one, all_not_same b xs more)
 
-all_known : (c : Chains) (first : ℕ) (bs : List CodeBlock) → AreAfter bs → AllByRecursion (λ s. AreWide s.params s.formals) (signatures_from c first bs)
+pub all_known : (c : Chains) (first : ℕ) (bs : List CodeBlock) → AreAfter bs → AllByRecursion (λ s. AreWide s.params s.formals) (signatures_from c first bs)
     → AllByRecursion (IsKnown c (signatures_from c first bs)) bs
 all_known c first [] after wide = tt
 all_known c first (b ∷ bs) (later, after) (one, more) =
@@ -463,13 +502,13 @@ all_again c ss lens all [] clean h k = tt
 all_again c ss lens all (b ∷ bs) (clean, cleans) (one, more) (known, knowns) =
     (declared_again c ss (around (Some lens) all (record_of_block b)) b refl clean one known, all_again c ss lens all bs cleans more knowns)
 
-all_compiled : (P : CodeBlock → Type 0) (xs : List StatedBlock) → AllByRecursion (λ x. P (compiled x)) xs → AllByRecursion P (map compiled xs)
+pub all_compiled : (P : CodeBlock → Type 0) (xs : List StatedBlock) → AllByRecursion (λ x. P (compiled x)) xs → AllByRecursion P (map compiled xs)
 all_compiled P [] h = tt
 all_compiled P (x ∷ xs) (one, more) = (one, all_compiled P xs more)
 
 -- ---- chains
 
-all_codes : (bs : List CodeBlock) → AllByRecursion IsSourced bs → AllByRecursion (λ b. is_code b.id.kind ≡ true) bs
+pub all_codes : (bs : List CodeBlock) → AllByRecursion IsSourced bs → AllByRecursion (λ b. is_code b.id.kind ≡ true) bs
 all_codes [] h = tt
 all_codes (b ∷ bs) (one, more) = (one.code, all_codes bs more)
 
@@ -564,7 +603,7 @@ no_data_type kinds.Db e = absurd cc
 no_data_type kinds.Udt e = absurd cc
 no_data_type kinds.Sfc e = absurd cc
 
-own_kind : (k : BlockKind) → is_same_kind k k ≡ true
+pub own_kind : (k : BlockKind) → is_same_kind k k ≡ true
 own_kind kinds.Ob = refl
 own_kind kinds.Fc = refl
 own_kind kinds.Fb = refl

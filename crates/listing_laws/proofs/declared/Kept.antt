@@ -5,15 +5,18 @@ use Rattle.std.specs.List.{AllByRecursion}
 use Rattle.std.proofs.lemmas.Bool.{eqb-true}
 use Rattle.std.proofs.lemmas.Bool.Decides.{nat_tests}
 use Rattle.std.proofs.lemmas.Grind.{flat_map-append}
+use Rattle.plc_base.proofs.ListLemmas.{all_append}
 use Rattle.plc_base.specs.Kinds.{is_code, is_function, is_function_block}
 use Rattle.plc_base.specs.declared.blocks.BlockKind.{BlockKind}
 use Rattle.plc_base.specs.declared.blocks.BlockKind.TheVariants as kinds
+use Rattle.plc_base.specs.Folding.{folded}
 use Rattle.flat_code.specs.Programs.{CodeBlock}
 use Rattle.flat_code.specs.declared.programs.Param.{Param}
 use Rattle.stl_ast.specs.Blocks.{is_parameter}
 use Rattle.stl_ast.specs.declared.blocks.Block.{Block}
 use Rattle.stl_ast.specs.declared.blocks.PartKind.{PartKind}
 use Rattle.stl_ast.specs.declared.blocks.PartKind.TheVariants as part
+use Rattle.stl_ast.specs.declared.declarations.Simple.{Simple}
 use Rattle.block_layout.specs.Cells.{components_of, returned_cells, temps_of}
 use Rattle.block_layout.specs.Lengths.{farthest, is_structured, least_local, length_of, local_len}
 use Rattle.block_layout.specs.Listed.{AreAlike, AreApart}
@@ -22,6 +25,7 @@ use Rattle.block_layout.specs.Sizes.{capped, cell_bits, element_of, end_of, larg
 use Rattle.block_layout.specs.Types.{Types}
 use Rattle.block_layout.specs.declared.blocks.BlockLayout.{BlockLayout}
 use Rattle.block_layout.specs.declared.cells.Cell.{Cell}
+use Rattle.block_layout.specs.declared.cells.Element.TheVariants.{Plain}
 use Rattle.block_layout.proofs.ListedLemmas.{length_stays, offsets_stay}
 use Rattle.stl_codegen.specs.Generated.{param, param_here, params_of, section_number}
 use Rattle.stl_codegen.specs.Instruction.{return_last}
@@ -35,7 +39,7 @@ use Rattle.listing_laws.proofs.declared.Cells.{byte_cell, byte_cells, bytes_coun
 use Rattle.listing_laws.proofs.declared.Groups.{AreListed, AreOf, Ends, HasGroups}
 use Rattle.listing_laws.proofs.declared.Placed.{AreNamed, AreSame, alike_of, end_alike, end_append, end_near, look_in, named_append, named_apart, named_section, params_made, plain_length, same_append, same_section, static_is}
 use Rattle.listing_laws.proofs.declared.Sections.{AreGrouped, IsLast, Nothing as NoLast, Returned as LastReturned, last_result, listed_cells, result_is}
-use Rattle.listing_laws.proofs.declared.Sources.{HasSections, made}
+use Rattle.listing_laws.proofs.declared.Sources.{Begins, HasSections, made}
 
 -- ---- a block that is no function block
 
@@ -285,8 +289,61 @@ length_again cs vs ds bytes alike total is_even short = by (bytes == 0) refl
         length_stays cs vs ds (byte_cell part.Static static_name bytes) bytes alike some total is_even
         (record { bounds = record { low = pos 0; high = pos (bytes - 1) }; level = refl; sound = refl; array = refl; size = bytes_count bytes some; of = refl; opens = refl }) short
 
+-- cells with the names and the types of parameters
+abbrev pub AreCellsOf : List Cell → List Formal → Type 0
+AreCellsOf [] [] = Unit {0}
+AreCellsOf (c ∷ cs) (f ∷ fs) = (c.name ≡ folded f.name) × (c.of ≡ Plain f.kind) × AreCellsOf cs fs
+AreCellsOf _ _ = ⊥
+
+later_cells : (kind : PartKind) (fs : List Formal) → AreCellsOf (map (plain_cell false kind) fs) fs
+later_cells kind [] = tt
+later_cells kind (f ∷ fs) = (refl, refl, later_cells kind fs)
+
+section_cells_of : (kind : PartKind) (fs : List Formal) → AreCellsOf (plain_cells kind fs) fs
+section_cells_of kind [] = tt
+section_cells_of kind (f ∷ fs) = (refl, refl, later_cells kind fs)
+
+cells_append : (cs ds : List Cell) (fs gs : List Formal) → AreCellsOf cs fs → AreCellsOf ds gs → AreCellsOf (cs ++ ds) (fs ++ gs)
+cells_append [] ds [] gs h k = k
+cells_append [] ds (f ∷ fs) gs h k = absurd h
+cells_append (c ∷ cs) ds [] gs h k = absurd h
+cells_append (c ∷ cs) ds (f ∷ fs) gs (name, of, more) k = (name, of, cells_append cs ds fs gs more k)
+
+-- an elementary cell, or an array of such, with no initial values
+pub record HasNoValues (c : Cell) : Type 0 where
+  pub kind : Simple
+  pub of : c.of ≡ Plain kind
+  pub presets : c.presets ≡ []
+
+later_bare : (kind : PartKind) (fs : List Formal) → AllByRecursion HasNoValues (map (plain_cell false kind) fs)
+later_bare kind [] = tt
+later_bare kind (f ∷ fs) = (record { kind = f.kind; of = refl; presets = refl }, later_bare kind fs)
+
+section_bare : (kind : PartKind) (fs : List Formal) → AllByRecursion HasNoValues (plain_cells kind fs)
+section_bare kind [] = tt
+section_bare kind (f ∷ fs) = (record { kind = f.kind; of = refl; presets = refl }, later_bare kind fs)
+
+-- the parameters of a function block in the source, with what stands behind them, and in the listing
+pub record HasBoth (y : Types) (ss : List Signature) (reached : ℕ) (b : CodeBlock) (cells : List Cell) : Type 0 where
+  pub first : List Cell
+  pub rest : List Cell
+  pub second : List Cell
+  pub are : cells ≡ first ++ rest
+  pub begins : Begins rest
+  pub same : AreSame (look_in (first ++ rest)) first b.params second
+  pub apart : AreApart first
+  pub start : static_start b.params ≡ up (end_of 0 0 first) 16 / 8
+  pub ends : structure_bits (first ++ rest) ≡ 8 * (b.instance_len - static_start b.params) + up (end_of 0 0 first) 16
+  pub short : end_of 0 0 first < largest
+  pub listed : components_of y (listed_block ss reached b) ≡ second ++ byte_cells part.Static static_name (b.instance_len - static_start b.params)
+  pub named : AreNamed 0 second
+  pub again : AreApart second
+  pub formals : AreCellsOf second (formals_of ss b.id)
+  pub bare : AllByRecursion HasNoValues second
+
 -- of both kinds of what an instance has
-pub record IsKeptInstance (y : Types) (ss : List Signature) (reached : ℕ) (b : CodeBlock) : Type 0 where
+pub record IsKeptInstance (y : Types) (ss : List Signature) (reached : ℕ) (b : CodeBlock) (cells : List Cell) : Type 0 where
+  pub both : HasBoth y ss reached b cells
   pub params : (l : BlockLayout) → l.components ≡ components_of y (listed_block ss reached b) → params_of (listed_block ss reached b) l ≡ b.params
   pub length : (blocks : List Block) → length_of y blocks (listed_block ss reached b) ≡ b.instance_len
 
@@ -298,16 +355,34 @@ fb_kind kinds.Db e = absurd cc
 fb_kind kinds.Udt e = absurd cc
 fb_kind kinds.Sfc e = absurd cc
 
-own_length : (y : Types) (ss : List Signature) (reached : ℕ) (b : CodeBlock) (blocks : List Block) → b.id.kind ≡ kinds.Fb
+pub own_length : (y : Types) (ss : List Signature) (reached : ℕ) (b : CodeBlock) (blocks : List Block) → b.id.kind ≡ kinds.Fb
     → length_of y blocks (listed_block ss reached b) ≡ structure_bits (components_of y (listed_block ss reached b)) / 8
 unfolding length_of
 own_length y ss reached b blocks kind =
     ap (λ k. if is_structured k then structure_bits (components_of y (listed_block ss reached b)) / 8 else 0) kind
 
 pub instance_kept : (y : Types) (ss : List Signature) (reached : ℕ) (b : CodeBlock) (returns : Bool) (i : IsInstance b) (few : length b.params ≤ 60) → is_function_block b.id.kind ≡ true
-    → AreListed returns b.params (instance_groups b returns i few) (formals_of ss b.id) → IsKeptInstance y ss reached b
+    → AreListed returns b.params (instance_groups b returns i few) (formals_of ss b.id) → IsKeptInstance y ss reached b i.cells
 unfolding params_of instance_groups
 instance_kept y ss reached b returns i few fb a = record {
+  both = record {
+    first = cs;
+    rest = h.rest;
+    second = ds;
+    are = whole;
+    begins = h.begins;
+    same = subst (λ qs. AreSame (look_in (cs ++ h.rest)) cs qs ds) (sym i.params) same_whole;
+    apart = i.apart;
+    start = start;
+    ends = bits.total ∙ ap (λ n. 8 * n + up (end_of 0 0 cs) 16) bits.are;
+    short = short;
+    listed = components ∙ ap (λ n. ds ++ byte_cells part.Static static_name n) bits.are;
+    named = named;
+    again = named_apart 0 ds few_cells named;
+    formals = subst (AreCellsOf ds) (sym all_formals) own_cells;
+    bare = all_append HasNoValues (plain_cells part.Input g.ins) (plain_cells part.Output g.outs ++ plain_cells part.InOut g.both) (section_bare part.Input g.ins)
+        (all_append HasNoValues (plain_cells part.Output g.outs) (plain_cells part.InOut g.both) (section_bare part.Output g.outs) (section_bare part.InOut g.both));
+  };
   params = λ l e. params_kept l (e ∙ components);
   length = λ blocks. own_length y ss reached b blocks (fb_kind b.id.kind fb) ∙ ap (λ cells. structure_bits cells / 8) components ∙ ap (λ n. n / 8) long ∙ ap (λ n. n / 8) (sym (ap structure_bits whole)) ∙ sym i.length;
 }
@@ -375,6 +450,22 @@ instance_kept y ss reached b returns i few fb a = record {
         by : (fs : List Formal) → AreWide [] fs → last_result fs ≡ None
         by [] w = refl
         by (f ∷ fs) w = absurd w
+
+    no_formals : g.last ≡ []
+    no_formals = by g.last a.wide_last
+      where
+        by : (fs : List Formal) → AreWide [] fs → fs ≡ []
+        by [] w = refl
+        by (f ∷ fs) w = absurd w
+
+    all_formals : formals_of ss b.id ≡ g.ins ++ (g.outs ++ g.both)
+    all_formals = g.are ∙ ap (λ z. g.ins ++ (g.outs ++ (g.both ++ z))) no_formals ∙ ap (λ z. g.ins ++ (g.outs ++ z)) (append-nil g.both)
+
+    own_cells : AreCellsOf ds (g.ins ++ (g.outs ++ g.both))
+    own_cells =
+        cells_append (plain_cells part.Input g.ins) (plain_cells part.Output g.outs ++ plain_cells part.InOut g.both) g.ins (g.outs ++ g.both)
+        (section_cells_of part.Input g.ins)
+        (cells_append (plain_cells part.Output g.outs) (plain_cells part.InOut g.both) g.outs g.both (section_cells_of part.Output g.outs) (section_cells_of part.InOut g.both))
 
     static_cells : List Cell
     static_cells = byte_cells part.Static static_name bits.bytes

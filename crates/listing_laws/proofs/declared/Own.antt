@@ -159,15 +159,15 @@ reached (v ∷ vs) at byte bit low high near = by (nat_eq byte at) refl (λ furt
         inl (InBytes refl (omega (arith, same, place)) (omega (arith, same, place)))
     by false e more = let further : at + 1 ≤ byte = grind (arith, nat_tests) in inr (more further)
 
-no_bit : (bit : ℕ) → bit_at 0 bit ≡ 0
+pub no_bit : (bit : ℕ) → bit_at 0 bit ≡ 0
 no_bit bit = grind arith
 
-past_end : (bytes : List ℕ) (n : ℕ) → length bytes ≤ n → get_or bytes n 0 ≡ 0
+pub past_end : (bytes : List ℕ) (n : ℕ) → length bytes ≤ n → get_or bytes n 0 ≡ 0
 past_end [] n h = refl
 past_end (b ∷ bytes) zero h = absurd (omega (arith, h))
 past_end (b ∷ bytes) (suc n) h = past_end bytes n (omega (arith, h))
 
-below_all : (bytes : List ℕ) (n : ℕ) → AllByRecursion (λ b. b < 256) bytes → get_or bytes n 0 < 256
+pub below_all : (bytes : List ℕ) (n : ℕ) → AllByRecursion (λ b. b < 256) bytes → get_or bytes n 0 < 256
 below_all [] n h = omega arith
 below_all (b ∷ bytes) zero (one, more) = one
 below_all (b ∷ bytes) (suc n) (one, more) = below_all bytes n more
@@ -256,7 +256,7 @@ own_writes of_type n values some =
     ∙ ap (λ m. writes_at 8 (map (λ k. capped (0 + capped (k * 8))) (range_with_len 0 m) ++ []) (values_in values)) (bytes_count n some)
     ∙ ap (λ z. writes_at 8 z (values_in values)) (append-nil (map (λ k. capped (0 + capped (k * 8))) (range_with_len 0 n)))
 
-no_values : (offsets : List ℕ) → writes_at 8 offsets [] ≡ []
+pub no_values : (offsets : List ℕ) → writes_at 8 offsets [] ≡ []
 no_values [] = refl
 no_values (o ∷ offsets) = refl
 
@@ -319,7 +319,7 @@ structure_back of_type line y (b ∷ bs) small near =
     ap (λ cells. fold put (replicate (length bytes) 0) (writes_from of_type 0 (0 ∷ []) 0 cells)) declared
     ∙ ap (fold put (replicate (length bytes) 0)) (own_writes of_type (length bytes) (values_of bytes) some) ∙ h.back
 
-whole_writes : (l : List BlockLayout) (k : ℕ) → structure_writes l (Some k) ≡ writes_from (type_writes l 8) 0 (0 ∷ []) 0 (cells_at l k false)
+pub whole_writes : (l : List BlockLayout) (k : ℕ) → structure_writes l (Some k) ≡ writes_from (type_writes l 8) 0 (0 ∷ []) 0 (cells_at l k false)
 unfolding type_writes
 whole_writes l k = refl
 

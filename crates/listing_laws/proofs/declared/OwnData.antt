@@ -75,7 +75,7 @@ record IsEven (d : DataBlock) : Type 0 where
   even : length d.bytes % 2 ≡ 0
   short : length d.bytes ≤ 16384
 
-initial_long : (l : List BlockLayout) (blocks : List Block) (k : ℕ) → length (initial_bytes l blocks k) ≡ length_at (slice_get l k)
+pub initial_long : (l : List BlockLayout) (blocks : List Block) (k : ℕ) → length (initial_bytes l blocks k) ≡ length_at (slice_get l k)
 unfolding initial_bytes
 initial_long l blocks k =
     written_length (replicate (length_at (slice_get l k)) 0) (structure_writes l (structure_of l k) ++ setting_writes l k (settings_at (slice_get blocks k)))
@@ -129,9 +129,9 @@ listed_long y blocks ss line number bytes is_even short =
 -- ---- a block at its place
 
 -- the layout of a block
-record IsLaid (y : Types) (blocks : List Block) (b : Block) (l : BlockLayout) : Type 0 where
-  before : List Block
-  layout : l ≡ block_layout y blocks before b
+pub record IsLaid (y : Types) (blocks : List Block) (b : Block) (l : BlockLayout) : Type 0 where
+  pub before : List Block
+  pub layout : l ≡ block_layout y blocks before b
 
 laid_at : (y : Types) (blocks before bs : List Block) (k : ℕ) (b : Block) (l : BlockLayout) → slice_get bs k ≡ Some b → slice_get (layouts_from y blocks before bs) k ≡ Some l
     → IsLaid y blocks b l
@@ -142,7 +142,7 @@ laid_at y blocks before (x ∷ xs) zero b l there e =
     record { before = before; layout = sym laid ∙ ap (block_layout y blocks before) one }
 laid_at y blocks before (x ∷ xs) (suc k) b l there e = laid_at y blocks (x ∷ before) xs k b l there e
 
-laid_in : (symbols : List Symbol) (t : Tree) (k : ℕ) (b : Block) (l : BlockLayout) → slice_get t.blocks k ≡ Some b → slice_get (layouts_of t symbols) k ≡ Some l
+pub laid_in : (symbols : List Symbol) (t : Tree) (k : ℕ) (b : Block) (l : BlockLayout) → slice_get t.blocks k ≡ Some b → slice_get (layouts_of t symbols) k ≡ Some l
     → IsLaid (types_of symbols t.blocks) t.blocks b l
 unfolding layouts_of layouts_by
 laid_in symbols t k b l there e = laid_at (types_of symbols t.blocks) t.blocks [] t.blocks k b l there e
@@ -156,11 +156,11 @@ laid_id : (y : Types) (blocks before : List Block) (ss : List Signature) (line n
 unfolding block_layout
 laid_id y blocks before ss line number bytes = refl
 
-laid_cells : (y : Types) (blocks before : List Block) (b : Block) → (block_layout y blocks before b).components ≡ components_of y b
+pub laid_cells : (y : Types) (blocks before : List Block) (b : Block) → (block_layout y blocks before b).components ≡ components_of y b
 unfolding block_layout
 laid_cells y blocks before b = refl
 
-laid_length : (y : Types) (blocks before : List Block) (b : Block) → (block_layout y blocks before b).length ≡ length_of y blocks b
+pub laid_length : (y : Types) (blocks before : List Block) (b : Block) → (block_layout y blocks before b).length ≡ length_of y blocks b
 unfolding block_layout
 laid_length y blocks before b = refl
 
@@ -169,7 +169,7 @@ own_structure ls k l there whole own =
     ap (λ o. option_and_then (λ (b : BlockLayout). shape_block ls k b.shape) (whole_block o)) there
     ∙ ap (λ (t : Bool). option_and_then (λ (b : BlockLayout). shape_block ls k b.shape) (if t then None else Some l)) whole ∙ ap (shape_block ls k) own
 
-not_long : (n : ℕ) → n ≤ 16384 → nat_lt 16384 n ≡ false
+pub not_long : (n : ℕ) → n ≤ 16384 → nat_lt 16384 n ≡ false
 not_long n h = grind (arith, nat_tests)
 
 own_again : (ss : List Signature) (d : DataBlock) → IsEven d → AllByRecursion (λ b. b < 256) d.bytes → d.instance_of ≡ None → IsOwnDataAgain ss d

@@ -31,7 +31,7 @@ further_among : (x : DataBlock) (ds es : List DataBlock) → AllByRecursion (λ 
 further_among x ds [] h = tt
 further_among x ds (e ∷ es) (one, more) = (record { place = suc one.place; there = one.there }, further_among x ds es more)
 
-all_among : (ds : List DataBlock) → AllByRecursion (λ d. IsAmong d ds) ds
+pub all_among : (ds : List DataBlock) → AllByRecursion (λ d. IsAmong d ds) ds
 all_among [] = tt
 all_among (d ∷ ds) = (record { place = 0; there = refl }, further_among d ds ds (all_among ds))
 
@@ -63,9 +63,9 @@ among symbols t d k b l block layout is =
 -- ---- the places of listed blocks
 
 -- the layout at the place of a block
-record HasLayout (ls : List BlockLayout) (k : ℕ) : Type 0 where
-  layout : BlockLayout
-  there : slice_get ls k ≡ Some layout
+pub record HasLayout (ls : List BlockLayout) (k : ℕ) : Type 0 where
+  pub layout : BlockLayout
+  pub there : slice_get ls k ≡ Some layout
 
 laid_there : (y : Types) (blocks before bs : List Block) (k : ℕ) (b : Block) → slice_get bs k ≡ Some b → HasLayout (layouts_from y blocks before bs) k
 laid_there y blocks before [] k b e = absurd cc
@@ -73,7 +73,7 @@ laid_there y blocks before (x ∷ xs) zero b e = record { layout = block_layout 
 laid_there y blocks before (x ∷ xs) (suc k) b e =
     let more = laid_there y blocks (x ∷ before) xs k b e in record { layout = more.layout; there = more.there }
 
-layout_there : (symbols : List Symbol) (t : Tree) (k : ℕ) (b : Block) → slice_get t.blocks k ≡ Some b → HasLayout (layouts_of t symbols) k
+pub layout_there : (symbols : List Symbol) (t : Tree) (k : ℕ) (b : Block) → slice_get t.blocks k ≡ Some b → HasLayout (layouts_of t symbols) k
 unfolding layouts_of layouts_by
 layout_there symbols t k b e = laid_there (types_of symbols t.blocks) t.blocks [] t.blocks k b e
 

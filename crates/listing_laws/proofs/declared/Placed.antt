@@ -45,7 +45,7 @@ AreSame look _ _ _ = ⊥
 abbrev pub look_in : List Cell → List ℕ → ℕ
 look_in all name = offset_named (component 0 0 0 name all)
 
-plain_width : (k : Simple) → plain_bits k ≡ bit_count (width_of k)
+pub plain_width : (k : Simple) → plain_bits k ≡ bit_count (width_of k)
 plain_width simple.Bool = refl
 plain_width simple.Byte = refl
 plain_width simple.Char = refl
@@ -191,21 +191,21 @@ plain_length kind (f ∷ fs) = ap suc (later fs)
 -- ---- where they end
 
 -- what the layout takes from an elementary cell
-align : Bool → ℕ → ℕ
+pub align : Bool → ℕ → ℕ
 align opens bits = if opens then 16 else min bits 16
 
-next : (at : ℕ) → Bool → ℕ → ℕ
+pub next : (at : ℕ) → Bool → ℕ → ℕ
 next at opens bits = capped (up at (align opens bits) + bits)
 
-alignment_is : (c : Cell) (kind : Simple) → IsElementary c kind → alignment c ≡ align c.opens (plain_bits kind)
+pub alignment_is : (c : Cell) (kind : Simple) → IsElementary c kind → alignment c ≡ align c.opens (plain_bits kind)
 unfolding align
 alignment_is c kind h = rw (h.bounds, h.of) refl
 
-bits_is : (c : Cell) (cs : List Cell) (kind : Simple) → IsElementary c kind → cell_bits c cs ≡ plain_bits kind
+pub bits_is : (c : Cell) (cs : List Cell) (kind : Simple) → IsElementary c kind → cell_bits c cs ≡ plain_bits kind
 unfolding element_of
 bits_is c cs kind h = rw (h.bounds, h.of) refl
 
-stepped_is : (at : ℕ) (c : Cell) (cs : List Cell) (kind : Simple) → IsElementary c kind → stepped 0 at c (cell_bits c cs) ≡ next at c.opens (plain_bits kind)
+pub stepped_is : (at : ℕ) (c : Cell) (cs : List Cell) (kind : Simple) → IsElementary c kind → stepped 0 at c (cell_bits c cs) ≡ next at c.opens (plain_bits kind)
 unfolding next
 stepped_is at c cs kind h = rw (bits_is c cs kind h, h.level, h.sound, alignment_is c kind h) refl
 
@@ -239,10 +239,10 @@ end_near at (c ∷ cs) near =
     subst (λ n. n ≤ largest) (sym (end_step at c cs)) (end_near (stepped 0 at c (cell_bits c cs)) cs step.1)
 
 -- the offsets of some cells, as those behind a place find them
-abbrev Finds : (look : List ℕ → ℕ) → (at place : ℕ) → (all cs : List Cell) → Type 0
+abbrev pub Finds : (look : List ℕ → ℕ) → (at place : ℕ) → (all cs : List Cell) → Type 0
 Finds look at place all cs = AllByRecursion (λ c. look c.name ≡ offset_named (component 0 at place c.name all)) cs
 
-finds_later : (look : List ℕ → ℕ) (at place : ℕ) (c : Cell) (kind : Simple) (rest cs : List Cell) → IsElementary c kind → AllByRecursion (λ d. bytes_eq d.name c.name ≡ false) cs
+pub finds_later : (look : List ℕ → ℕ) (at place : ℕ) (c : Cell) (kind : Simple) (rest cs : List Cell) → IsElementary c kind → AllByRecursion (λ d. bytes_eq d.name c.name ≡ false) cs
     → Finds look at place (c ∷ rest) cs → Finds look (next at c.opens (plain_bits kind)) (place + 1) rest cs
 finds_later look at place c kind rest [] is apart h = tt
 finds_later look at place c kind rest (d ∷ ds) is (other, others) (one, more) =
@@ -281,7 +281,7 @@ start_is look at place c (c' ∷ cs) vs p (q ∷ ps) d (x ∷ ds) apart (one, mo
     (finds_later look at place c one.alike.kind (c' ∷ cs ++ vs) (c' ∷ cs) is apart.0 found.1) (subst (λ n. n < largest) end short)
     ∙ ap (λ n. up n 16 / 8) (sym end)
 
-all_found : (all cs : List Cell) → Finds (look_in all) 0 0 all cs
+pub all_found : (all cs : List Cell) → Finds (look_in all) 0 0 all cs
 all_found all [] = tt
 all_found all (c ∷ cs) = (refl, all_found all cs)
 

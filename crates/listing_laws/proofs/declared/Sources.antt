@@ -12,6 +12,7 @@ use Rattle.plc_base.specs.declared.places.Width.{Width}
 use Rattle.plc_base.specs.declared.places.Width.TheVariants as width
 use Rattle.flat_code.specs.declared.programs.Param.{Param}
 use Rattle.stl_ast.specs.Blocks.{is_parameter, part_rank}
+use Rattle.stl_ast.specs.Outline.{IsOutline}
 use Rattle.stl_ast.specs.WellFormed.{AreInOrder, IsSection}
 use Rattle.stl_ast.specs.declared.blocks.Part.{Part}
 use Rattle.stl_ast.specs.declared.blocks.PartKind.{PartKind}
@@ -191,6 +192,40 @@ others_behind y o least before (p ∷ ps) h ordered =
         (others_opened (cells_of y o p.kind before p.items) (others_of y o p.kind before p.items (high_rank p.kind (omega (arith, h, ordered.0))))) k
     by false k = k
 
+-- ---- where the other sections begin
+
+-- the first of some cells is no component of another, and begins at an even byte if it breaks no rule
+abbrev pub Begins : List Cell → Type 0
+Begins [] = Unit {0}
+Begins (c ∷ cs) = (c.level ≡ 0) × (c.sound ≡ true → c.opens ≡ true)
+
+abbrev BeginsOuter : List Cell → Type 0
+BeginsOuter [] = Unit {0}
+BeginsOuter (c ∷ cs) = c.level ≡ 0
+
+begins_opened : (cs more : List Cell) → BeginsOuter cs → Begins more → Begins (opened cs ++ more)
+begins_opened [] more h k = k
+begins_opened (c ∷ cs) more h k = by c.sound refl
+  where
+    by : (t : Bool) → c.sound ≡ t → Begins ((if t then record c { opens = true } ∷ cs else c ∷ opened cs) ++ more)
+    by true e = (h, λ f. refl)
+    by false e = (h, λ f. absurd cc)
+
+begins_outer : (y : Types) (o : Outside) (kind : PartKind) (before ds : List Declaration) → IsOutline 0 ds → BeginsOuter (cells_of y o kind before ds)
+unfolding cell_of
+begins_outer y o kind before [] h = tt
+begins_outer y o kind before (d ∷ ds) h = let least = h.0 in omega (arith, least)
+
+begins_sections : (k : BlockKind) (y : Types) (o : Outside) (wanted : PartKind → Bool) (before : List Declaration) (parts : List Part) → AllByRecursion (IsSection k) parts
+    → Begins (section_cells y o wanted before parts)
+begins_sections k y o wanted before [] h = tt
+begins_sections k y o wanted before (p ∷ ps) (one, more) = by (wanted p.kind) (begins_sections k y o wanted (onto before p.items) ps more)
+  where
+    by : (t : Bool) → Begins (section_cells y o wanted (onto before p.items) ps)
+        → Begins ((if t then opened (cells_of y o p.kind before p.items) else []) ++ section_cells y o wanted (onto before p.items) ps)
+    by true rest = begins_opened (cells_of y o p.kind before p.items) _ (begins_outer y o p.kind before p.items one.1) rest
+    by false rest = rest
+
 -- the cells of a block, by their sections
 pub record HasSections (cells : List Cell) : Type 0 where
   pub ins : List Cell
@@ -202,6 +237,7 @@ pub record HasSections (cells : List Cell) : Type 0 where
   pub output : AreParameters part.Output true outs
   pub in_out : AreParameters part.InOut true both
   pub others : AllByRecursion IsOther rest
+  pub begins : Begins rest
 
 pub has_sections : (k : BlockKind) (y : Types) (o : Outside) (parts : List Part) → o.depth ≡ 0 → AreInOrder 0 parts → AllByRecursion (IsSection k) parts
     → AllBefore (IsNew o) [] (flat_map (λ p. p.items) parts) → HasSections (section_cells y o (λ k. not (is_temp k)) [] parts)
@@ -219,6 +255,7 @@ has_sections k y o parts shallow ordered sections new =
       output = b.parameters;
       in_out = c.parameters;
       others = others_behind y o (part_rank part.InOut + 1) c.behind c.others (omega arith) c.ordered;
+      begins = begins_sections k y o wants c.behind c.others c.sections;
     }
   where
     next : (m n : ℕ) (ps : List Part) → m + 1 ≡ n → AreInOrder (m + 1) ps → AreInOrder n ps

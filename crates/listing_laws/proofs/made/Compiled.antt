@@ -1,5 +1,5 @@
 -- The listing of an accepted source's program compiles to this program, by what is known of its parts.
-use Rattle.std.proofs.Common.{◌≡◌, ℕ, List, [], ◌++◌, map, sym, ap, ◌∙◌}
+use Rattle.std.proofs.Common.{◌≡◌, ℕ, List, ◌++◌, map, sym, ap, ◌∙◌}
 use Rattle.plc_base.specs.Least.{least}
 use Rattle.plc_base.specs.declared.refusals.Refusal.{Refusal}
 use Rattle.stl_ast.specs.Literals.{AreBytes}
@@ -9,17 +9,20 @@ use Rattle.stl_lexer.specs.declared.kinds.Token.{Token}
 use Rattle.stl_parser.specs.Source.{IsTree}
 use Rattle.stl_symbols.specs.Symbol.{Symbol}
 use Rattle.block_layout.specs.Layouts.{layouts_of}
-use Rattle.block_layout.specs.Table.{layout_refusals}
+use Rattle.block_layout.specs.Measures.{types_of}
+use Rattle.stl_types.specs.Bodies.{first_context}
 use Rattle.stl_types.specs.Table.{statement_refusals}
 use Rattle.stl_codegen.specs.Generated.{data_blocks_of, names_of}
 use Rattle.stl_list.specs.Listing.{listed_source, listed_tree}
 use Rattle.sem_kept.specs.Accepted.{IsAccepted, program_in}
+use Rattle.sem_kept.proofs.accepted.Accepted.{LaysOutRight, StatesRight}
 use Rattle.listing_laws.specs.Again.{AreWholeAgain, IsWholeAgain, listed_again}
 use Rattle.listing_laws.specs.AgainBodies.{AreBodiesKeptAgain}
 use Rattle.listing_laws.specs.Compiled.{AreListingsCompiled}
 use Rattle.listing_laws.specs.Names.{symbol_of}
 use Rattle.listing_laws.proofs.SymbolOrderLemmas.{names_kept, names_read}
 use Rattle.listing_laws.proofs.made.CodeBlocks.{code_blocks_kept}
+use Rattle.listing_laws.proofs.made.Refusals.{no_layout_refusals, no_statement_refusals}
 
 -- ---- what is asked of each listing of an accepted source's program
 
@@ -42,11 +45,13 @@ AreDataBlocksKept =
 
 -- it breaks no rule of layouts, and none of statements
 abbrev pub AreLayoutsRight : Type 0
-AreLayoutsRight = OfListings (λ symbols t others. layout_refusals (listed_again symbols t) others ≡ [])
+AreLayoutsRight =
+    OfListings (λ symbols t others. LaysOutRight (types_of others (listed_again symbols t).blocks) (layouts_of (listed_again symbols t) others) (listed_again symbols t).blocks)
 
 abbrev pub AreStatementsRight : Type 0
 AreStatementsRight =
-    OfListings (λ symbols t others. statement_refusals (listed_again symbols t) others (layouts_of (listed_again symbols t) others) ≡ [])
+    OfListings
+    (λ symbols t others. StatesRight (first_context others (layouts_of (listed_again symbols t) others) (listed_again symbols t).blocks) (listed_again symbols t).blocks)
 
 -- ---- the law
 
@@ -65,8 +70,9 @@ listings_compiled read whole bodies datas layouts statements source file symbols
       parsed = text.2;
       right = ap least
           (ap (λ (z : List Refusal). z ++ statement_refusals (listed_again symbols t) others (layouts_of (listed_again symbols t) others))
-          (layouts source file symbols t accepted bytes file_bytes others right)
-          ∙ statements source file symbols t accepted bytes file_bytes others right);
+          (no_layout_refusals others (listed_again symbols t) (layouts source file symbols t accepted bytes file_bytes others right))
+          ∙ no_statement_refusals others (listed_again symbols t) (layouts_of (listed_again symbols t) others)
+          (statements source file symbols t accepted bytes file_bytes others right));
       program = λ i. record { code_blocks = code i; data_blocks = stored i; names = named i };
     }
   where

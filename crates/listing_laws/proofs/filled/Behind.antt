@@ -1,0 +1,352 @@
+-- What a structure writes, and where its paths lead, from a place on.
+use Rattle.std.proofs.Common.{◌≡◌, ℕ, zero, suc, ◌+◌, ◌*◌, ◌≤◌, Bool, true, false, ◌&&◌, List, [], ◌∷◌, ◌++◌, length, map, Option, Some, None, subst, arith}
+use Rattle.std.specs.Prelude.{ℤ, drop, if◌then◌else◌, nat_eq, nat_lt, slice_get}
+use Rattle.std.specs.List.{AllByRecursion, flat_map, range_with_len}
+use Rattle.std.specs.Str.{bytes_eq}
+use Rattle.plc_base.proofs.ListLemmas.{all_append}
+use Rattle.stl_ast.specs.declared.blocks.PathStep.{PathStep}
+use Rattle.stl_ast.specs.declared.blocks.PathStep.TheVariants as step
+use Rattle.stl_ast.specs.declared.declarations.Bounds.{Bounds}
+use Rattle.stl_ast.specs.declared.declarations.Simple.{Simple}
+use Rattle.stl_ast.specs.declared.declarations.Simple.TheVariants as simple
+use Rattle.stl_ast.specs.declared.literals.Literal.{Literal}
+use Rattle.block_layout.specs.Declarations.{count}
+use Rattle.block_layout.specs.Fits.{bits_of}
+use Rattle.block_layout.specs.InitialBytes.{Write, begun, cell_writes, component_writes, element_starts, filled_starts, in_steps, preset_values, setting_write, type_writes, write_of, writes_at, writes_from}
+use Rattle.block_layout.specs.Members.{component}
+use Rattle.block_layout.specs.Paths.{cells_at, elementary_at, entered, found_at, goes_on, indexed, indexed_behind, is_beyond, named, named_behind, named_in, outermost, step_of, walked, within}
+use Rattle.block_layout.specs.Sizes.{alignment, array_bits, capped, cell_bits, element_alignment, element_of, largest, plain_bits, stepped, up}
+use Rattle.block_layout.specs.declared.blocks.BlockLayout.{BlockLayout}
+use Rattle.block_layout.specs.declared.cells.Cell.{Cell}
+use Rattle.block_layout.specs.declared.cells.Element.{Element}
+use Rattle.block_layout.specs.declared.cells.Element.TheVariants.{DateAndTime, Plain, Structure, Udt, Unknown}
+use Rattle.block_layout.specs.declared.members.Member.{Member}
+use Rattle.block_layout.specs.declared.walks.ComponentAt.{ComponentAt}
+use Rattle.block_layout.specs.declared.walks.PathEnd.{PathEnd}
+use Rattle.block_layout.specs.declared.walks.PathEnd.TheVariants as walk
+use Rattle.sem_kept.proofs.accepted.Accepted.{all_mapped}
+use Rattle.sem_kept.proofs.accepted.OperandsWalks.{Grows, step_grows}
+
+-- ---- places that meet an alignment
+
+by_one : (n : ℕ) → n ≤ up n 1
+unfolding up
+by_one n = omega arith
+
+by_byte : (n : ℕ) → n ≤ up n 8
+unfolding up
+by_byte n = omega arith
+
+by_word : (n : ℕ) → n ≤ up n 16
+unfolding up
+by_word n = omega arith
+
+kind_behind : (at : ℕ) (kind : Simple) → at ≤ up at (element_alignment (Plain kind))
+kind_behind at simple.Bool = by_one at
+kind_behind at simple.Byte = by_byte at
+kind_behind at simple.Char = by_byte at
+kind_behind at simple.Word = by_word at
+kind_behind at simple.Int = by_word at
+kind_behind at simple.S5time = by_word at
+kind_behind at simple.Dword = by_word at
+kind_behind at simple.Dint = by_word at
+kind_behind at simple.Time = by_word at
+
+element_behind : (at : ℕ) (of : Element) → at ≤ up at (element_alignment of)
+element_behind at (Plain kind) = kind_behind at kind
+element_behind at Structure = by_word at
+element_behind at DateAndTime = by_word at
+element_behind at (Udt block bits) = by_word at
+element_behind at Unknown = by_word at
+
+begins_behind : (at : ℕ) (c : Cell) → at ≤ up at (alignment c)
+begins_behind at c = by c.opens (nat_eq (length c.bounds) 0)
+  where
+    by : (opens one : Bool) → at ≤ up at (if opens then 16 else if one then element_alignment c.of else 16)
+    by true one = by_word at
+    by false true = element_behind at c.of
+    by false false = by_word at
+
+-- ---- lists
+
+all_flat : {A B : Type 0} (P : A → Type 0) (Q : B → Type 0) (f : A → List B) → ((x : A) → P x → AllByRecursion Q (f x)) → (xs : List A) → AllByRecursion P xs
+    → AllByRecursion Q (flat_map f xs)
+all_flat P Q f each [] h = tt
+all_flat P Q f each (x ∷ xs) h = all_append Q (f x) (flat_map f xs) (each x h.0) (all_flat P Q f each xs h.1)
+
+all_images : {A B : Type 0} (P : A → Type 0) (Q : B → Type 0) (f : A → B) → ((x : A) → P x → Q (f x)) → (xs : List A) → AllByRecursion P xs → AllByRecursion Q (map f xs)
+all_images P Q f each [] h = tt
+all_images P Q f each (x ∷ xs) h = (each x h.0, all_images P Q f each xs h.1)
+
+all_counted : {A : Type 0} (P : A → Type 0) (f : ℕ → A) → ((k : ℕ) → P (f k)) → (from n : ℕ) → AllByRecursion P (map f (range_with_len from n))
+all_counted P f each from zero = tt
+all_counted P f each from (suc n) = (each from, all_counted P f each (from + 1) n)
+
+-- ---- from a place on
+
+-- writes, places and where a path leads, that lie there
+abbrev pub Behind : (low : ℕ) → List Write → Type 0
+Behind low ws = AllByRecursion (λ w. low ≤ w.offset) ws
+
+abbrev pub StartBehind : (low : ℕ) → List ℕ → Type 0
+StartBehind low starts = AllByRecursion (λ s. low ≤ s) starts
+
+abbrev pub LeadsBehind : (low : ℕ) → PathEnd → Type 0
+LeadsBehind low (walk.Reaches spot) = low ≤ spot.offset
+LeadsBehind low _ = Unit {0}
+
+-- cells of which the first begins there
+abbrev pub FirstBehind : (low at : ℕ) → List Cell → Type 0
+FirstBehind low at [] = Unit {0}
+FirstBehind low at (c ∷ cs) = (low ≤ up at (alignment c)) × (c.level ≡ 0) × (c.sound ≡ true)
+
+module _ (low : ℕ) (near : low ≤ largest) where
+  -- ---- what is written from a place on
+
+  capped_behind : (n : ℕ) → low ≤ n → low ≤ capped n
+  capped_behind n h = omega (arith, h, near)
+
+  steps_behind : (size count start : ℕ) → low ≤ start → StartBehind low (in_steps size count start)
+  steps_behind size count start h = all_counted (λ s. low ≤ s) (λ k. capped (start + capped (k * size))) (λ k. capped_behind (start + capped (k * size)) (more k)) 0 count
+    where
+      further : (m n : ℕ) → low ≤ m → low ≤ m + n
+      further m n k = omega (arith, k)
+
+      more : (k : ℕ) → low ≤ start + capped (k * size)
+      more k = further start (capped (k * size)) h
+
+  elements_behind : (bounds : List Bounds) (element : ℕ) (starts : List ℕ) → StartBehind low starts → StartBehind low (element_starts bounds element starts)
+  elements_behind [] element starts h = h
+  elements_behind (b ∷ bs) element starts h =
+      elements_behind bs element (flat_map (in_steps (array_bits bs element) (count b)) starts)
+      (all_flat (λ s. low ≤ s) (λ s. low ≤ s) (in_steps (array_bits bs element) (count b)) (λ s k. steps_behind (array_bits bs element) (count b) s k) starts h)
+
+  filled_behind : (bounds : List Bounds) (element : ℕ) (starts : List ℕ) → StartBehind low starts → StartBehind low (filled_starts bounds element starts)
+  filled_behind bounds element starts h = by (nat_eq element 0)
+    where
+      by : (t : Bool) → StartBehind low (if t then [] else element_starts bounds element starts)
+      by true = tt
+      by false = elements_behind bounds element starts h
+
+  zipped_behind : (width : ℕ) (offsets values : List ℕ) → StartBehind low offsets → Behind low (writes_at width offsets values)
+  zipped_behind width [] values h = tt
+  zipped_behind width (o ∷ os) [] h = tt
+  zipped_behind width (o ∷ os) (v ∷ vs) h = (h.0, zipped_behind width os vs h.1)
+
+  parts_behind : (inside : List ℕ → List Write) (of_type : ℕ → List ℕ → List Write) (c : Cell) (element : ℕ) → ((starts : List ℕ) → StartBehind low starts → Behind low (inside starts))
+      → ((u : ℕ) (starts : List ℕ) → StartBehind low starts → Behind low (of_type u starts)) → (starts : List ℕ) → StartBehind low starts → (of : Element)
+      → Behind low (component_writes inside of_type c element starts of)
+  parts_behind inside of_type c element inner types starts h (Plain kind) =
+      all_flat (λ s. low ≤ s) (λ w. low ≤ w.offset) (λ s. writes_at (plain_bits kind) (element_starts c.bounds element (s ∷ [])) (preset_values c.presets))
+      (λ s k. zipped_behind (plain_bits kind) (element_starts c.bounds element (s ∷ [])) (preset_values c.presets) (elements_behind c.bounds element (s ∷ []) (k, tt))) starts h
+  parts_behind inside of_type c element inner types starts h Structure = inner (filled_starts c.bounds element starts) (filled_behind c.bounds element starts h)
+  parts_behind inside of_type c element inner types starts h (Udt u bits) = types u (filled_starts c.bounds element starts) (filled_behind c.bounds element starts h)
+  parts_behind inside of_type c element inner types starts h DateAndTime = tt
+  parts_behind inside of_type c element inner types starts h Unknown = tt
+
+  begun_behind : (at : ℕ) (c : Cell) (starts : List ℕ) → AllByRecursion (λ s. low ≤ s + at) starts → StartBehind low (begun at c starts)
+  begun_behind at c starts h = all_images (λ s. low ≤ s + at) (λ s. low ≤ s) (λ s. capped (s + up at (alignment c))) (λ s k. capped_behind (s + up at (alignment c)) (further s (up at (alignment c)) k (begins_behind at c))) starts h
+    where
+      further : (s n : ℕ) → low ≤ s + at → at ≤ n → low ≤ s + n
+      further s n k g = omega (arith, k, g)
+
+  from_zero : (starts : List ℕ) → StartBehind low starts → AllByRecursion (λ s. low ≤ s + 0) starts
+  from_zero starts h = all_mapped (λ s. low ≤ s) (λ s. low ≤ s + 0) (λ s k. omega (arith, k)) starts h
+
+  cells_behind : (of_type : ℕ → List ℕ → List Write) → ((u : ℕ) (starts : List ℕ) → StartBehind low starts → Behind low (of_type u starts)) → (level at : ℕ) (starts : List ℕ) (cells : List Cell)
+      → at ≤ largest → AllByRecursion (λ s. low ≤ s + at) starts → Behind low (writes_from of_type level starts at cells)
+  cells_behind of_type types level at starts [] few h = tt
+  cells_behind of_type types level at starts (c ∷ cs) few h =
+      by (nat_lt c.level level)
+      (λ inner k. cells_behind of_type types (c.level + 1) 0 inner cs (omega arith) (from_zero inner k))
+      (cells_behind of_type types level (stepped level at c (cell_bits c cs)) starts cs grows.near
+      (all_mapped (λ s. low ≤ s + at) (λ s. low ≤ s + stepped level at c (cell_bits c cs)) (λ s k. further s (stepped level at c (cell_bits c cs)) k grows.above) starts h))
+    where
+      grows : Grows at (stepped level at c (cell_bits c cs))
+      grows = step_grows level at c (cell_bits c cs) few
+
+      further : (s n : ℕ) → low ≤ s + at → at ≤ n → low ≤ s + n
+      further s n k g = omega (arith, k, g)
+
+      inside : List ℕ → List Write
+      inside = λ inner. writes_from of_type (c.level + 1) inner 0 cs
+
+      here : ((inner : List ℕ) → StartBehind low inner → Behind low (inside inner)) → (t : Bool) → Behind low (if t then component_writes inside of_type c (element_of c cs) (begun at c starts) c.of else [])
+      here inner true = parts_behind inside of_type c (element_of c cs) inner types (begun at c starts) (begun_behind at c starts h) c.of
+      here inner false = tt
+
+      by : (t : Bool) → ((inner : List ℕ) → StartBehind low inner → Behind low (inside inner)) → Behind low (writes_from of_type level starts (stepped level at c (cell_bits c cs)) cs)
+          → Behind low (if t then []
+          else cell_writes inside of_type level at starts c (element_of c cs) ++ writes_from of_type level starts (stepped level at c (cell_bits c cs)) cs)
+      by true inner more = tt
+      by false inner more =
+          all_append (λ w. low ≤ w.offset) (cell_writes inside of_type level at starts c (element_of c cs)) (writes_from of_type level starts (stepped level at c (cell_bits c cs)) cs)
+          (here inner (c.sound && nat_eq c.level level)) more
+
+  types_behind : (l : List BlockLayout) (depth u : ℕ) (starts : List ℕ) → StartBehind low starts → Behind low (type_writes l depth u starts)
+  unfolding type_writes
+  types_behind l zero u starts h = tt
+  types_behind l (suc depth) u starts h =
+      cells_behind (type_writes l depth) (types_behind l depth) 0 0 starts (cells_at l u false) (omega arith) (from_zero starts h)
+
+  -- ---- where paths lead behind it
+
+  pub entered_behind : (block : ℕ) (temporary : Bool) (place offset : ℕ) (o : Option Cell) → low ≤ offset → LeadsBehind low (entered block temporary place offset o)
+  entered_behind block temporary place offset None h = tt
+  entered_behind block temporary place offset (Some c) h = by c.sound
+    where
+      by : (t : Bool) → LeadsBehind low (if t then walk.Reaches (record { block = block; temporary = temporary; place = place; depth = 0; offset = offset }) else walk.Rests)
+      by true = h
+      by false = tt
+
+  found_behind : (cells : List Cell) (block : ℕ) (temporary : Bool) (first offset : ℕ) (o : Option Member) → low ≤ offset → LeadsBehind low (found_at cells block temporary first offset o)
+  found_behind cells block temporary first offset None h = tt
+  found_behind cells block temporary first offset (Some m) h =
+      entered_behind block temporary (first + m.place) (capped (offset + capped m.offset)) (slice_get cells (first + m.place)) (capped_behind (offset + capped m.offset) (omega (arith, h)))
+
+  names_behind : (l : List BlockLayout) (spot : ComponentAt) (name : List ℕ) → low ≤ spot.offset → LeadsBehind low (named l spot name)
+  unfolding named outermost
+  names_behind l spot name h = by (slice_get (cells_at l spot.block spot.temporary) spot.place)
+    where
+      of_element : (c : Cell) (of : Element) → LeadsBehind low (named_in l spot name c of)
+      of_element c Structure =
+          found_behind (cells_at l spot.block spot.temporary) spot.block spot.temporary (spot.place + 1) spot.offset
+          (component (c.level + 1) 0 0 name (drop (spot.place + 1) (cells_at l spot.block spot.temporary))) h
+      of_element c (Udt block bits) = found_behind (cells_at l block false) block false 0 spot.offset (component 0 0 0 name (cells_at l block false)) h
+      of_element c (Plain kind) = tt
+      of_element c DateAndTime = tt
+      of_element c Unknown = tt
+
+      whole : (c : Cell) (t : Bool) → LeadsBehind low (if t then named_in l spot name c c.of else walk.Unknown)
+      whole c true = of_element c c.of
+      whole c false = tt
+
+      by : (o : Option Cell) → LeadsBehind low (named_behind l spot name o)
+      by None = tt
+      by (Some c) = whole c (nat_eq spot.depth (length c.bounds))
+
+  index_behind : (l : List BlockLayout) (spot : ComponentAt) (at : ℤ) → low ≤ spot.offset → LeadsBehind low (indexed l spot at)
+  unfolding indexed
+  index_behind l spot at h = by (slice_get (cells_at l spot.block spot.temporary) spot.place)
+    where
+      reaches : (t : Bool) (further : ℕ) → LeadsBehind low (if t then walk.Reaches (record spot { depth = spot.depth + 1 })
+          else walk.Reaches (record spot { depth = spot.depth + 1; offset = capped (spot.offset + capped further) }))
+      reaches true further = h
+      reaches false further = capped_behind (spot.offset + capped further) (omega (arith, h))
+
+      inside : (c : Cell) (behind : List Cell) (o : Option Bounds) → LeadsBehind low (within spot c behind at o)
+      inside c behind None = tt
+      inside c behind (Some b) = reaches (is_beyond b at) _
+
+      by : (o : Option Cell) → LeadsBehind low (indexed_behind spot (cells_at l spot.block spot.temporary) at o)
+      by None = tt
+      by (Some c) = inside c (drop (spot.place + 1) (cells_at l spot.block spot.temporary)) (slice_get c.bounds spot.depth)
+
+  step_behind : (l : List BlockLayout) (spot : ComponentAt) (s : PathStep) → low ≤ spot.offset → LeadsBehind low (step_of l spot s)
+  unfolding step_of
+  step_behind l spot (step.Named name) h = names_behind l spot name h
+  step_behind l spot (step.Index at) h = index_behind l spot at h
+
+  pub path_behind : (l : List BlockLayout) (spot : ComponentAt) (ss : List PathStep) → low ≤ spot.offset → LeadsBehind low (walked l spot ss)
+  path_behind l spot [] h = h
+  path_behind l spot (s ∷ ss) h = by (step_of l spot s) (step_behind l spot s h) (λ next k. path_behind l next ss k)
+    where
+      by : (e : PathEnd) → LeadsBehind low e → ((next : ComponentAt) → low ≤ next.offset → LeadsBehind low (walked l next ss)) → LeadsBehind low (goes_on e (λ next. walked l next ss))
+      by (walk.Reaches next) k more = more next k
+      by walk.Unknown k more = tt
+      by walk.Rests k more = tt
+
+  pub write_behind : (l : List BlockLayout) (value : Literal) (e : PathEnd) → LeadsBehind low e → Behind low (setting_write l value e)
+  write_behind l value (walk.Reaches spot) h = by (elementary_at l spot)
+    where
+      by : (o : Option Simple) → Behind low (write_of spot.offset (bits_of value) o)
+      by None = tt
+      by (Some kind) = (h, tt)
+  write_behind l value walk.Unknown h = tt
+  write_behind l value walk.Rests h = tt
+
+  component_behind : (at place : ℕ) (name : List ℕ) (cells : List Cell) (m : Member) → at ≤ largest → low ≤ at → component 0 at place name cells ≡ Some m → low ≤ m.offset
+  unfolding component
+  component_behind at place name [] m few h e = absurd cc
+  component_behind at place name (c ∷ cs) m few h e =
+      by (nat_lt c.level 0) (nat_eq c.level 0 && bytes_eq name c.name) e
+      (component_behind (stepped 0 at c (cell_bits c cs)) (place + 1) name cs m grows.near (further (stepped 0 at c (cell_bits c cs)) grows.above))
+    where
+      grows : Grows at (stepped 0 at c (cell_bits c cs))
+      grows = step_grows 0 at c (cell_bits c cs) few
+
+      further : (n : ℕ) → at ≤ n → low ≤ n
+      further n g = omega (arith, h, g)
+
+      by : (s t : Bool) → (if s then None else if t then Some (record { place = place; offset = up at (alignment c) }) else component 0 (stepped 0 at c (cell_bits c cs)) (place + 1) name cs) ≡ Some m
+          → (component 0 (stepped 0 at c (cell_bits c cs)) (place + 1) name cs ≡ Some m → low ≤ m.offset) → low ≤ m.offset
+      by true t k more = absurd cc
+      by false true k more =
+          let same : record { place = place; offset = up at (alignment c) } ≡ m = cc in
+          subst (λ (x : Member). low ≤ x.offset) same (further (up at (alignment c)) (begins_behind at c))
+      by false false k more = more k
+
+  -- ---- cells of which the first begins there
+
+  first_step : (at : ℕ) (c : Cell) (bits : ℕ) → FirstBehind low at (c ∷ []) → low ≤ stepped 0 at c bits
+  first_step at c bits h = rw (h.1, h.2) (capped_behind (up at (alignment c) + bits) (further (up at (alignment c)) h.0))
+    where
+      further : (n : ℕ) → low ≤ n → low ≤ n + bits
+      further n k = omega (arith, k)
+
+  pub rest_component : (at place : ℕ) (name : List ℕ) (cells : List Cell) (m : Member) → at ≤ largest → FirstBehind low at cells → component 0 at place name cells ≡ Some m → low ≤ m.offset
+  unfolding component
+  rest_component at place name [] m few h e = absurd cc
+  rest_component at place name (c ∷ cs) m few h e =
+      by (nat_lt c.level 0) (nat_eq c.level 0 && bytes_eq name c.name) e
+    where
+      grows : Grows at (stepped 0 at c (cell_bits c cs))
+      grows = step_grows 0 at c (cell_bits c cs) few
+
+      by : (s t : Bool) → (if s then None else if t then Some (record { place = place; offset = up at (alignment c) }) else component 0 (stepped 0 at c (cell_bits c cs)) (place + 1) name cs) ≡ Some m
+          → low ≤ m.offset
+      by true t k = absurd cc
+      by false true k =
+          let same : record { place = place; offset = up at (alignment c) } ≡ m = cc in
+          subst (λ (x : Member). low ≤ x.offset) same h.0
+      by false false k = component_behind (stepped 0 at c (cell_bits c cs)) (place + 1) name cs m grows.near (first_step at c (cell_bits c cs) h) k
+
+  pub rest_writes : (l : List BlockLayout) (depth at : ℕ) (cells : List Cell) → at ≤ largest → FirstBehind low at cells → Behind low (writes_from (type_writes l depth) 0 (0 ∷ []) at cells)
+  rest_writes l depth at [] few h = tt
+  rest_writes l depth at (c ∷ cs) few h = by (nat_lt c.level 0)
+    where
+      of_type : ℕ → List ℕ → List Write
+      of_type = type_writes l depth
+
+      next : ℕ
+      next = stepped 0 at c (cell_bits c cs)
+
+      grows : Grows at (stepped 0 at c (cell_bits c cs))
+      grows = step_grows 0 at c (cell_bits c cs) few
+
+      inside : List ℕ → List Write
+      inside = λ inner. writes_from of_type (c.level + 1) inner 0 cs
+
+      begun_here : StartBehind low (begun at c (0 ∷ []))
+      begun_here = (capped_behind (0 + up at (alignment c)) (from_none (up at (alignment c)) h.0), tt)
+        where
+          from_none : (n : ℕ) → low ≤ n → low ≤ 0 + n
+          from_none n k = omega (arith, k)
+
+      here : (t : Bool) → Behind low (if t then component_writes inside of_type c (element_of c cs) (begun at c (0 ∷ [])) c.of else [])
+      here true =
+          parts_behind inside of_type c (element_of c cs) (λ inner k. cells_behind of_type (types_behind l depth) (c.level + 1) 0 inner cs (omega arith) (from_zero inner k)) (types_behind l depth)
+          (begun at c (0 ∷ [])) begun_here c.of
+      here false = tt
+
+      from : low ≤ 0 + next
+      from = from_none next (first_step at c (cell_bits c cs) h)
+        where
+          from_none : (n : ℕ) → low ≤ n → low ≤ 0 + n
+          from_none n k = omega (arith, k)
+
+      by : (t : Bool) → Behind low (if t then [] else cell_writes inside of_type 0 at (0 ∷ []) c (element_of c cs) ++ writes_from of_type 0 (0 ∷ []) next cs)
+      by true = tt
+      by false =
+          all_append (λ w. low ≤ w.offset) (cell_writes inside of_type 0 at (0 ∷ []) c (element_of c cs)) (writes_from of_type 0 (0 ∷ []) next cs)
+          (here (c.sound && nat_eq c.level 0)) (cells_behind of_type (types_behind l depth) 0 next (0 ∷ []) cs grows.near (from, tt))

@@ -1,0 +1,60 @@
+-- Where a name among the cells of a block leads, and what stands behind an elementary component.
+use Rattle.std.proofs.Common.{◌≡◌, ℕ, ◌+◌, ◌≤◌, Bool, true, false, ◌&&◌, List, ◌∷◌, length, Some, None, refl, ap, ◌∙◌, arith}
+use Rattle.std.specs.Prelude.{drop, if◌then◌else◌, nat_eq, slice_get}
+use Rattle.std.specs.Str.{bytes_eq}
+use Rattle.stl_ast.specs.declared.blocks.PathStep.{PathStep}
+use Rattle.stl_ast.specs.declared.blocks.PathStep.TheVariants as step
+use Rattle.stl_ast.specs.declared.declarations.Simple.{Simple}
+use Rattle.block_layout.specs.Listed.{IsElementary}
+use Rattle.block_layout.specs.Members.{component}
+use Rattle.block_layout.specs.Paths.{cells_at, elementary_at, entered, found_at, indexed, indexed_behind, kind_of, named, named_behind, named_in, plain_kind, step_of, within}
+use Rattle.block_layout.specs.Sizes.{alignment, capped, largest, up}
+use Rattle.block_layout.specs.declared.blocks.BlockLayout.{BlockLayout}
+use Rattle.block_layout.specs.declared.cells.Cell.{Cell}
+use Rattle.block_layout.specs.declared.members.Member.{Member}
+use Rattle.block_layout.specs.declared.walks.ComponentAt.{ComponentAt}
+use Rattle.block_layout.specs.declared.walks.PathEnd.TheVariants as walk
+use Rattle.sem_kept.proofs.accepted.RecordParams.{never_less}
+
+pub named_here : (at place : ℕ) (name : List ℕ) (c : Cell) (cs : List Cell) → (nat_eq c.level 0 && bytes_eq name c.name) ≡ true
+    → component 0 at place name (c ∷ cs) ≡ Some (record { place = place; offset = up at (alignment c) })
+unfolding component
+named_here at place name c cs is = let never = never_less c.level in rw never (rw is refl)
+
+-- a component of a block that isn't one of a component
+abbrev pub outer_spot : (block place offset : ℕ) → ComponentAt
+outer_spot block place offset = record {
+  block = block;
+  temporary = false;
+  place = place;
+  depth = 0;
+  offset = offset;
+}
+
+uncapped : (n : ℕ) → n ≤ largest → capped (0 + capped n) ≡ n
+uncapped n h = omega (arith, h)
+
+pub entered_sound : (cells : List Cell) (block place : ℕ) (m : Member) (c : Cell) → m.place ≡ place → slice_get cells place ≡ Some c → c.sound ≡ true → m.offset ≤ largest
+    → found_at cells block false 0 0 (Some m) ≡ walk.Reaches (outer_spot block place m.offset)
+entered_sound cells block place m c at there sound few =
+    let same : 0 + m.place ≡ place = omega (arith, at) in
+    (λ i. entered block false (same i) (uncapped m.offset few i) (slice_get cells (same i)))
+    ∙ ap (entered block false place m.offset) there
+    ∙ ap (λ (t : Bool). if t then walk.Reaches (outer_spot block place m.offset) else walk.Rests) sound
+
+module _ (l : List BlockLayout) (spot : ComponentAt) (c : Cell) (kind : Simple) (there : slice_get (cells_at l spot.block spot.temporary) spot.place ≡ Some c) where
+  -- no step leads on behind an elementary component
+  pub no_step : IsElementary c kind → (s : PathStep) → step_of l spot s ≡ walk.Unknown
+  unfolding step_of named indexed
+  no_step h (step.Named name) = ap (named_behind l spot name) there ∙ by (nat_eq spot.depth (length c.bounds))
+    where
+      by : (t : Bool) → (if t then named_in l spot name c c.of else walk.Unknown) ≡ walk.Unknown
+      by true = ap (named_in l spot name c) h.of
+      by false = refl
+  no_step h (step.Index at) =
+      let cells = cells_at l spot.block spot.temporary in
+      ap (indexed_behind spot cells at) there ∙ ap (λ bounds. within spot c (drop (spot.place + 1) cells) at (slice_get bounds spot.depth)) h.bounds
+
+  pub kind_there : IsElementary c kind → spot.depth ≡ 0 → elementary_at l spot ≡ Some kind
+  kind_there h depth =
+      ap (kind_of spot) there ∙ (λ i. if nat_eq (depth i) (length (h.bounds i)) then plain_kind c.of else None) ∙ ap plain_kind h.of

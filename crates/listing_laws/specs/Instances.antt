@@ -1,0 +1,88 @@
+-- The instances of function blocks, in the listing of an accepted source's program.
+use Rattle.std.specs.Prelude.{◌≡◌, ℕ, false, List, [], ◌∷◌, length, Some, slice_get}
+use Rattle.std.specs.List.{AllByRecursion}
+use Rattle.flat_code.specs.Programs.{DataBlock}
+use Rattle.stl_ast.specs.Literals.{AreBytes}
+use Rattle.stl_ast.specs.declared.blocks.Block.{Block}
+use Rattle.stl_ast.specs.declared.blocks.Tree.{Tree}
+use Rattle.stl_symbols.specs.Symbol.{Symbol}
+use Rattle.block_layout.specs.Layouts.{layouts_of}
+use Rattle.block_layout.specs.Lengths.{length_of}
+use Rattle.block_layout.specs.Measures.{types_of}
+use Rattle.block_layout.specs.Rule41.{setting_misfits}
+use Rattle.block_layout.specs.Rule42.{setting_is_outside}
+use Rattle.block_layout.specs.Rule51.{is_too_long}
+use Rattle.block_layout.specs.Settings.{on_settings}
+use Rattle.block_layout.specs.declared.blocks.BlockLayout.{BlockLayout}
+use Rattle.stl_types.specs.Unknown.{sets_unknown}
+use Rattle.stl_codegen.specs.Generated.{data_block_of, data_blocks_of}
+use Rattle.stl_list.specs.DataBlocks.{listed_data}
+use Rattle.sem_kept.specs.Accepted.{IsAccepted, program_in}
+use Rattle.listing_laws.specs.Again.{IsWholeAgain, again_at, listed_again}
+use Rattle.listing_laws.specs.Declared.{signatures_in}
+
+-- the block that a data block of a source's program is listed as
+abbrev pub data_again : (symbols : List Symbol) → Tree → (line : ℕ) → DataBlock → Block
+data_again symbols t line d =
+    listed_data (signatures_in (program_in symbols t)) line d.number d.bytes d.instance_of
+
+-- an instance, listed, is as long as it was and not too long (rule 51)
+pub record IsInstanceLong (symbols : List Symbol) (t : Tree) (others : List Symbol) (d : DataBlock) : Type 0 where
+  pub length : (line : ℕ)
+      → length_of (types_of others (listed_again symbols t).blocks) (listed_again symbols t).blocks
+      (data_again symbols t line d) ≡ length d.bytes
+  pub by_51 : (line : ℕ)
+      → is_too_long (types_of others (listed_again symbols t).blocks) (listed_again symbols t).blocks
+      (data_again symbols t line d) ≡ false
+
+-- so it is with each instance of an accepted source's program, whatever symbols stand beside it
+abbrev pub AreInstancesLong : Type 0
+AreInstancesLong =
+    (source file : List ℕ) (symbols : List Symbol) (t : Tree)
+    → IsAccepted source file symbols t → AreBytes source → AreBytes file → (others : List Symbol)
+    → AllByRecursion (λ d. (n : ℕ) → d.instance_of ≡ Some n → IsInstanceLong symbols t others d)
+    (program_in symbols t).data_blocks
+
+-- where an instance stands in the listing, the program of the listing has it again, with its number, its
+-- function block and its bytes
+abbrev pub IsInstanceAgain : (symbols : List Symbol) → Tree → (others : List Symbol) → DataBlock → Type 0
+IsInstanceAgain symbols t others d =
+    (k line : ℕ) (l : BlockLayout)
+    → slice_get (listed_again symbols t).blocks k ≡ Some (data_again symbols t line d)
+    → slice_get (layouts_of (listed_again symbols t) others) k ≡ Some l
+    → data_block_of (again_at symbols t others k) l l.id ≡ d ∷ []
+
+-- so it is with each instance of an accepted source's program, where no block of the listing breaks a
+-- rule as a whole
+abbrev pub AreInstancesAgain : Type 0
+AreInstancesAgain =
+    (source file : List ℕ) (symbols : List Symbol) (t : Tree)
+    → IsAccepted source file symbols t → AreBytes source → AreBytes file → (others : List Symbol)
+    → IsWholeAgain symbols t others
+    → AllByRecursion (λ d. (n : ℕ) → d.instance_of ≡ Some n → IsInstanceAgain symbols t others d)
+    (program_in symbols t).data_blocks
+
+-- the settings of a listing break none of the rules of settings
+pub record AreSettingsRight (symbols : List Symbol) (t : Tree) (others : List Symbol) : Type 0 where
+  pub by_20 : on_settings (sets_unknown (layouts_of (listed_again symbols t) others)) 20 0
+      (listed_again symbols t).blocks ≡ []
+  pub by_41 : on_settings (setting_misfits (layouts_of (listed_again symbols t) others)) 41 0
+      (listed_again symbols t).blocks ≡ []
+  pub by_42 : on_settings (setting_is_outside (layouts_of (listed_again symbols t) others)) 42 0
+      (listed_again symbols t).blocks ≡ []
+
+-- so it is with each accepted source, where no block of its listing breaks a rule as a whole
+abbrev pub AreListedSettingsRight : Type 0
+AreListedSettingsRight =
+    (source file : List ℕ) (symbols : List Symbol) (t : Tree)
+    → IsAccepted source file symbols t → AreBytes source → AreBytes file → (others : List Symbol)
+    → IsWholeAgain symbols t others → AreSettingsRight symbols t others
+
+-- and the program of the listing has the data blocks of that of the source
+abbrev pub AreDataBlocksAgain : Type 0
+AreDataBlocksAgain =
+    (source file : List ℕ) (symbols : List Symbol) (t : Tree)
+    → IsAccepted source file symbols t → AreBytes source → AreBytes file → (others : List Symbol)
+    → IsWholeAgain symbols t others
+    → data_blocks_of (listed_again symbols t) others (layouts_of (listed_again symbols t) others)
+    ≡ (program_in symbols t).data_blocks
