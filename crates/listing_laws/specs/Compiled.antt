@@ -5,10 +5,13 @@ use Rattle.stl_ast.specs.declared.blocks.Tree.{Tree}
 use Rattle.stl_lexer.specs.Limits.{source_limit}
 use Rattle.stl_symbols.specs.Symbol.{Symbol}
 use Rattle.stl_symbols.specs.Symbols.{symbols_limit}
+use Rattle.stl_symbols.specs.declared.languages.Language.{Language}
 use Rattle.stl_symbols.specs.declared.languages.Language.TheVariants.{English}
+use Rattle.flat_code.specs.Programs.{Program}
 use Rattle.stl_list.specs.Listing.{listed_source}
 use Rattle.stl_list.specs.Symbols.{listed_names}
 use Rattle.sem_kept.specs.Accepted.{IsAccepted, program_in}
+use Rattle.sem_kept.specs.Agreement.{AreFiles}
 use Rattle.sem_kept.specs.Compiles.{CompilesTo}
 
 -- where its two texts are no longer than a source and a symbols file may be
@@ -20,3 +23,12 @@ AreListingsCompiled =
     → length (listed_names (program_in symbols t).names) ≤ symbols_limit
     → CompilesTo English (listed_source (program_in symbols t))
     (listed_names (program_in symbols t).names) (program_in symbols t)
+
+-- the same of the program that a source compiles to, whichever language the addresses of its symbols
+-- are in
+abbrev pub ListingsCompile : Type 0
+ListingsCompile =
+    (language : Language) (source symbols : List ℕ) (p : Program)
+    → AreFiles source symbols → CompilesTo language source symbols p
+    → length (listed_source p) ≤ source_limit → length (listed_names p.names) ≤ symbols_limit
+    → CompilesTo English (listed_source p) (listed_names p.names) p
