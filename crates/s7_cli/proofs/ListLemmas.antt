@@ -1,5 +1,5 @@
 -- What `list` answers, and the texts of a listing.
-use Rattle.std.proofs.Common.{◌≡◌, inl, inr, refl, sym, ◌∙◌, ap, subst, ℕ, List, Result, Ok, Err, arith}
+use Rattle.std.proofs.Common.{◌≡◌, true, inl, inr, refl, sym, ◌∙◌, ap, subst, Bool, ℕ, List, Option, Some, None, Result, Ok, Err, arith}
 use Rattle.flat_code.specs.Image.{image as image_of}
 use Rattle.flat_code.specs.Loading.{faults_of}
 use Rattle.flat_code.specs.Programs.{Program}
@@ -11,19 +11,27 @@ use Rattle.image_file.specs.Refusing.{IsRefusedBy}
 use Rattle.image_file.specs.declared.faults.LoadFault.{LoadFault}
 use Rattle.image_file.specs.declared.refusing.LoadError.{LoadError}
 use Rattle.image_file.specs.declared.refusing.LoadError.TheVariants as loading
-use Rattle.sem_kept.specs.Compiles.{IsProgramUnique}
+use Rattle.plc_io.specs.Contents.{Contents}
+use Rattle.sem_kept.specs.Agreement.{ImageKeepsSourceIn}
+use Rattle.sem_kept.specs.Compiles.{CompilesTo, IsProgramUnique}
+use Rattle.listing_laws.specs.Compiled.{ListingsCompile}
 use Rattle.stl_list.specs.Listing.{listed_source}
 use Rattle.stl_list.specs.Symbols.{listed_names}
+use Rattle.stl_symbols.specs.declared.languages.Language.{Language}
 use Rattle.stl_symbols.specs.declared.languages.Language.TheVariants.{English}
 use Rattle.s7_cli.specs.declared.failures.File.TheVariants.{Listing}
 use Rattle.s7_cli.specs.declared.failures.Failure.{Failure}
-use Rattle.s7_cli.specs.Answer.{Answer}
+use Rattle.s7_cli.specs.Answer.{Answer, code_of}
+use Rattle.s7_cli.specs.Command.{Command, Go, Check, Compile, Translate, Run, Gen, Live, Watch, Upgrade, ListImage, Bound, Recheck, inputs_of}
 use Rattle.s7_cli.specs.Faults.{failure_of_loading}
 use Rattle.s7_cli.specs.Inner.{RefusedBy}
 use Rattle.s7_cli.specs.Lines.{ok_line}
-use Rattle.s7_cli.specs.ListSays.{IsLongListing, IsShortListing, ListAnswer, ListedAnswer, ListSays}
-use Rattle.s7_cli.specs.Listings.{ListingsGiveImages, ListingsGivePrograms}
+use Rattle.s7_cli.specs.ListSays.{HasListing, IsLongListing, IsShortListing, ListAnswer, ListedAnswer, ListSays}
+use Rattle.s7_cli.specs.Listings.{CompiledHaveListings, IsNotCompiled, ListingsGiveImages, ListingsGivePrograms, image_listed}
 use Rattle.s7_cli.specs.Loads.{LoadsAs}
+use Rattle.s7_cli.specs.Reading.{Disk, Reads}
+use Rattle.s7_cli.specs.Says.{Says}
+use Rattle.s7_cli.specs.Translating.{IsSourceImage, language_of}
 use Rattle.s7_cli.proofs.LoadLemmas.{loads-one}
 use Rattle.s7_cli.proofs.RefusedLemmas.{refused-more}
 use Rattle.s7_cli.proofs.Verdicts.{IsVerdict}
@@ -87,15 +95,77 @@ listing-refused V image l (Err failure) loads told =
 pub give-programs : IsProgramUnique → ListingsGivePrograms
 give-programs one p q has compiles = one English (listed_source p) (listed_names p.names) q p compiles has
 
+-- an image that is loaded, and that is the image of a program, is loaded as this program
+listed-program : ImagesAreOfOne → (language : Language) (image source symbols : List ℕ)
+    → (kept : ImageKeepsSourceIn language image source symbols) → (l : LoadedProgram) → LoadsAs image (Ok l)
+    → kept.program ≡ l.program
+listed-program images language image source symbols kept l loads =
+    (images kept.stamp loads.image.stamp kept.program l.program kept.keeps.runnable.is loads.loadable.program
+    (sym kept.spelled ∙ loads.loadable.spelled)).1
+
 pub give-images : IsProgramUnique → ImagesAreOfOne → ListingsGiveImages
 give-images one images german image source symbols (english, translated, (kept, large, made)) l loads has bytes (again, also, compiles) =
     again.spelled ∙ ap (λ t. image_of t again.program) also ∙ ap (image_of (Two Large)) (same ∙ sym listed)
     ∙ ap (λ t. image_of t kept.program) (sym large) ∙ sym kept.spelled
   where
-    -- what is listed is the program of the image
     listed : kept.program ≡ l.program
-    listed = (images kept.stamp loads.image.stamp kept.program l.program kept.keeps.runnable.is loads.loadable.program
-        (sym kept.spelled ∙ loads.loadable.spelled)).1
+    listed = listed-program images (language_of german) image english symbols kept l loads
 
     same : again.program ≡ l.program
-    same = one English (listed_source l.program) (listed_names l.program.names) again.program l.program compiles has
+    same = one English (listed_source l.program) (listed_names l.program.names) again.program l.program compiles.0 has
+
+pub give-listings : ListingsCompile → ImagesAreOfOne → CompiledHaveListings
+give-listings compile images german image source symbols (english, translated, (kept, large, (compiles, files))) l loads short =
+    compile (language_of german) english symbols l.program files
+    (subst (CompilesTo (language_of german) english symbols) (listed-program images (language_of german) image english symbols kept l loads) compiles)
+    short.source short.symbols
+
+-- ---- 9 never comes of an image that `compile` wrote
+
+listed-never : (p : Program) (a : Answer) → (IsShortListing p → HasListing p) → ListedAnswer p a → code_of a.outcome ≡ 9 → ⊥
+listed-never p a has (inl (long, gives)) nine = let e : code_of a.outcome ≡ 8 = ap (λ (b : Answer). code_of b.outcome) gives in omega (arith, e, nine)
+listed-never p a has (inr (inl (short, none, gives))) nine = none (has short)
+listed-never p a has (inr (inr (short, too, gives))) nine = let e : code_of a.outcome ≡ 0 = ap (λ (b : Answer). code_of b.outcome) gives in omega (arith, e, nine)
+
+answer-never : (image : List ℕ) (a : Answer) → ((l : LoadedProgram) → LoadsAs image (Ok l) → IsShortListing l.program → HasListing l.program)
+    → (v : Result LoadedProgram LoadFault) → LoadsAs image v → ListAnswer v a → code_of a.outcome ≡ 9 → ⊥
+answer-never image a has (Err fault) loads said nine = let e : code_of a.outcome ≡ 3 = ap (λ (b : Answer). code_of b.outcome) said in omega (arith, e, nine)
+answer-never image a has (Ok l) loads said nine = listed-never l.program a (has l loads) said nine
+
+same_bytes : (c : Contents) (name xs ys : List ℕ) → c.at name ≡ Some xs → c.at name ≡ Some ys → xs ≡ ys
+same_bytes c name xs ys p q = let e : Some xs ≡ Some ys = sym p ∙ q in cc
+
+other_name : (name other : List ℕ) → Some name ≡ Some other → name ≡ other
+other_name name other is = cc
+
+list-never : CompiledHaveListings → (d : Disk) (image source symbols : List ℕ) (a : Answer)
+    → Reads d (inputs_of (ListImage image source symbols)) (Says (ListImage image source symbols)) a → code_of a.outcome ≡ 9
+    → IsNotCompiled (ListImage image source symbols) d
+list-never have d image source symbols a (inl (inl (rose, gives))) nine =
+    let e : code_of a.outcome ≡ 5 = ap (λ (b : Answer). code_of b.outcome) gives in absurd (omega (arith, e, nine))
+list-never have d image source symbols a (inl (inr (bytes, agrees, long, gives))) nine =
+    let e : code_of a.outcome ≡ 8 = ap (λ (b : Answer). code_of b.outcome) gives in absurd (omega (arith, e, nine))
+list-never have d image source symbols a (inr (bytes, holds, said)) nine = λ name held german s y is told there made.
+    let here : d.before.contents.at image ≡ Some held =
+    subst (λ (n : List ℕ). d.before.contents.at n ≡ Some held) (sym (other_name image name is)) there in
+    let also : bytes ≡ held = same_bytes d.before.contents image bytes held (holds.agrees told) here in
+    answer-never bytes a (λ l loads. have german bytes s y (subst (λ (i : List ℕ). IsSourceImage german i s y) (sym also) made) l loads)
+    said.0 said.1 said.2 nine
+
+no_name : (k : Command) (name : List ℕ) → image_listed k ≡ None → image_listed k ≡ Some name → ⊥
+no_name k name none some = let e : None ≡ Some name = sym none ∙ some in cc
+
+pub never-compiled : CompiledHaveListings → (k : Command) (d : Disk) (a : Answer) → Reads d (inputs_of k) (Says k) a
+    → code_of a.outcome ≡ 9 → IsNotCompiled k d
+never-compiled have (ListImage i s y) d a said nine = list-never have d i s y a said nine
+never-compiled have (Go s y g h) d a said nine = λ name held german source symbols is told there made. no_name (Go s y g h) name refl is
+never-compiled have (Check s y g) d a said nine = λ name held german source symbols is told there made. no_name (Check s y g) name refl is
+never-compiled have (Compile s y g i) d a said nine = λ name held german source symbols is told there made. no_name (Compile s y g i) name refl is
+never-compiled have (Translate l s t) d a said nine = λ name held german source symbols is told there made. no_name (Translate l s t) name refl is
+never-compiled have (Run i h) d a said nine = λ name held german source symbols is told there made. no_name (Run i h) name refl is
+never-compiled have (Gen n) d a said nine = λ name held german source symbols is told there made. no_name (Gen n) name refl is
+never-compiled have (Live i s o n) d a said nine = λ name held german source symbols is told there made. no_name (Live i s o n) name refl is
+never-compiled have (Watch i s v o n) d a said nine = λ name held german source symbols is told there made. no_name (Watch i s v o n) name refl is
+never-compiled have (Upgrade i u) d a said nine = λ name held german source symbols is told there made. no_name (Upgrade i u) name refl is
+never-compiled have (Bound i t) d a said nine = λ name held german source symbols is told there made. no_name (Bound i t) name refl is
+never-compiled have (Recheck i t) d a said nine = λ name held german source symbols is told there made. no_name (Recheck i t) name refl is

@@ -13,12 +13,14 @@ use Rattle.stack_bound.specs.Overflow.{CertificatesKeepStacks}
 use Rattle.s7_cli.specs.BoundSays.{StacksSuffice}
 use Rattle.s7_cli.specs.Command.{Command, inputs_of}
 use Rattle.s7_cli.specs.Ends.{Taking, Answers, InputRose, OutputRose, CountsReads, LeavesFiles, ChangesOutputs, WritesOutputs, IsSaid, IsCut, SinkFailed, OutputFailed, IsWriteFault, IsNoMemory, Ends, Ended}
+use Rattle.s7_cli.specs.Listings.{CompiledHaveListings, IsNotCompiled}
 use Rattle.s7_cli.specs.Lines.{IsLineOf}
 use Rattle.s7_cli.specs.Reading.{Disk, Reads, FailsOnTheWay}
 use Rattle.s7_cli.specs.Says.{Says}
 use Rattle.s7_cli.specs.StatusTable.{IsDecided, IsCutOff, IsStatus, StatusTable}
 use Rattle.s7_cli.proofs.BoundLemmas.{stacks-suffice}
 use Rattle.s7_cli.proofs.ComesLemmas.{same-files}
+use Rattle.s7_cli.proofs.ListLemmas.{never-compiled}
 use Rattle.s7_cli.proofs.ReadingLemmas.{reads-told, reads-kinds, allows-alike, fails-rose}
 use Rattle.s7_cli.proofs.SaysLemmas.{Alike, OneEach, same-alike, says-alike, says-verdict}
 use Rattle.s7_cli.proofs.Verdicts.{IsVerdict}
@@ -260,10 +262,15 @@ stacks-said : CertificatesKeepStacks → (c : Option Command) (d : Disk) (a : An
 stacks-said keep c d a answers zero k is =
     stacks-suffice keep k d a (subst (λ (o : Option Command). Answers o d a) is answers) zero
 
+listed-said : CompiledHaveListings → (c : Option Command) (d : Disk) (a : Answer) → Answers c d a → code_of a.outcome ≡ 9
+    → (k : Command) → c ≡ Some k → IsNotCompiled k d
+listed-said have c d a answers nine k is =
+    never-compiled have k d a (subst (λ (o : Option Command). Answers o d a) is answers) nine
+
 -- ---- the table
 
-table-said : OneEach → CertificatesKeepStacks → (c : Option Command) (d : Disk) (s : Taking) (a : Answer) → IsSaid c d s a → StatusTable c d s (code_of a.outcome)
-table-said one keep c d s a said =
+table-said : OneEach → CertificatesKeepStacks → CompiledHaveListings → (c : Option Command) (d : Disk) (s : Taking) (a : Answer) → IsSaid c d s a → StatusTable c d s (code_of a.outcome)
+table-said one keep have c d s a said =
     let r : Rows c d s (code_of a.outcome) = rows c d s a said.answers said.took in
     let six : code_of a.outcome ≡ 6 → Rose s.before.faults s.after.faults ⊎ OutputRose c d = λ e. absurd (r.whole (inl e)) in record {
       statuses = r.statuses;
@@ -282,6 +289,7 @@ table-said one keep c d s a said =
       outputs_alone = outputs-said c d a.outcome said.files;
       outputs_whole = whole-said c d a.outcome said.files;
       stacks = stacks-said keep c d a said.answers;
+      listed = listed-said have c d a said.answers;
     }
 
 table-cut : (c : Option Command) (d : Disk) (s : Taking) (code : ℕ) → IsCutOff code → IsCut c d s
@@ -305,6 +313,7 @@ table-cut c d s code off cut six writes faults = record {
   outputs_alone = cut.files;
   outputs_whole = λ e. absurd (elim off [ inl f ↦ omega (arith, e, f) | inr f ↦ omega (arith, e, f) ]);
   stacks = λ e. absurd (elim off [ inl f ↦ omega (arith, e, f) | inr f ↦ omega (arith, e, f) ]);
+  listed = λ e. absurd (elim off [ inl f ↦ omega (arith, e, f) | inr f ↦ omega (arith, e, f) ]);
 }
 
 table-write : (c : Option Command) (d : Disk) (s : Taking) → IsWriteFault c d s → StatusTable c d s 6
@@ -320,21 +329,22 @@ table-memory c d s wanting =
     table-cut c d s 7 (inr refl) wanting.cut (λ e. absurd (omega arith)) (λ name more. absurd (omega (arith, wanting.writes name)))
     (λ more. absurd (omega (arith, wanting.faults)))
 
-table-ends : OneEach → CertificatesKeepStacks → (c : Option Command) (d : Disk) (s : Taking) (outcome : Outcome) → Ends c d s outcome
+table-ends : OneEach → CertificatesKeepStacks → CompiledHaveListings → (c : Option Command) (d : Disk) (s : Taking) (outcome : Outcome) → Ends c d s outcome
     → StatusTable c d s (code_of outcome)
-table-ends one keep c d s (Err WriteFault) ends = table-write c d s ends
-table-ends one keep c d s (Err NoMemory) ends = table-memory c d s ends
-table-ends one keep c d s (Ok ok) ends = table-said one keep c d s _ ends.1
-table-ends one keep c d s (Err WordsRefused) ends = table-said one keep c d s _ ends.1
-table-ends one keep c d s (Err ReadFault) ends = table-said one keep c d s _ ends.1
-table-ends one keep c d s (Err (TooLong file)) ends = table-said one keep c d s _ ends.1
-table-ends one keep c d s (Err (Refused file refusal)) ends = table-said one keep c d s _ ends.1
-table-ends one keep c d s (Err (ImageRefused fault)) ends = table-said one keep c d s _ ends.1
-table-ends one keep c d s (Err NoListing) ends = table-said one keep c d s _ ends.1
-table-ends one keep c d s (Err SaysNo) ends = table-said one keep c d s _ ends.1
-table-ends one keep c d s (Err TooDeep) ends = table-said one keep c d s _ ends.1
+table-ends one keep have c d s (Err WriteFault) ends = table-write c d s ends
+table-ends one keep have c d s (Err NoMemory) ends = table-memory c d s ends
+table-ends one keep have c d s (Ok ok) ends = table-said one keep have c d s _ ends.1
+table-ends one keep have c d s (Err WordsRefused) ends = table-said one keep have c d s _ ends.1
+table-ends one keep have c d s (Err ReadFault) ends = table-said one keep have c d s _ ends.1
+table-ends one keep have c d s (Err (TooLong file)) ends = table-said one keep have c d s _ ends.1
+table-ends one keep have c d s (Err (Refused file refusal)) ends = table-said one keep have c d s _ ends.1
+table-ends one keep have c d s (Err (ImageRefused fault)) ends = table-said one keep have c d s _ ends.1
+table-ends one keep have c d s (Err NoListing) ends = table-said one keep have c d s _ ends.1
+table-ends one keep have c d s (Err SaysNo) ends = table-said one keep have c d s _ ends.1
+table-ends one keep have c d s (Err TooDeep) ends = table-said one keep have c d s _ ends.1
 
--- the rows of the table; that a source has one meaning makes its rows exact, that certificates keep stacks is its last one
-pub table : OneEach → CertificatesKeepStacks → (c : Option Command) (d : Disk) (s : Taking) (code : ℕ) → Ended c d s code → StatusTable c d s code
-table one keep c d s code ended =
-    subst (λ (n : ℕ). StatusTable c d s n) (sym ended.1) (table-ends one keep c d s ended.0 ended.2)
+-- the rows of the table; that a source has one meaning makes its rows exact, that certificates keep stacks, and that
+-- programs that were compiled have listings, are its last two
+pub table : OneEach → CertificatesKeepStacks → CompiledHaveListings → (c : Option Command) (d : Disk) (s : Taking) (code : ℕ) → Ended c d s code → StatusTable c d s code
+table one keep have c d s code ended =
+    subst (λ (n : ℕ). StatusTable c d s n) (sym ended.1) (table-ends one keep have c d s ended.0 ended.2)

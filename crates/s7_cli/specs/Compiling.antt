@@ -92,11 +92,12 @@ HasProgramIn language source symbols =
     (p : Program) × KeepsSourceIn language profile.Large source symbols p
 
 -- bytes are the image of version 2, for the large profile, of the program to which a source with its
--- symbols compiles, and keep the source
+-- symbols compiles, as files hold them, and keep the source
 abbrev pub IsCompiledIn : Language → (bytes source symbols : List ℕ) → Type 0
 IsCompiledIn language bytes source symbols =
     (kept : ImageKeepsSourceIn language bytes source symbols)
     × (kept.stamp ≡ stamp.Two profile.Large) × CompilesTo language source symbols kept.program
+    × AreFiles source symbols
 
 -- the same in English
 abbrev pub HasProgram : (source symbols : List ℕ) → Type 0

@@ -9,6 +9,7 @@ use Rattle.s7_cli.specs.BoundSays.{StacksSuffice}
 use Rattle.s7_cli.specs.Command.{Command, Live, Watch, Bound, inputs_of}
 use Rattle.s7_cli.specs.Ends.{Taking, InputRose, OutputRose, CutShort, ChangesOutputs, WritesOutputs}
 use Rattle.s7_cli.specs.Lines.{IsLineOf}
+use Rattle.s7_cli.specs.Listings.{IsNotCompiled}
 use Rattle.s7_cli.specs.Reading.{Disk, Allows, FailsOnTheWay}
 use Rattle.s7_cli.specs.Says.{Says}
 
@@ -78,3 +79,5 @@ pub record StatusTable (c : Option Command) (d : Disk) (s : Taking) (code : ℕ)
   pub outputs_whole : code ≡ 0 → WritesOutputs c d
   -- 0 of `bound` and of `recheck`: no history of the image stops for want of stack
   pub stacks : code ≡ 0 → (k : Command) → c ≡ Some k → StacksSuffice k d
+  -- 9 never comes of an image that `compile` wrote
+  pub listed : code ≡ 9 → (k : Command) → c ≡ Some k → IsNotCompiled k d

@@ -6,7 +6,7 @@ use Rattle.stl_symbols.specs.declared.languages.Language.TheVariants.{English, G
 use Rattle.flat_code.specs.Programs.{Program}
 use Rattle.plc_base.specs.declared.profiles.Profile.TheVariants.{Large}
 use Rattle.plc_base.specs.declared.refusals.Refusal.{Refusal}
-use Rattle.sem_kept.specs.Agreement.{KeepsSourceIn}
+use Rattle.sem_kept.specs.Agreement.{AreFiles, KeepsSourceIn}
 use Rattle.sem_kept.specs.Compiles.{CompilesTo}
 use Rattle.stl_symbols.specs.Symbol.{Symbol}
 use Rattle.stl_symbols.specs.Symbols.{symbols_in}
@@ -91,7 +91,7 @@ abbrev pub IsProgramOf : (german : Bool) → (source symbols : List ℕ) → Pro
 IsProgramOf german source symbols p =
     (text : List ℕ) × IsEnglish german source text
     × KeepsSourceIn (language_of german) Large text symbols p
-    × CompilesTo (language_of german) text symbols p
+    × CompilesTo (language_of german) text symbols p × AreFiles text symbols
 
 -- bytes are the image that `compile` writes: that of the English text of the source
 abbrev pub IsSourceImage : (german : Bool) → (bytes source symbols : List ℕ) → Type 0

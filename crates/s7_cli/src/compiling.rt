@@ -299,6 +299,7 @@ pub fn compiled(alloc: Global, source: &[u8], symbols: &[u8]) -> Result<Loaded, 
     ensures refused { IfErr result
         (RefusesBy source.now symbols.now) }
 {
+    law_of_files(source, symbols);
     let program = program_of(alloc, source, symbols)?;
     Ok(loaded_large(alloc, program)?)
 }
@@ -317,6 +318,7 @@ pub fn compiled_image(alloc: Global, source: &[u8], symbols: &[u8]) -> Result<Ve
     ensures refused { IfErr result
         (RefusesBy source.now symbols.now) }
 {
+    law_of_files(source, symbols);
     let program = program_of(alloc, source, symbols)?;
     Ok(write_image2(alloc, &program, Profile::Large)?)
 }

@@ -8,6 +8,7 @@ ghost use Rattle.s7_cli.specs.Lines.{line_of};
 ghost use Rattle.s7_cli.specs.Reading.{Disk, disk};
 ghost use Rattle.s7_cli.specs.StatusTable.{StatusTable};
 
+use crate::listing::law_of_listings;
 use crate::failures::{Failure, Status};
 use crate::files::write_file;
 use crate::texts::failure_line;
@@ -116,5 +117,6 @@ pub fn end_command<K: Sink>(out: &mut K, came: Result<(), Failure>) -> Status
     sem_kept::laws::law_of_sources();
     de_mnemonics::law_of_translations();
     stack_bound::laws::certificates_keep_stacks();
+    law_of_listings();
     Status::of(finish(out, came))
 }

@@ -4,7 +4,7 @@ ghost use Rattle.stl_list.specs.Listing.{listed_source};
 ghost use Rattle.stl_list.specs.Symbols.{listed_names};
 ghost use Rattle.s7_cli.specs.Inner.{RefusedBy};
 ghost use Rattle.s7_cli.specs.ListSays.{IsListing, IsListingOf, IsShortListing, ListSays, ListedAnswer};
-ghost use Rattle.s7_cli.specs.Listings.{ListingsGiveImages, ListingsGivePrograms};
+ghost use Rattle.s7_cli.specs.Listings.{CompiledHaveListings, ListingsGiveImages, ListingsGivePrograms};
 
 use crate::compiling::{compiles_to, law_of_programs};
 use crate::failures::{Failure, File};
@@ -54,12 +54,14 @@ pub(crate) fn judge_listing(alloc: Global, image: &[u8]) -> Result<Listing, Fail
     listing_of(alloc, &loaded)
 }
 
-/// A law: where a listing compiles, it compiles to one program, that of the image; and where
-/// `compile` wrote the image, the listing compiles to the same bytes.
+/// A law: where a listing compiles, it compiles to one program, that of the image; where `compile` wrote
+/// the image, the listing does compile, unless it is too long, and to the same bytes.
 pub fn law_of_listings()
     ensures programs { ListingsGivePrograms }
     ensures images { ListingsGiveImages }
+    ensures compile { CompiledHaveListings }
 {
+    listing_laws::law_of_compiled_listings();
     law_of_programs();
     image_file::laws::one_program();
 }

@@ -29,4 +29,5 @@ returns-clause-image c =
       },
       ap Two c.in_ok-loaded_large.ensures.large,
       returns-clause-program c,
+      c.law_of_files.ensures,
     )

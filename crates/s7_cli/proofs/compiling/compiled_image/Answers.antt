@@ -13,4 +13,5 @@ returns-clause-ok c = (
   },
   refl,
   c.in_ok-program.ensures.compiles,
+  c.law_of_files.ensures,
 )

@@ -14,4 +14,5 @@ returns-clause-table g c = λ command d start comes.
           c.law_of_translations.ensures.one_violation;
     })
     c.certificates_keep_stacks.ensures
+    c.law_of_listings.ensures.compile
     command d _ _ (c.finish.result, c.of.ensures, c.finish.ensures command d start comes)

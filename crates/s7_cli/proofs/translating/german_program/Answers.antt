@@ -56,4 +56,6 @@ returns-clause-made c =
       kept.2,
       subst (λ (t : List ℕ). CompilesTo German t given c.in_ok-program_with.field-0) c.deref-2.ensures.value
           (c.in_ok-program_with.ensures.compiles German given c.in_ok-source.ensures.symbols),
+      subst (AreFiles c.in_ok-source.field-0.source.items) c.symbols.ensures
+          (subst (λ (t : List ℕ). AreFiles t c.symbols.result.now) c.deref.ensures.value c.law_of_files.ensures),
     )

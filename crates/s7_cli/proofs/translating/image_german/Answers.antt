@@ -17,5 +17,6 @@ returns-clause-keeps c =
         },
         refl,
         kept.3,
+        kept.4,
       ),
     )
