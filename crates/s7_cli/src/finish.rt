@@ -8,9 +8,9 @@ ghost use Rattle.s7_cli.specs.Lines.{line_of};
 ghost use Rattle.s7_cli.specs.Reading.{Disk, disk};
 ghost use Rattle.s7_cli.specs.StatusTable.{StatusTable};
 
-use crate::listing::law_of_listings;
 use crate::failures::{Failure, Status};
 use crate::files::write_file;
+use crate::listing::law_of_listings;
 use crate::texts::failure_line;
 use plc_io::{Files, IoFault, Sink, push_all};
 
