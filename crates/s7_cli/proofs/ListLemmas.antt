@@ -1,5 +1,5 @@
 -- What `list` answers, and the texts of a listing.
-use Rattle.std.proofs.Common.{◌≡◌, true, inl, inr, refl, sym, ◌∙◌, ap, subst, Bool, ℕ, List, Option, Some, None, Result, Ok, Err, arith}
+use Rattle.std.proofs.Common.{◌≡◌, inl, inr, refl, sym, ◌∙◌, ap, subst, ℕ, List, Some, None, Result, Ok, Err, arith}
 use Rattle.flat_code.specs.Image.{image as image_of}
 use Rattle.flat_code.specs.Loading.{faults_of}
 use Rattle.flat_code.specs.Programs.{Program}
@@ -104,7 +104,7 @@ listed-program images language image source symbols kept l loads =
     (sym kept.spelled ∙ loads.loadable.spelled)).1
 
 pub give-images : IsProgramUnique → ImagesAreOfOne → ListingsGiveImages
-give-images one images german image source symbols (english, translated, (kept, large, made)) l loads has bytes (again, also, compiles) =
+give-images one images german image source symbols (english, translated, (kept, large, made, files)) l loads has bytes (again, also, compiles, read) =
     again.spelled ∙ ap (λ t. image_of t again.program) also ∙ ap (image_of (Two Large)) (same ∙ sym listed)
     ∙ ap (λ t. image_of t kept.program) (sym large) ∙ sym kept.spelled
   where
@@ -112,10 +112,10 @@ give-images one images german image source symbols (english, translated, (kept, 
     listed = listed-program images (language_of german) image english symbols kept l loads
 
     same : again.program ≡ l.program
-    same = one English (listed_source l.program) (listed_names l.program.names) again.program l.program compiles.0 has
+    same = one English (listed_source l.program) (listed_names l.program.names) again.program l.program compiles has
 
 pub give-listings : ListingsCompile → ImagesAreOfOne → CompiledHaveListings
-give-listings compile images german image source symbols (english, translated, (kept, large, (compiles, files))) l loads short =
+give-listings compile images german image source symbols (english, translated, (kept, large, compiles, files)) l loads short =
     compile (language_of german) english symbols l.program files
     (subst (CompilesTo (language_of german) english symbols) (listed-program images (language_of german) image english symbols kept l loads) compiles)
     short.source short.symbols
