@@ -1,7 +1,7 @@
 -- The forms of operands: the payload of each, as the table of forms has it.
 use Rattle.std.specs.Prelude.{ℕ, nat_lt, ◌+◌, ◌-◌, ◌==◌, Bool, true, false, ◌||◌, if◌then◌else◌, List, [], ◌∷◌, Option, Some, None}
 use Rattle.std.specs.Option.{option_map}
-use Rattle.plc_base.specs.Pointer.{area_number, area_of}
+use Rattle.plc_base.specs.Pointer.{area_number, area_numbered}
 use Rattle.plc_base.specs.Widths.{width_number}
 use Rattle.plc_base.specs.declared.blocks.BlockKind.{BlockKind}
 use Rattle.plc_base.specs.declared.blocks.BlockKind.TheVariants as kind
@@ -21,7 +21,7 @@ area_code a = 128 + area_number a
 
 -- the area that a byte names: that of the number above 128; a byte below names none
 abbrev pub area_of_code : ℕ → Option Area
-area_of_code n = if nat_lt n 128 then None else area_of (n - 128)
+area_of_code n = if nat_lt n 128 then None else area_numbered (n - 128)
 
 -- the width that a byte names
 abbrev pub width_of_code : ℕ → Option Width

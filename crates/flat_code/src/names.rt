@@ -1,7 +1,7 @@
 ghost use Rattle.std.specs.Prelude.{◌≡◌};
 ghost use Rattle.std.specs.Cmp.Lexicographic.{slice_cmp};
 ghost use Rattle.std.specs.Ordering.{nat_cmp};
-ghost use Rattle.plc_base.specs.Folding.{folded};
+ghost use Rattle.plc_base.specs.Folding.{upper_case_name};
 ghost use Rattle.flat_code.specs.Faults.{ends_blank, is_before, is_upper};
 ghost use Rattle.flat_code.specs.Names.{IsNames, find as found_among};
 
@@ -74,7 +74,7 @@ pub fn ends_blank(name: &[u8]) -> bool
 
 /// How a name in upper case compares with a name in any case.
 pub fn order_of(upper: &[u8], name: &[u8]) -> Ordering
-    ensures { result ≡ slice_cmp nat_cmp upper.now (folded name.now) }
+    ensures { result ≡ slice_cmp nat_cmp upper.now (upper_case_name name.now) }
 {
     upper
         .iter()

@@ -6,7 +6,7 @@ use Rattle.plc_base.specs.declared.Area.TheVariants as areas
 use Rattle.plc_base.specs.declared.Place.{Place}
 use Rattle.plc_base.specs.declared.Width.{Width}
 use Rattle.plc_base.specs.declared.Width.TheVariants as widths
-use Rattle.plc_base.specs.Pointer.{place_of}
+use Rattle.plc_base.specs.Pointer.{place_at_pointer}
 use Rattle.plc_mem.specs.Areas.{Areas}
 use Rattle.status_word.specs.declared.Bracket.{Bracket}
 use Rattle.status_word.specs.declared.Regs.{Regs}
@@ -118,8 +118,8 @@ named_told access (Some at) width n s = placed_told access at.area (n / 2 ^ 3 % 
 crossing_told : (access : Access) (width : Width) (address n : ℕ) (s : Local) → IfTold (by_crossing access width address n s)
 unfolding by_crossing
 crossing_told access width address n s =
-    either_told (is_aligned width n) (in_named access (place_of address) width n s) (Err (error_of access 0x28))
-    (named_told access (place_of address) width n s) (error_told access 0x28 refl refl)
+    either_told (is_aligned width n) (in_named access (place_at_pointer address) width n s) (Err (error_of access 0x28))
+    (named_told access (place_at_pointer address) width n s) (error_told access 0x28 refl refl)
 
 by_register_told : (access : Access) (area : Option Area) (width : Width) (address bits : ℕ) (s : Local) → IfTold (by_register access area width address bits s)
 by_register_told access (Some area) width address bits s = by_pointer_told access area width _ s

@@ -7,7 +7,7 @@ use Rattle.plc_base.specs.declared.Width.{Width}
 use Rattle.plc_base.specs.declared.Width.TheVariants as widths
 use Rattle.plc_base.specs.declared.Place.{Place}
 use Rattle.plc_base.specs.ErrorCodes as errors
-use Rattle.plc_base.specs.Pointer.{place_of}
+use Rattle.plc_base.specs.Pointer.{place_at_pointer}
 use Rattle.plc_mem.specs.Areas.{Areas}
 use Rattle.plc_mem.specs.Number.{number_at}
 use Rattle.frames.specs.Locals.{LocalData, local_number}
@@ -117,7 +117,7 @@ in_named access (Some named) width n s =
 -- the place of a pointer that names the area itself (manual: area-crossing)
 unfoldable pub by_crossing : Access → Width → (address n : ℕ) → Local → Result Location ℕ
 by_crossing access width address n s =
-    if is_aligned width n then in_named access (place_of address) width n s
+    if is_aligned width n then in_named access (place_at_pointer address) width n s
     else Err (error_of access errors.unaligned)
 
 -- what address register 1 or 2 holds

@@ -2,7 +2,7 @@
 use Rattle.std.specs.Prelude.{◌≡◌, ℕ, ◌<◌, ◌≤◌, List, length, Some, is_some, slice_index}
 use Rattle.std.specs.FinMap as map
 use Rattle.std.specs.Ordering.{nat_cmp}
-use Rattle.plc_base.specs.AreaBytes.{image_size, upper_size}
+use Rattle.plc_base.specs.AreaBytes.{process_image_size, upper_size}
 use Rattle.plc_base.specs.Profiles.{bit_memory_size}
 use Rattle.plc_base.specs.declared.Profile.{Profile}
 use Rattle.plc_mem.specs.Areas.{Areas, PeripheralBytes}
@@ -40,7 +40,7 @@ pub record IsBitMemory (bytes : List ℕ) : Type 0 where
 
 -- The two parts of a peripheral area have their sizes and are made of bytes.
 pub record IsPeripheral (p : PeripheralBytes) : Type 0 where
-  pub low : IsRun image_size p.low
+  pub low : IsRun process_image_size p.low
   pub high : IsRun upper_size p.high
 
 -- Each data block is made of bytes.
@@ -50,13 +50,13 @@ AreBlocks blocks =
 
 -- The two parts of a peripheral area have their sizes.
 pub record HasParts (p : PeripheralBytes) : Type 0 where
-  pub low : length p.low ≡ image_size
+  pub low : length p.low ≡ process_image_size
   pub high : length p.high ≡ upper_size
 
 -- A memory that can be: each area has its size, and memory is made of bytes.
 pub record IsMemory (m : Areas) : Type 0 where
-  pub inputs : IsRun image_size m.inputs
-  pub outputs : IsRun image_size m.outputs
+  pub inputs : IsRun process_image_size m.inputs
+  pub outputs : IsRun process_image_size m.outputs
   pub bit_memory : IsBitMemory m.bit_memory
   pub peripheral_inputs : IsPeripheral m.peripheral_inputs
   pub peripheral_outputs : IsPeripheral m.peripheral_outputs
@@ -64,5 +64,5 @@ pub record IsMemory (m : Areas) : Type 0 where
 
 -- The process image of the outputs has the bytes of the lower part of the peripheral outputs.
 pub record HasImage (m : Areas) : Type 0 where
-  pub image : length m.outputs ≡ image_size
-  pub outputs_low : length m.peripheral_outputs.low ≡ image_size
+  pub image : length m.outputs ≡ process_image_size
+  pub outputs_low : length m.peripheral_outputs.low ≡ process_image_size

@@ -1,6 +1,6 @@
 -- Updating the process images at a cycle point.
 use Rattle.std.specs.Prelude.{◌≡◌, ◌≢◌, ℕ, ◌<◌, ◌≤◌}
-use Rattle.plc_base.specs.AreaBytes.{image_size}
+use Rattle.plc_base.specs.AreaBytes.{process_image_size}
 use Rattle.plc_mem.specs.Areas.{Areas}
 use Rattle.plc_mem.specs.BitPlace.{BitPlace, bit_place, Inputs, Outputs, PeripheralInputs, PeripheralOutputs}
 use Rattle.plc_mem.specs.Bits.{bit_at}
@@ -19,15 +19,15 @@ refreshed m = record m {
 pub record IsRefreshed (old new : Areas) : Type 0 where
   pub inputs :
       (byte bit : ℕ)
-      → byte < image_size
+      → byte < process_image_size
       → bit_at new (bit_place Inputs byte bit) ≡ bit_at old (bit_place PeripheralInputs byte bit)
   pub outputs :
       (byte bit : ℕ)
-      → byte < image_size
+      → byte < process_image_size
       → bit_at new (bit_place PeripheralOutputs byte bit) ≡ bit_at old (bit_place Outputs byte bit)
   pub upper_outputs :
       (byte bit : ℕ)
-      → image_size ≤ byte
+      → process_image_size ≤ byte
       → bit_at new (bit_place PeripheralOutputs byte bit) ≡ bit_at old (bit_place PeripheralOutputs byte bit)
   pub others :
       (place : BitPlace)

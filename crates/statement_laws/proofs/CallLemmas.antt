@@ -5,7 +5,7 @@ use Rattle.std.specs.Option.{option_map, option_and_then}
 use Rattle.std.proofs.lemmas.Bool.{false≢true}
 use Rattle.std.proofs.lemmas.List.{map-append}
 use Rattle.std.proofs.lemmas.Option.{same_Some}
-use Rattle.plc_base.specs.Folding.{folded}
+use Rattle.plc_base.specs.Folding.{upper_case_name}
 use Rattle.plc_base.specs.Kinds.{is_function, is_function_block, is_system_function}
 use Rattle.plc_base.specs.declared.blocks.BlockId.{BlockId}
 use Rattle.plc_base.specs.declared.places.Area.{Area}
@@ -231,16 +231,16 @@ Known c (Some a) = IsNamedActual c a
 
 found_same : (c : Context) (name : List ℕ) (actuals : List Actual)
     → AllByRecursion (IsNamedActual c) actuals
-    → (find (λ (a : Actual). bytes_eq (folded a.name) name) actuals ≡ own.actual_for name actuals)
+    → (find (λ (a : Actual). bytes_eq (upper_case_name a.name) name) actuals ≡ own.actual_for name actuals)
     × Known c (own.actual_for name actuals)
 found_same c name [] h = (refl, tt)
 found_same c name (a ∷ actuals) h =
-    by (bytes_eq (folded a.name) name) (found_same c name actuals h.1)
+    by (bytes_eq (upper_case_name a.name) name) (found_same c name actuals h.1)
   where
     by : (b : Bool)
-        → (find (λ (a : Actual). bytes_eq (folded a.name) name) actuals ≡ own.actual_for name actuals)
+        → (find (λ (a : Actual). bytes_eq (upper_case_name a.name) name) actuals ≡ own.actual_for name actuals)
         × Known c (own.actual_for name actuals)
-        → ((if b then Some a else find (λ (a : Actual). bytes_eq (folded a.name) name) actuals)
+        → ((if b then Some a else find (λ (a : Actual). bytes_eq (upper_case_name a.name) name) actuals)
         ≡ (if b then Some a else own.actual_for name actuals))
         × Known c (if b then Some a else own.actual_for name actuals)
     by true more = (refl, h.0)

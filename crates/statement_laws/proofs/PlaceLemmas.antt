@@ -1,6 +1,6 @@
 -- The machine's places, numbers and writing are those of the laws.
 use Rattle.std.proofs.Common.{ℕ, ◌≡◌, Bool, ◌&&◌, Option, Some, None, Result, Ok, Err, ok_or, option_map, if◌then◌else◌, refl, ◌∙◌, ap, ap₂}
-use Rattle.plc_base.specs.Pointer.{place_of}
+use Rattle.plc_base.specs.Pointer.{place_at_pointer}
 use Rattle.plc_base.specs.declared.places.Area.{Area}
 use Rattle.plc_base.specs.declared.places.Area.TheVariants as area
 use Rattle.plc_base.specs.declared.places.Place.{Place}
@@ -133,10 +133,10 @@ pub crossing_same : (access : Access) (w : Width) (address n : ℕ) (p : ExecSta
 unfolding places.by_crossing own.place_of_crossing
 crossing_same access w address n p =
     if_same (places.is_aligned w n) (own.is_whole w n)
-    (places.in_named access (place_of address) w n p.local)
+    (places.in_named access (place_at_pointer address) w n p.local)
     (own.in_area_of access (own.area_of address) w n p)
     (Err (places.error_of access 0x28)) (Err (own.bad_bit access))
-    (whole_same w n) (named_same access (place_of address) w n p) (ap Err (bit_error access))
+    (whole_same w n) (named_same access (place_at_pointer address) w n p) (ap Err (bit_error access))
 
 -- ---- writing
 

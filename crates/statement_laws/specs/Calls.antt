@@ -3,7 +3,7 @@
 use Rattle.std.specs.Prelude.{ℕ, suc, nat_eq, Bool, true, false, List, [], ◌∷◌, ◌++◌, map, length, replicate, codes, slice_get, Option, Some, None, Result, Ok, Err, bytes_eq, if◌then◌else◌}
 use Rattle.std.specs.List.{flat_map}
 use Rattle.std.specs.Option.{option_and_then}
-use Rattle.plc_base.specs.Folding.{folded}
+use Rattle.plc_base.specs.Folding.{upper_case_name}
 use Rattle.plc_base.specs.Kinds.{is_system_function}
 use Rattle.plc_base.specs.declared.blocks.BlockId.{BlockId}
 use Rattle.plc_base.specs.declared.places.Area.TheVariants as area
@@ -99,7 +99,7 @@ parameter_names c id =
 abbrev pub actual_for : List ℕ → List Actual → Option Actual
 actual_for name [] = None
 actual_for name (a ∷ actuals) =
-    if bytes_eq (folded a.name) name then Some a else actual_for name actuals
+    if bytes_eq (upper_case_name a.name) name then Some a else actual_for name actuals
 
 -- a constant, a place, a place in a data block that is named, or a parameter of the caller is passed
 abbrev pub if_passable : Named → Option Named

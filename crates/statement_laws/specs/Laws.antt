@@ -2,7 +2,7 @@
 use Rattle.std.specs.Prelude.{◌≡◌, ℕ, Bool, true, false, not, ◌||◌, is_some, List, ◌∷◌, ◌++◌, ◌+◌, length, slice_get, Option, Some, Result, nat_eq, ◌&&◌}
 use Rattle.std.specs.List.{AllByRecursion}
 use Rattle.std.specs.Option.{option_and_then}
-use Rattle.plc_base.specs.Folding.{folded}
+use Rattle.plc_base.specs.Folding.{upper_case_name}
 use Rattle.plc_base.specs.declared.blocks.BlockId.{BlockId}
 use Rattle.stl_ast.specs.Statements.{is_empty}
 use Rattle.stl_ast.specs.declared.blocks.Block.{Block}
@@ -310,7 +310,7 @@ is_variable _ = false
 -- no index of its path lies outside its array
 abbrev pub stays_inside : Context → Operand → Bool
 stays_inside c (operand.Named (head.Local name) steps) =
-    not (leaves_local c.layouts c.block (folded name) (folded_path steps))
+    not (leaves_local c.layouts c.block (upper_case_name name) (folded_path steps))
 stays_inside c (operand.Named (head.InBlock name) steps) =
     not (leaves_judged c.layouts (option_and_then (structure_of c.layouts) (data_place c name))
     (folded_path steps))

@@ -2,7 +2,7 @@
 -- address, a variable by its place in the layout.
 use Rattle.std.specs.Prelude.{ℕ, zero, suc, ◌+◌, ◌-◌, ◌*◌, nat_eq, Bool, true, false, is_some, List, [], ◌∷◌, length, codes, slice_get, Option, Some, None, if◌then◌else◌}
 use Rattle.std.specs.Option.{option_map, option_and_then}
-use Rattle.plc_base.specs.Folding.{folded, is_same_name}
+use Rattle.plc_base.specs.Folding.{upper_case_name, is_same_name}
 use Rattle.plc_base.specs.Kinds.{is_function}
 use Rattle.plc_base.specs.declared.blocks.BlockId.{BlockId}
 use Rattle.plc_base.specs.declared.places.Area.{Area}
@@ -221,7 +221,7 @@ named_by c (operand.OpenBlock di name) =
 named_by c (operand.Named (head.Symbol name) steps) =
     option_and_then target_named (symbol_target c name)
 named_by c (operand.Named (head.Local name) steps) =
-    variable_named c (folded name) (folded_path steps)
+    variable_named c (upper_case_name name) (folded_path steps)
 named_by c (operand.Named (head.InBlock name) steps) = component_named c name (folded_path steps)
 named_by c (operand.Called name None) =
     option_map (λ id. named.Called id None) (block_named c name)

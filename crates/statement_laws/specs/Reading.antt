@@ -4,8 +4,8 @@
 use Rattle.std.specs.Prelude.{ℕ, ◌+◌, ◌-◌, ◌*◌, ◌/◌, ◌%◌, ◌^◌, ◌==◌, Bool, true, false, List, [], ◌∷◌, length, slice_get, ℤ, pos, negsuc, Option, Some, None, Result, Ok, Err, ok_or, if◌then◌else◌}
 use Rattle.std.specs.Option.{option_map}
 use Rattle.plc_base.specs.Bcd.{bcd_digits}
-use Rattle.plc_base.specs.Pointer.{place_of}
-use Rattle.plc_base.specs.S5Time.{s5time_of}
+use Rattle.plc_base.specs.Pointer.{place_at_pointer}
+use Rattle.plc_base.specs.S5Time.{s5time_of_ms}
 use Rattle.plc_base.specs.declared.places.Area.{Area}
 use Rattle.plc_base.specs.declared.places.Area.TheVariants as area
 use Rattle.plc_base.specs.declared.places.Width.{Width}
@@ -56,7 +56,7 @@ bits (literal.Dword value) = value
 bits (literal.Long value) = twos_complement 32 value
 bits (literal.Count value) = bcd_digits 3 value
 bits (literal.Time ms) = twos_complement 32 ms
-bits (literal.S5time ms) = or_zero (s5time_of ms)
+bits (literal.S5time ms) = or_zero (s5time_of_ms ms)
 bits (literal.Characters bytes) = number_behind 0 bytes
 bits (literal.Bytes bytes) = number_behind 0 bytes
 
@@ -146,7 +146,7 @@ fixed_place access a width byte bit p =
 
 -- the area of an address; none, too, where its bit 31 is 0
 abbrev pub area_of : (address : ℕ) → Option Area
-area_of address = option_map (λ place. place.area) (place_of address)
+area_of address = option_map (λ place. place.area) (place_at_pointer address)
 
 -- where a pointer leads in the area of an address (manual: area-crossing)
 abbrev pub in_area_of : Access → Option Area → Width → (pointer : ℕ) → ExecState → Result Location ℕ

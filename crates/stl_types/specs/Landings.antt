@@ -9,7 +9,7 @@ use Rattle.stl_ast.specs.declared.blocks.Block.{Block}
 use Rattle.stl_ast.specs.declared.operands.Operand.{Operand}
 use Rattle.stl_ast.specs.declared.operands.Operand.TheVariants as operand
 use Rattle.stl_ast.specs.declared.statements.Statement.{Statement}
-use Rattle.plc_base.specs.Gathered.{gathered}
+use Rattle.plc_base.specs.Gathered.{refusals_along}
 use Rattle.plc_base.specs.Least.{broken_if}
 use Rattle.stl_symbols.specs.Names.{place_of}
 use Rattle.stl_types.specs.Bodies.{in_bodies}
@@ -87,7 +87,7 @@ crosses labels landings n _ = false
 abbrev pub crossing_jumps : (labels : List (List ℕ)) → List Landing → List Statement
     → List Refusal
 crossing_jumps labels landings body =
-    gathered (λ s. false) (λ n s. broken_if (crosses labels landings n s.operand) s.line 33)
+    refusals_along (λ s. false) (λ n s. broken_if (crosses labels landings n s.operand) s.line 33)
     nesting_behind outside body
 
 -- rule 33, in all bodies

@@ -1,7 +1,7 @@
 -- A timer of STEP 7: what the instructions and a passing millisecond do to it.
 use Rattle.std.specs.Prelude.{◌≡◌, ℕ, ◌-◌, ◌*◌, ◌<◌, ◌≤◌, nat_le, Bool, true, false, not, ◌&&◌, ◌==◌, if◌then◌else◌, Option, Some, option_map}
 use Rattle.std.specs.Int.{div_ceil}
-use Rattle.plc_base.specs.S5Time.{unit_of, base_of_s5time, s5time_of_units, ms_of}
+use Rattle.plc_base.specs.S5Time.{unit_of, base_of_s5time, s5time_of_units, ms_of_s5time}
 use Rattle.plc_base.specs.declared.s5times.TimeBase.{TimeBase}
 use Rattle.plc_base.specs.declared.s5times.TimeBase.TheVariants.{TenMs}
 use Rattle.plc_base.specs.declared.instructions.TimerKind.{TimerKind}
@@ -73,7 +73,7 @@ running_for kind value ms output timer =
 -- the timer is started with an S5TIME; none where a digit of it is above 9
 abbrev pub run : TimerKind → ℕ → Bool → Timer → Option Timer
 run kind value output timer =
-    option_map (λ ms. running_for kind value ms output timer) (ms_of value)
+    option_map (λ ms. running_for kind value ms output timer) (ms_of_s5time value)
 
 -- the timer stands still with the output; the milliseconds left stay
 abbrev pub stopped : Bool → Timer → Timer

@@ -6,7 +6,7 @@ use Rattle.std.specs.Option.{is_none}
 use Rattle.std.proofs.lemmas.Bool.{eqb-true, or_parts}
 use Rattle.std.proofs.lemmas.List.{length-map}
 use Rattle.std.proofs.lemmas.Option.{same_Some}
-use Rattle.plc_base.specs.Folding.{folded}
+use Rattle.plc_base.specs.Folding.{upper_case_name}
 use Rattle.plc_base.specs.Kinds.{is_callable, is_code, is_data_type, is_function, is_function_block, is_system_function, kind_number}
 use Rattle.plc_base.specs.Widths.{width_number}
 use Rattle.plc_base.specs.declared.blocks.BlockId.{BlockId}
@@ -179,7 +179,7 @@ known_function id e sys = by (system_formals id.number) refl (sym (ap (λ (t : B
     by None is k = absurd cc
     by (Some fs) is k = (fs, is)
 
-own_seen : (c : Context) (own : List Formal) (index : ℕ) → seen c (own_named own index) ≡ own_variable c (folded (name_at own index)) []
+own_seen : (c : Context) (own : List Formal) (index : ℕ) → seen c (own_named own index) ≡ own_variable c (upper_case_name (name_at own index)) []
 unfolding seen
 own_seen c own index = refl
 
@@ -279,7 +279,7 @@ module _ (source file : List ℕ) (symbols : List Symbol) (t : Tree) (accepted :
             formal = found.0;
             there = found.1;
             as_listed = found.2;
-            sees = own_seen listed own index ∙ ap (λ n. own_variable listed (folded n) []) (name_there own index found.0 found.1)
+            sees = own_seen listed own index ∙ ap (λ n. own_variable listed (upper_case_name n) []) (name_there own index found.0 found.1)
                 ∙ formal_again symbols t others again (compiled sb) here_listed function index found.0 found.1;
           }
 

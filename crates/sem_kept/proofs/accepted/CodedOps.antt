@@ -38,7 +38,7 @@ use Rattle.stl_ast.specs.declared.operands.Operand.{Operand}
 use Rattle.stl_ast.specs.declared.operands.Operand.TheVariants as operand
 use Rattle.stl_ast.specs.declared.statements.Actual.{Actual}
 use Rattle.stl_ast.specs.declared.statements.Statement.{Statement}
-use Rattle.plc_base.specs.Folding.{folded}
+use Rattle.plc_base.specs.Folding.{upper_case_name}
 use Rattle.plc_base.specs.Kinds.{is_callable as is_callable_kind, kind_number}
 use Rattle.stl_types.specs.Constants.{takes_constant}
 use Rattle.stl_types.specs.Context.{Context}
@@ -371,7 +371,7 @@ passed_good c actuals index [] all few = record { parts = tt; few = omega arith 
 passed_good c actuals index (f ∷ fs) all few =
     passed_one c index (supplied actuals f) (passings_from c actuals (suc index) fs) (length fs)
     (omega (arith, few))
-    (found_holds (IsActualOf c) (λ a. bytes_eq (folded a.name) f.name) actuals all)
+    (found_holds (IsActualOf c) (λ a. bytes_eq (upper_case_name a.name) f.name) actuals all)
     (passed_good c actuals (suc index) fs all (omega (arith, few)))
 
 in_order_length : (b : Option Block) (formals : List Formal)

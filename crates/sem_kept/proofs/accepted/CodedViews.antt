@@ -29,7 +29,7 @@ use Rattle.stl_ast.specs.declared.operands.Operand.{Operand}
 use Rattle.stl_ast.specs.declared.operands.Operand.TheVariants as operand
 use Rattle.stl_ast.specs.declared.operands.PathHead.{PathHead}
 use Rattle.stl_ast.specs.declared.operands.PathHead.TheVariants as head
-use Rattle.plc_base.specs.Folding.{folded, is_same_name}
+use Rattle.plc_base.specs.Folding.{upper_case_name, is_same_name}
 use Rattle.stl_symbols.specs.Symbol.{Symbol, symbol_named}
 use Rattle.stl_symbols.specs.declared.targets.Target.{Target}
 use Rattle.stl_symbols.specs.declared.targets.Target.TheVariants as target
@@ -359,7 +359,7 @@ target_fits o (target.Block id) h = tt
 
 path_fits : (c : Context) (o : Operand) (p : PathHead) (steps : List PathStep) → IsFit c
     → SeenFits o (path_seen c p steps)
-path_fits c o (head.Local name) steps fit = own_fits c o (folded name) (folded_path steps) fit
+path_fits c o (head.Local name) steps fit = own_fits c o (upper_case_name name) (folded_path steps) fit
 path_fits c o (head.InBlock name) steps fit = data_variable_fits c o name (folded_path steps) fit
 path_fits c o (head.Symbol name) steps fit =
     by (symbol_named name c.symbols) (symbol_fits name c.symbols fit.symbols)

@@ -39,7 +39,7 @@ use Rattle.stl_ast.specs.declared.operands.Operand.{Operand}
 use Rattle.stl_ast.specs.declared.operands.Operand.TheVariants as operand
 use Rattle.stl_ast.specs.declared.statements.Actual.{Actual}
 use Rattle.stl_ast.specs.declared.statements.Statement.{Statement}
-use Rattle.plc_base.specs.Folding.{folded}
+use Rattle.plc_base.specs.Folding.{upper_case_name}
 use Rattle.stl_symbols.specs.Names.{place_of}
 use Rattle.stl_symbols.specs.Symbol.{Symbol}
 use Rattle.block_layout.specs.Blocks.{id_of, is_any, is_block_number, known_block, named_block}
@@ -150,26 +150,26 @@ swapped xs ys e = by (bytes_eq xs ys) (bytes_eq ys xs) (bytes_eq-Decides xs ys) 
     by false t h k e = absurd cc
 
 supplied_there : (actuals : List Actual) (f : Formal)
-    → is_some (place_of f.name (map (λ (x : Actual). folded x.name) actuals)) ≡ true
+    → is_some (place_of f.name (map (λ (x : Actual). upper_case_name x.name) actuals)) ≡ true
     → (x : Actual) × (supplied actuals f ≡ Some x)
 supplied_there [] f e = absurd cc
 supplied_there (z ∷ zs) f e =
-    by (bytes_eq (folded z.name) f.name) (bytes_eq f.name (folded z.name)) refl refl e (supplied_there zs f)
+    by (bytes_eq (upper_case_name z.name) f.name) (bytes_eq f.name (upper_case_name z.name)) refl refl e (supplied_there zs f)
   where
     some_suc : (o : Option ℕ) → is_some (option_map (λ k. suc k) o) ≡ true → is_some o ≡ true
     some_suc None h = absurd cc
     some_suc (Some m) h = refl
 
-    by : (s t : Bool) → bytes_eq (folded z.name) f.name ≡ s → bytes_eq f.name (folded z.name) ≡ t
-        → is_some (if t then Some 0 else option_map (λ k. suc k) (place_of f.name (map (λ (x : Actual). folded x.name) zs))) ≡ true
-        → (is_some (place_of f.name (map (λ (x : Actual). folded x.name) zs)) ≡ true → (x : Actual) × (supplied zs f ≡ Some x))
-        → (x : Actual) × ((if s then Some z else find (λ x. bytes_eq (folded x.name) f.name) zs) ≡ Some x)
+    by : (s t : Bool) → bytes_eq (upper_case_name z.name) f.name ≡ s → bytes_eq f.name (upper_case_name z.name) ≡ t
+        → is_some (if t then Some 0 else option_map (λ k. suc k) (place_of f.name (map (λ (x : Actual). upper_case_name x.name) zs))) ≡ true
+        → (is_some (place_of f.name (map (λ (x : Actual). upper_case_name x.name) zs)) ≡ true → (x : Actual) × (supplied zs f ≡ Some x))
+        → (x : Actual) × ((if s then Some z else find (λ x. bytes_eq (upper_case_name x.name) f.name) zs) ≡ Some x)
     by true t g h e more = (z, refl)
     by false true g h e more =
-        let other : bytes_eq (folded z.name) f.name ≡ true = swapped f.name (folded z.name) h in
+        let other : bytes_eq (upper_case_name z.name) f.name ≡ true = swapped f.name (upper_case_name z.name) h in
         absurd cc
     by false false g h e more =
-        more (some_suc (place_of f.name (map (λ (x : Actual). folded x.name) zs)) e)
+        more (some_suc (place_of f.name (map (λ (x : Actual). upper_case_name x.name) zs)) e)
 
 all_supplied : (actuals : List Actual) (fs : List Formal)
     → list_all (is_supplied (supplied_names actuals)) fs ≡ true → AreSupplied actuals fs
@@ -856,8 +856,8 @@ operand_passed c f (operand.Called n i) v is e = other_passed c f (operand.Calle
 good_passed : (a : Around) (c : Context) (formals : List Formal) (x : Actual)
     → IsGoodActual a c formals x → names_none formals x ≡ false → HasPassed c x
 good_passed a c formals x good named =
-    let f = formal_there formals (folded x.name)
-    (not-false (list_any (λ (f : Formal). bytes_eq (folded x.name) f.name) formals) named) in
+    let f = formal_there formals (upper_case_name x.name)
+    (not-false (list_any (λ (f : Formal). bytes_eq (upper_case_name x.name) f.name) formals) named) in
     operand_passed c f.0 x.value good.seen.view good.seen.is
     (not-false (fits_operand c f.0 x.value) (ap (misfits c x) (sym f.1) ∙ good.fits))
 

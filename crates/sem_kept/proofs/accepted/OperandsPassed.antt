@@ -26,7 +26,7 @@ use Rattle.stl_ast.specs.declared.mnemonics.Mnemonic.TheVariants as code
 use Rattle.stl_ast.specs.declared.operands.Operand.{Operand}
 use Rattle.stl_ast.specs.declared.operands.Operand.TheVariants as operand
 use Rattle.stl_ast.specs.declared.statements.Actual.{Actual}
-use Rattle.plc_base.specs.Folding.{folded}
+use Rattle.plc_base.specs.Folding.{upper_case_name}
 use Rattle.plc_base.proofs.TruthLemmas.{and_first, and_second}
 use Rattle.block_layout.specs.Fits.{bits_of, fits}
 use Rattle.block_layout.specs.Offsets.{width_of}
@@ -312,10 +312,10 @@ pub supplied_passes : (a : Around) (c : Context) (formals : List Formal) (actual
 supplied_passes a c formals actuals f r x good found h e =
     passes a c f r x.value one.0.seen one.0.well one.0.bytes h
     (not-false (fits_operand c f x.value)
-    (ap (misfits c x) (sym (found (folded x.name) one.1)) ∙ one.0.fits))
+    (ap (misfits c x) (sym (found (upper_case_name x.name) one.1)) ∙ one.0.fits))
   where
-    one : IsGoodActual a c formals x × (bytes_eq (folded x.name) f.name ≡ true)
-    one = found_holds (IsGoodActual a c formals) (λ x. bytes_eq (folded x.name) f.name) actuals x good e
+    one : IsGoodActual a c formals x × (bytes_eq (upper_case_name x.name) f.name ≡ true)
+    one = found_holds (IsGoodActual a c formals) (λ x. bytes_eq (upper_case_name x.name) f.name) actuals x good e
 
 -- indices from one on are above what was passed before
 abbrev Under : (before : Option ℕ) → ℕ → Type 0

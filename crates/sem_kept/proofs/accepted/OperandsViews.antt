@@ -38,7 +38,7 @@ use Rattle.stl_ast.specs.declared.operands.PathHead.{PathHead}
 use Rattle.stl_ast.specs.declared.operands.PathHead.TheVariants as head
 use Rattle.stl_ast.specs.declared.statements.Actual.{Actual}
 use Rattle.stl_ast.specs.declared.statements.Statement.{Statement}
-use Rattle.plc_base.specs.Folding.{folded}
+use Rattle.plc_base.specs.Folding.{upper_case_name}
 use Rattle.stl_symbols.specs.Symbol.{Symbol, has_symbols, symbol_named}
 use Rattle.stl_symbols.specs.declared.targets.Target.{Target}
 use Rattle.stl_symbols.specs.declared.targets.Target.TheVariants as target
@@ -986,7 +986,7 @@ module _ (symbols : List Symbol) (t : Tree) (tree : IsSoundTree symbols t)
       → leaves_path (types_of symbols t.blocks) (layouts_of t symbols) k p steps ≡ false
       → IsSeen a (path_seen (context_at symbols t k) p steps)
   path_fits (head.Local name) steps known there inside =
-      own_seen symbols t tree k b l block code a around (folded name) (folded_path steps) known inside
+      own_seen symbols t tree k b l block code a around (upper_case_name name) (folded_path steps) known inside
   path_fits (head.InBlock name) steps known there inside =
       data_seen symbols t tree k a name (folded_path steps) there known inside
   path_fits (head.Symbol name) steps known there inside =

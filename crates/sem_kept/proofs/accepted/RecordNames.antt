@@ -20,7 +20,7 @@ use Rattle.flat_code.specs.Image.{bytes_fit, name_record, name_rows, name_len, n
 use Rattle.flat_code.specs.Layout.{is_fine}
 use Rattle.flat_code.specs.Programs.{NameEntry}
 use Rattle.flat_code.proofs.CheckLemmas.{text_good}
-use Rattle.plc_base.specs.Folding.{folded, is_same_name}
+use Rattle.plc_base.specs.Folding.{upper_case_name, is_same_name}
 use Rattle.stl_symbols.specs.Laws.{AreApart as AreOther, Passes}
 use Rattle.stl_symbols.specs.Symbol.{IsFirstBit, IsSymbol, IsTarget as IsAddressed, Symbol}
 use Rattle.plc_base.specs.Texts.{is_blank}
@@ -134,21 +134,21 @@ record IsEntry (e : NameEntry) : Type 0 where
   named : has_name e.place.area ≡ true
   place : IsPlaced e.place e.width
 
-upper_fits : (name : List ℕ) → OfBytes name → bytes_fit (folded name) ≡ true
+upper_fits : (name : List ℕ) → OfBytes name → bytes_fit (upper_case_name name) ≡ true
 upper_fits [] h = refl
 upper_fits (b ∷ bs) h = and_from _ _ (here b h.0) (upper_fits bs h.1)
   where
     here : (b : ℕ) → b < 256 → ltb (to_ascii_uppercase b) 256 ≡ true
     here b low = grind (arith, nat_tests)
 
-upper_is : (name : List ℕ) → is_upper (folded name) ≡ true
+upper_is : (name : List ℕ) → is_upper (upper_case_name name) ≡ true
 upper_is [] = refl
 upper_is (b ∷ bs) = and_from _ _ (here b) (upper_is bs)
   where
     here : (b : ℕ) → not (lies_within 97 122 (to_ascii_uppercase b)) ≡ true
     here b = grind (arith, nat_tests)
 
-upper_ends : (name : List ℕ) → ends_blank (folded name) ≡ ends_blank name
+upper_ends : (name : List ℕ) → ends_blank (upper_case_name name) ≡ ends_blank name
 upper_ends [] = refl
 upper_ends (b ∷ []) = here b
   where
@@ -163,7 +163,7 @@ entry_of s h = by s.target h.place
     by (target.Variable place w) at = here (has_name place.area) refl
       where
         here : (b : Bool) → has_name place.area ≡ b
-            → AllByRecursion IsEntry (if b then record { name = folded s.name; place = place; width = w } ∷ [] else [])
+            → AllByRecursion IsEntry (if b then record { name = upper_case_name s.name; place = place; width = w } ∷ [] else [])
         here true e = (
           record {
             some = subst (λ (n : ℕ). 1 ≤ n) (sym (length-map s.name to_ascii_uppercase)) h.some;
@@ -214,11 +214,11 @@ apart_names a b other = by (is_before a b) (is_before b a) refl refl
         let same : bytes_eq b a ≡ true = (bytes_eq-Decides b a).1 (sym (alike a b e f)) in absurd cc
 
 -- an entry with the name of its symbol
-named_so : (name : List ℕ) (t : Target) → AllByRecursion (λ (e : NameEntry). e.name ≡ folded name) (name_entry name t)
+named_so : (name : List ℕ) (t : Target) → AllByRecursion (λ (e : NameEntry). e.name ≡ upper_case_name name) (name_entry name t)
 named_so name (target.Variable place w) = by (has_name place.area)
   where
-    by : (b : Bool) → AllByRecursion (λ (e : NameEntry). e.name ≡ folded name)
-        (if b then record { name = folded name; place = place; width = w } ∷ [] else [])
+    by : (b : Bool) → AllByRecursion (λ (e : NameEntry). e.name ≡ upper_case_name name)
+        (if b then record { name = upper_case_name name; place = place; width = w } ∷ [] else [])
     by true = (refl, tt)
     by false = tt
 named_so name (target.Timer n) = tt
@@ -228,16 +228,16 @@ named_so name (target.Block id) = tt
 entries : List Symbol → List NameEntry
 entries symbols = flat_map (λ s. name_entry s.name s.target) symbols
 
-differ_all : (name : List ℕ) (e : NameEntry) (es : List NameEntry) (other : List ℕ) → e.name ≡ folded name
-    → is_same_name other name ≡ false → AllByRecursion (λ (x : NameEntry). x.name ≡ folded other) es
+differ_all : (name : List ℕ) (e : NameEntry) (es : List NameEntry) (other : List ℕ) → e.name ≡ upper_case_name name
+    → is_same_name other name ≡ false → AllByRecursion (λ (x : NameEntry). x.name ≡ upper_case_name other) es
     → AllByRecursion (Differ is_name_before e) es
 differ_all name e [] other h k l = tt
 differ_all name e (x ∷ es) other h k l = (
-  apart_names e.name x.name (ap (λ (z : List ℕ). bytes_eq z e.name) l.0 ∙ ap (bytes_eq (folded other)) h ∙ k),
+  apart_names e.name x.name (ap (λ (z : List ℕ). bytes_eq z e.name) l.0 ∙ ap (bytes_eq (upper_case_name other)) h ∙ k),
   differ_all name e es other h k l.1,
 )
 
-differ_rest : (name : List ℕ) (e : NameEntry) (symbols : List Symbol) → e.name ≡ folded name
+differ_rest : (name : List ℕ) (e : NameEntry) (symbols : List Symbol) → e.name ≡ upper_case_name name
     → AllByRecursion (λ (y : Symbol). is_same_name y.name name ≡ false) symbols
     → AllByRecursion (Differ is_name_before e) (entries symbols)
 unfolding entries
@@ -257,8 +257,8 @@ entries_apart (s ∷ symbols) h = by s.target (entries_apart symbols h.1)
     by (target.Variable place w) more = here (has_name place.area)
       where
         here : (b : Bool) → AreApart is_name_before
-            ((if b then record { name = folded s.name; place = place; width = w } ∷ [] else []) ++ entries symbols)
-        here true = (differ_rest s.name (record { name = folded s.name; place = place; width = w }) symbols refl h.0, more)
+            ((if b then record { name = upper_case_name s.name; place = place; width = w } ∷ [] else []) ++ entries symbols)
+        here true = (differ_rest s.name (record { name = upper_case_name s.name; place = place; width = w }) symbols refl h.0, more)
         here false = more
     by (target.Timer n) more = more
     by (target.Counter n) more = more
