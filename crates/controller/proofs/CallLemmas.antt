@@ -6,7 +6,7 @@ use Rattle.plc_base.specs.declared.Mode.{Mode}
 use Rattle.plc_base.specs.declared.Spot.{Spot}
 use Rattle.plc_base.specs.Widths.{bit_count}
 use Rattle.plc_mem.specs.Areas.{Areas}
-use Rattle.plc_mem.specs.Writing.{written}
+use Rattle.plc_mem.specs.Writing.{number_written}
 use Rattle.status_word.specs.declared.Regs.{Regs}
 use Rattle.frames.specs.Locals.{LocalData, local_written}
 use Rattle.frames.specs.declared.Activation.{Activation}
@@ -227,7 +227,7 @@ unfolding write
 bound_regs (binding.Bound place width frame) value c =
     put_regs (is_local place.area)
     (local_written c.local.locals frame place.byte place.bit width (value % 2 ^ bit_count width))
-    (written c.memory place width (value % 2 ^ bit_count width)) _ c
+    (number_written c.memory place width (value % 2 ^ bit_count width)) _ c
 bound_regs (binding.Constant n) value c = refl
 bound_regs binding.Unsupplied value c = refl
 

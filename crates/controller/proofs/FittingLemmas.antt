@@ -11,11 +11,11 @@ use Rattle.plc_base.specs.declared.BlockId.{BlockId}
 use Rattle.plc_base.specs.declared.Mode.TheVariants.{Run, Startup}
 use Rattle.plc_base.specs.declared.Spot.{Spot}
 use Rattle.plc_mem.specs.Areas.{Areas}
-use Rattle.plc_mem.specs.Fresh.{fresh}
+use Rattle.plc_mem.specs.Fresh.{initial_memory}
 use Rattle.plc_mem.specs.Peripherals.{with_input, outputs_cleared}
-use Rattle.plc_mem.specs.Refresh.{refreshed}
-use Rattle.plc_mem.specs.Restart.{bits_retained, memory_cleared}
-use Rattle.plc_mem.specs.Writing.{written}
+use Rattle.plc_mem.specs.Refresh.{memory_refreshed}
+use Rattle.plc_mem.specs.Restart.{retained_bit_memory, memory_after_restart}
+use Rattle.plc_mem.specs.Writing.{number_written}
 use Rattle.frames.specs.Activations.{begun, with_local_byte}
 use Rattle.frames.specs.declared.Activation.{Activation}
 use Rattle.frames.specs.declared.bindings.Binding.{Binding}
@@ -76,7 +76,7 @@ memory_stays : (p : Program) (m n : Areas) → SameSizes m n → IsMemoryOf (cod
     → IsMemoryOf (code_of p) n
 memory_stays p m n same is = record {
   profile = is.profile;
-  sizes = sizes_then (fresh is.profile (code_of p).blocks) m n is.sizes same;
+  sizes = sizes_then (initial_memory is.profile (code_of p).blocks) m n is.sizes same;
 }
 
 all_stay : (l : MachineLaws) (p : Program) (m n : Areas) (activations : List Activation) → SameSizes m n
@@ -454,12 +454,12 @@ statement_fits l p Stuck a at below s verifies lasts same rest standing fit = ab
 
 passed_fits : (l : MachineLaws) (p : Program) (s : State) → IsFit p s → IsFit p (cycle_passed s)
 passed_fits l p s fit =
-    let same : SameSizes s.world.memory (refreshed s.world.memory) =
+    let same : SameSizes s.world.memory (memory_refreshed s.world.memory) =
     l.refreshes p s.world.memory fit.memory in
     record {
-      memory = memory_stays p s.world.memory (refreshed s.world.memory) same fit.memory;
+      memory = memory_stays p s.world.memory (memory_refreshed s.world.memory) same fit.memory;
       activations =
-          all_stay l p s.world.memory (refreshed s.world.memory) s.activations same fit.activations;
+          all_stay l p s.world.memory (memory_refreshed s.world.memory) s.activations same fit.activations;
       standing = fit.standing;
       sched = cycle_schedule s.sched fit.sched;
     }
@@ -471,7 +471,7 @@ cycle_fits l p s verifies idle running fit =
     let next : IsFit p (cycle_passed s) = passed_fits l p s fit in
     begins_above p (class_in s.mode 1) 1
     (ob_in s.profile (code_of p) (class_in s.mode 1) 1 (cycle_info s)) (cycle_passed s)
-    (ob_fits s.profile l p (refreshed s.world.memory) (class_in s.mode 1) 1 (cycle_info s) verifies next.memory)
+    (ob_fits s.profile l p (memory_refreshed s.world.memory) (class_in s.mode 1) 1 (cycle_info s) verifies next.memory)
     (ob_is s.profile (code_of p) (class_in s.mode 1) 1 (cycle_info s))
     (cycle_may_begin s.mode s.activations idle running fit.standing) next
 
@@ -568,7 +568,7 @@ started_up_fits p (Some a) s one is idle fit = record {
 
 -- a restart changes no size
 bits_length : (profile : Profile) (bits : List ℕ) → length bits ≡ bit_memory_size profile
-    → length (bits_retained bits) ≡ length bits
+    → length (retained_bit_memory bits) ≡ length bits
 bits_length profile bits is =
     let cut : List ℕ = replicate (length bits - 16) 0 in
     let count : length cut ≡ length bits - 16 = length-replicate {A = ℕ} (length bits - 16) 0 in
@@ -578,13 +578,13 @@ bits_length profile bits is =
     some Small bits is = omega (arith, is)
     some Large bits is = omega (arith, is)
 
-first_bits : (profile : Profile) (blocks : List (ℕ × List ℕ)) → length (fresh profile blocks).bit_memory ≡ bit_memory_size profile
-unfolding fresh
+first_bits : (profile : Profile) (blocks : List (ℕ × List ℕ)) → length (initial_memory profile blocks).bit_memory ≡ bit_memory_size profile
+unfolding initial_memory
 first_bits profile blocks = length-replicate {A = ℕ} (bit_memory_size profile) 0
 
 cleared_sizes : (p : Program) (m : Areas) → IsMemoryOf (code_of p) m
-    → SameSizes m (memory_cleared m)
-unfolding fresh
+    → SameSizes m (memory_after_restart m)
+unfolding initial_memory
 cleared_sizes p m is = record {
   inputs = sym is.sizes.inputs;
   outputs = sym is.sizes.outputs;
@@ -596,12 +596,12 @@ cleared_sizes p m is = record {
 
 cleared_fits : (l : MachineLaws) (p : Program) (s : State) → IsFit p s → IsFit p (cleared s)
 cleared_fits l p s fit =
-    let same : SameSizes s.world.memory (memory_cleared s.world.memory) =
+    let same : SameSizes s.world.memory (memory_after_restart s.world.memory) =
     cleared_sizes p s.world.memory fit.memory in
     record {
-      memory = memory_stays p s.world.memory (memory_cleared s.world.memory) same fit.memory;
+      memory = memory_stays p s.world.memory (memory_after_restart s.world.memory) same fit.memory;
       activations =
-          all_stay l p s.world.memory (memory_cleared s.world.memory) s.activations same
+          all_stay l p s.world.memory (memory_after_restart s.world.memory) s.activations same
           fit.activations;
       standing = fit.standing;
       sched = restarted_schedule s.sched fit.sched;
@@ -610,7 +610,7 @@ cleared_fits l p s fit =
 -- ---- requests of operators
 
 written_fits : (l : MachineLaws) (m : Areas) (var : Var) (value : ℕ) (new : Option Areas)
-    → written m var.place var.width value ≡ new → SameSizes m (unwrap_or new m)
+    → number_written m var.place var.width value ≡ new → SameSizes m (unwrap_or new m)
 written_fits l m var value None is = same_sizes m
 written_fits l m var value (Some n) is = l.writes m n var.place var.width value is
 
@@ -621,7 +621,7 @@ restart_fits l p s verifies stop fit =
     let next : IsFit p (cleared (diagnosed 6 0 s)) =
     cleared_fits l p (diagnosed 6 0 s) (diagnosed_fit p 6 0 s fit) in
     started_up_fits p (startup_ob s.profile (code_of p)) (cleared (diagnosed 6 0 s))
-    (ob_fits s.profile l p (memory_cleared s.world.memory) 27 100 startup_info verifies next.memory)
+    (ob_fits s.profile l p (memory_after_restart s.world.memory) 27 100 startup_info verifies next.memory)
     (ob_is s.profile (code_of p) 27 100 startup_info)
     (stop_idle s.mode s.activations stop fit.standing.stack) next
 
@@ -641,7 +641,7 @@ asked_fits l p (ask.ReadVars vars) s verifies fit = fit
 asked_fits l p (ask.WriteVar var value) s verifies fit =
     moved_memory l p s _
     (written_fits l s.world.memory var value
-    (written s.world.memory var.place var.width value) refl) fit
+    (number_written s.world.memory var.place var.width value) refl) fit
 asked_fits l p ask.Stop s verifies fit =
     unless_stop p s _ fit (λ running. halted_fits l p causes.by_operator s fit)
 asked_fits l p ask.Restart s verifies fit = by (is_stop s.mode) refl

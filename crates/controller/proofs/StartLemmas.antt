@@ -144,22 +144,22 @@ numbers_differ p h = distinct_from 0 p.data_blocks (numbers_rise p h)
 
 -- ---- the blocks that were copied
 
-owned_numbers : (blocks : List (ℕ × Vec ℕ Global)) → numbers_of (owned.bytes_of blocks) ≡ owned.numbers_of blocks
+owned_numbers : (blocks : List (ℕ × Vec ℕ Global)) → numbers_of (owned.bytes_by_number blocks) ≡ owned.block_numbers blocks
 owned_numbers [] = refl
 owned_numbers (b ∷ bs) = ap (λ (ns : List ℕ). b.0 ∷ ns) (owned_numbers bs)
 
 -- what is read by these numbers is what the program has
 pub blocks_read : (p : Program) (numbers : List ℕ) (blocks : List (ℕ × Vec ℕ Global)) → Verifies p
     → numbers ≡ numbers_of (numbered_bytes p.data_blocks)
-    → owned.bytes_of blocks ≡ map (read_block p.data_blocks) numbers
-    → owned.bytes_of blocks ≡ numbered_bytes p.data_blocks
+    → owned.bytes_by_number blocks ≡ map (read_block p.data_blocks) numbers
+    → owned.bytes_by_number blocks ≡ numbered_bytes p.data_blocks
 blocks_read p numbers blocks h are read =
     read ∙ ap (λ (ns : List ℕ). map (read_block p.data_blocks) ns) are ∙ read_all p h
 
 pub blocks_differ : (p : Program) (numbers : List ℕ) (blocks : List (ℕ × Vec ℕ Global)) → Verifies p
     → numbers ≡ numbers_of (numbered_bytes p.data_blocks)
-    → owned.bytes_of blocks ≡ map (read_block p.data_blocks) numbers
-    → IsDistinct nat_eq (owned.numbers_of blocks)
+    → owned.bytes_by_number blocks ≡ map (read_block p.data_blocks) numbers
+    → IsDistinct nat_eq (owned.block_numbers blocks)
 blocks_differ p numbers blocks h are read =
     let P : List ℕ → Type 0 = λ ns. IsDistinct nat_eq ns in
     subst P (ap numbers_of (sym (blocks_read p numbers blocks h are read)) ∙ owned_numbers blocks) (numbers_differ p h)

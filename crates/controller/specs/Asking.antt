@@ -3,7 +3,7 @@ use Rattle.std.specs.Prelude.{ℕ, ◌+◌, Bool, true, false, List, [], ◌∷�
 use Rattle.plc_base.specs.StopCauses as causes
 use Rattle.plc_mem.specs.Areas.{Areas}
 use Rattle.plc_mem.specs.Number.{number_at}
-use Rattle.plc_mem.specs.Writing.{written}
+use Rattle.plc_mem.specs.Writing.{number_written}
 use Rattle.machine.specs.Code.{Code}
 use Rattle.machine.specs.Statement.{World}
 use Rattle.var_access.specs.declared.Reply.{Reply}
@@ -22,7 +22,7 @@ value_of m var = number_at m var.place var.width
 -- a variable takes a value; nothing changes where it doesn't exist
 abbrev pub var_written : Var → (value : ℕ) → World → World
 var_written var value w =
-    record w { memory = unwrap_or (written w.memory var.place var.width value) w.memory }
+    record w { memory = unwrap_or (number_written w.memory var.place var.width value) w.memory }
 
 -- what a request does. A stop by the operator is at the next statement, and in STOP it changes nothing;
 -- a restart is a warm restart in STOP alone; one block at a time is monitored, which must be loaded.

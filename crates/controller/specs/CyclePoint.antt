@@ -1,6 +1,6 @@
 -- The cycle point: a step where nothing runs.
 use Rattle.std.specs.Prelude.{false}
-use Rattle.plc_mem.specs.Refresh.{refreshed}
+use Rattle.plc_mem.specs.Refresh.{memory_refreshed}
 use Rattle.machine.specs.Code.{Code}
 use Rattle.machine.specs.Statement.{World}
 use Rattle.ob_sched.specs.OrganizationBlock.{class_in}
@@ -14,7 +14,7 @@ use Rattle.controller.specs.State.{State}
 -- the process image of the outputs is written to the peripheral outputs, and the peripheral inputs are
 -- read to the process image of the inputs
 abbrev pub images_updated : World → World
-images_updated w = record w { memory = refreshed w.memory }
+images_updated w = record w { memory = memory_refreshed w.memory }
 
 -- and the cycle counter and the mark of an exceeded cycle time are cleared; the next cycle isn't the
 -- first one any more

@@ -4,10 +4,10 @@ use Rattle.plc_base.specs.declared.Place.{Place}
 use Rattle.plc_base.specs.declared.Profile.{Profile}
 use Rattle.plc_base.specs.declared.Width.{Width}
 use Rattle.plc_mem.specs.Areas.{Areas}
-use Rattle.plc_mem.specs.Fresh.{fresh}
+use Rattle.plc_mem.specs.Fresh.{initial_memory}
 use Rattle.plc_mem.specs.Peripherals.{with_input, outputs_cleared}
-use Rattle.plc_mem.specs.Refresh.{refreshed}
-use Rattle.plc_mem.specs.Writing.{written}
+use Rattle.plc_mem.specs.Refresh.{memory_refreshed}
+use Rattle.plc_mem.specs.Writing.{number_written}
 use Rattle.status_word.specs.declared.Regs.{Regs}
 use Rattle.frames.specs.Activations.{begun, with_local_byte}
 use Rattle.frames.specs.declared.Activation.{Activation}
@@ -43,12 +43,12 @@ pub record MachineLaws : Type 0 where
       → with_local_byte frame byte value a ≡ Some b → FitsProgram p m a → FitsProgram p m b
   pub result : (p : Program) (m n : Areas) (a b : Activation) (to : Binding) (value : ℕ)
       → Verifies p → FitsProgram p m a → GivesResult to value a b m n → GoesOn p m n b
-  pub first : (profile : Profile) (p : Program) → IsMemoryOf (code_of p) (fresh profile (code_of p).blocks)
+  pub first : (profile : Profile) (p : Program) → IsMemoryOf (code_of p) (initial_memory profile (code_of p).blocks)
   pub writes : (m n : Areas) (place : Place) (width : Width) (value : ℕ)
-      → written m place width value ≡ Some n → SameSizes m n
+      → number_written m place width value ≡ Some n → SameSizes m n
   pub inputs : (m n : Areas) (byte value : ℕ)
       → with_input m byte value ≡ Some n → SameSizes m n
   pub clears : (p : Program) (m : Areas)
       → IsMemoryOf (code_of p) m → SameSizes m (outputs_cleared m)
   pub refreshes : (p : Program) (m : Areas)
-      → IsMemoryOf (code_of p) m → SameSizes m (refreshed m)
+      → IsMemoryOf (code_of p) m → SameSizes m (memory_refreshed m)

@@ -3,8 +3,8 @@ use Rattle.std.specs.Prelude.{ℕ, true, List, [], ◌∷◌, filter, replicate,
 use Rattle.plc_base.specs.declared.Profile.{Profile}
 use Rattle.plc_base.specs.Profiles.{timer_count, counter_count}
 use Rattle.plc_base.specs.declared.Mode.TheVariants.{Run, Startup}
-use Rattle.plc_mem.specs.Fresh.{fresh}
-use Rattle.plc_mem.specs.Restart.{memory_cleared}
+use Rattle.plc_mem.specs.Fresh.{initial_memory}
+use Rattle.plc_mem.specs.Restart.{memory_after_restart}
 use Rattle.timers_counters.specs.Timer.{timer_at_rest}
 use Rattle.timers_counters.specs.Counter.{counter_at_rest}
 use Rattle.timers_counters.specs.Restart.{counters_retained}
@@ -33,7 +33,7 @@ loaded_obs code = filter (λ ob. is_some (code.head (ob_block ob))) all_obs
 -- data blocks have their first bytes, all other memory is 0, timers and counters are at rest
 abbrev pub world_at_rest : Profile → Code → World
 world_at_rest profile code = record {
-  memory = fresh profile code.blocks;
+  memory = initial_memory profile code.blocks;
   timers = replicate (timer_count profile) timer_at_rest;
   counters = replicate (counter_count profile) counter_at_rest;
 }
@@ -73,7 +73,7 @@ start profile code = started_up (startup_ob profile code) (before_start profile 
 -- of memory and counters what is retained stays, and all timers of the profile are at rest again
 abbrev pub world_cleared : Profile → World → World
 world_cleared profile w = record w {
-  memory = memory_cleared w.memory;
+  memory = memory_after_restart w.memory;
   timers = replicate (timer_count profile) timer_at_rest;
   counters = counters_retained w.counters;
 }

@@ -1,8 +1,8 @@
 //! The first start, and a warm restart.
 ghost use Rattle.std.specs.Prelude.{◌≡◌, [], true, map, IfOk};
 ghost use Rattle.machine.specs.Flat.{code_of};
-ghost use Rattle.plc_mem.specs.Blocks.{bytes_of};
-ghost use Rattle.plc_mem.specs.Fresh.{fresh};
+ghost use Rattle.plc_mem.specs.Blocks.{bytes_by_number};
+ghost use Rattle.plc_mem.specs.Fresh.{initial_memory};
 ghost use Rattle.controller.specs.Start.{loaded_obs as obs_loaded, restarted, start, started_up, startup_ob};
 ghost use Rattle.controller.specs.Stack.{IsStanding};
 ghost use Rattle.controller.specs.State.{is_stop};
@@ -85,7 +85,7 @@ fn read_blocks(
     program: &Loaded,
     numbers: &[u16],
 ) -> Result<Vec<(u16, Vec<u8>)>, NoMemory>
-    ensures { IfOk result (λ v. bytes_of v.items
+    ensures { IfOk result (λ v. bytes_by_number v.items
         ≡ map (read_block_of program.now.program.data_blocks) numbers.now) }
 {
     let mut blocks = Vec::new(alloc);
@@ -99,7 +99,7 @@ fn read_blocks(
 // Memory with copies of the program's data blocks, in which all else is 0.
 #[tactic(auto, using(crate::proofs::StartLemmas::blocks_read, crate::proofs::StartLemmas::blocks_differ))]
 fn memory_of(alloc: Global, program: &Loaded, profile: Profile) -> Result<Memory, NoMemory>
-    ensures { IfOk result (λ m. m ≡ fresh profile (code_of program.now.program).blocks) }
+    ensures { IfOk result (λ m. m ≡ initial_memory profile (code_of program.now.program).blocks) }
 {
     program.law_of_verifying();
     let numbers = data_numbers(alloc, program)?;

@@ -9,9 +9,9 @@ use Rattle.std.proofs.lemmas.Option.{slice_get_past}
 use Rattle.plc_base.specs.declared.Width.{Width}
 use Rattle.plc_base.specs.declared.Width.TheVariants.{Bit, Byte, Word, Dword}
 use Rattle.plc_base.specs.Widths.{byte_count}
-use Rattle.plc_mem.specs.Bits.{bit_in}
+use Rattle.plc_mem.specs.Bits.{bit_of_byte}
 use Rattle.plc_mem.specs.Run.{number_over, operand_bit_of}
-use Rattle.plc_mem.specs.Writing.{is_within, put, stored, with_bit}
+use Rattle.plc_mem.specs.Writing.{is_within, put_number, bytes_with_number, byte_with_bit}
 use Rattle.plc_mem.proofs.Numbers.{run_none, weights_same}
 use Rattle.plc_mem.proofs.Stored.{length-stored}
 use Rattle.frames.specs.Locals.{LocalData, no_locals, end_of, local_number, local_written, opened, closed, closed_at, last_start}
@@ -317,16 +317,16 @@ same_bytes :
 unfolding number_over
 same_bytes f g at here bit Bit same =
     weights_same (operand_bit_of f at bit Bit) (operand_bit_of g here bit Bit) 1
-    (λ j h. ap (λ (o : Option ℕ). bit_in o bit) (ap f (sym (add-zero at)) ∙ same 0 (lit< tt) ∙ ap g (add-zero here)))
+    (λ j h. ap (λ (o : Option ℕ). bit_of_byte o bit) (ap f (sym (add-zero at)) ∙ same 0 (lit< tt) ∙ ap g (add-zero here)))
 same_bytes f g at here bit Byte same =
     weights_same (operand_bit_of f at bit Byte) (operand_bit_of g here bit Byte) 8
-    (λ j h. ap (λ (o : Option ℕ). bit_in o (j % 8)) (same (1 - 1 - j / 8) (omega arith)))
+    (λ j h. ap (λ (o : Option ℕ). bit_of_byte o (j % 8)) (same (1 - 1 - j / 8) (omega arith)))
 same_bytes f g at here bit Word same =
     weights_same (operand_bit_of f at bit Word) (operand_bit_of g here bit Word) 16
-    (λ j h. ap (λ (o : Option ℕ). bit_in o (j % 8)) (same (2 - 1 - j / 8) (omega arith)))
+    (λ j h. ap (λ (o : Option ℕ). bit_of_byte o (j % 8)) (same (2 - 1 - j / 8) (omega arith)))
 same_bytes f g at here bit Dword same =
     weights_same (operand_bit_of f at bit Dword) (operand_bit_of g here bit Dword) 32
-    (λ j h. ap (λ (o : Option ℕ). bit_in o (j % 8)) (same (4 - 1 - j / 8) (omega arith)))
+    (λ j h. ap (λ (o : Option ℕ). bit_of_byte o (j % 8)) (same (4 - 1 - j / 8) (omega arith)))
 
 -- each operand has a first byte
 some_first : (width : Width) → 0 < byte_count width
@@ -417,9 +417,9 @@ outside_first a b p k h (inr le) = inr (omega (arith, le, h))
 
 stored_other :
     (bytes : List ℕ) (a b p bit : ℕ) (width : Width) (value : ℕ) → Outside a b p (byte_count width)
-    → slice_range (stored bytes p bit width value) a b ≡ slice_range bytes a b
+    → slice_range (bytes_with_number bytes p bit width value) a b ≡ slice_range bytes a b
 stored_other bytes a b p bit Bit value out =
-    range_other bytes a b p (with_bit (slice_index bytes p) bit value) (outside_first a b p 1 (lit< tt) out)
+    range_other bytes a b p (byte_with_bit (slice_index bytes p) bit value) (outside_first a b p 1 (lit< tt) out)
 stored_other bytes a b p bit Byte value out = range_other bytes a b p value (outside_first a b p 1 (lit< tt) out)
 stored_other bytes a b p bit Word value out =
     let one = set bytes p (value / 2 ^ 8) in
@@ -445,10 +445,10 @@ range_index xs a b i within = get_or-take (b - a) (drop a xs) i 0 (omega (arith,
 
 stored_own :
     (bytes : List ℕ) (a b at bit : ℕ) (width : Width) (value : ℕ) → a + at + byte_count width ≤ b
-    → slice_range (stored bytes (a + at) bit width value) a b ≡ stored (slice_range bytes a b) at bit width value
+    → slice_range (bytes_with_number bytes (a + at) bit width value) a b ≡ bytes_with_number (slice_range bytes a b) at bit width value
 stored_own bytes a b at bit Bit value within =
-    range_set bytes a b at (with_bit (slice_index bytes (a + at)) bit value)
-    ∙ ap (λ (n : ℕ). set (slice_range bytes a b) at (with_bit n bit value)) (sym (range_index bytes a b at (omega (arith, within))))
+    range_set bytes a b at (byte_with_bit (slice_index bytes (a + at)) bit value)
+    ∙ ap (λ (n : ℕ). set (slice_range bytes a b) at (byte_with_bit n bit value)) (sym (range_index bytes a b at (omega (arith, within))))
 stored_own bytes a b at bit Byte value within = range_set bytes a b at value
 stored_own bytes a b at bit Word value within =
     range_set_on (set bytes (a + at) (value / 2 ^ 8)) a b at 1 (value % 2 ^ 8)
@@ -484,13 +484,13 @@ within_own bytes a b at bit Dword le all =
     le-leb (at + 4) (length (slice_range bytes a b)) (omega (arith, le, size)) ∙ sym (le-leb (a + at + 4) (length bytes) (omega (arith, le, all)))
 
 put_stored : (bytes : List ℕ) (at bit : ℕ) (width : Width) (value : ℕ) → is_within bytes at bit width ≡ true
-    → put bytes at bit width value ≡ Some (stored bytes at bit width value)
-unfolding put
+    → put_number bytes at bit width value ≡ Some (bytes_with_number bytes at bit width value)
+unfolding put_number
 put_stored bytes at bit width value is = rw is refl
 
 put_none : (bytes : List ℕ) (at bit : ℕ) (width : Width) (value : ℕ) → is_within bytes at bit width ≡ false
-    → put bytes at bit width value ≡ None
-unfolding put
+    → put_number bytes at bit width value ≡ None
+unfolding put_number
 put_none bytes at bit width value is = rw is refl
 
 -- where the next frame's bytes begin
@@ -525,9 +525,9 @@ written_there :
     → slice_get l.starts frame ≡ Some start
     → start + at + byte_count width ≤ end_of l frame
     → is_within l.bytes (start + at) bit width ≡ true
-    → (let new : LocalData = record l { bytes = stored l.bytes (start + at) bit width value } in IsOwnWritten l new frame at bit width value)
+    → (let new : LocalData = record l { bytes = bytes_with_number l.bytes (start + at) bit width value } in IsOwnWritten l new frame at bit width value)
 written_there l laid frame start at bit width value is le within =
-    let bytes : List ℕ = stored l.bytes (start + at) bit width value in
+    let bytes : List ℕ = bytes_with_number l.bytes (start + at) bit width value in
     let new : LocalData = record l { bytes = bytes } in
     let rises = rises_from l laid in
     let size : length bytes ≡ length l.bytes = length-stored l.bytes (start + at) bit width value in
@@ -542,7 +542,7 @@ written_there l laid frame start at bit width value is le within =
           ∙ ap (λ (e : ℕ). Some (slice_range bytes start e)) (ends frame)
           ∙ ap Some (stored_own l.bytes start (end_of l frame) at bit width value le)
           ∙ sym
-          (ap (option_and_then (λ ys. put ys at bit width value)) mine
+          (ap (option_and_then (λ ys. put_number ys at bit width value)) mine
           ∙ put_stored own at bit width value
           (within_own l.bytes start (end_of l frame) at bit width le (omega (arith, past, end)) ∙ within));
       others = λ other apart_is. by other apart_is size ends (slice_get l.starts other) refl;
@@ -553,14 +553,14 @@ written_there l laid frame start at bit width value is le within =
     }
   where
     by : (other : ℕ) → other ≢ frame
-        → length (stored l.bytes (start + at) bit width value) ≡ length l.bytes
-        → ((k : ℕ) → begin l.starts (length (stored l.bytes (start + at) bit width value)) (k + 1) ≡ end_of l k)
+        → length (bytes_with_number l.bytes (start + at) bit width value) ≡ length l.bytes
+        → ((k : ℕ) → begin l.starts (length (bytes_with_number l.bytes (start + at) bit width value)) (k + 1) ≡ end_of l k)
         → (o : Option ℕ) → slice_get l.starts other ≡ o
-        → option_map (λ s. slice_range (stored l.bytes (start + at) bit width value) s (begin l.starts (length (stored l.bytes (start + at) bit width value)) (other + 1))) o
+        → option_map (λ s. slice_range (bytes_with_number l.bytes (start + at) bit width value) s (begin l.starts (length (bytes_with_number l.bytes (start + at) bit width value)) (other + 1))) o
         ≡ option_map (λ s. slice_range l.bytes s (end_of l other)) o
     by other apart_is size ends None there = refl
     by other apart_is size ends (Some from) there =
-        ap (λ (e : ℕ). Some (slice_range (stored l.bytes (start + at) bit width value) from e)) (ends other)
+        ap (λ (e : ℕ). Some (slice_range (bytes_with_number l.bytes (start + at) bit width value) from e)) (ends other)
         ∙ ap Some
         (stored_other l.bytes from (end_of l other) (start + at) bit width value
         (outside_others l laid frame start at (byte_count width) other from is there apart_is le))
@@ -569,20 +569,20 @@ written_there l laid frame start at bit width value is le within =
 abbrev IsWritten : (l : LocalData) (frame at bit : ℕ) (width : Width) (value : ℕ) → (done : Option LocalData) (own : Option (List ℕ)) → Type 0
 IsWritten l frame at bit width value done own =
     MatchOption done
-    (option_and_then (λ ys. put ys at bit width value) own ≡ None)
+    (option_and_then (λ ys. put_number ys at bit width value) own ≡ None)
     (λ new. IsOwnWritten l new frame at bit width value)
 
 pub written_own :
     (l : LocalData) (frame at bit : ℕ) (width : Width) (value : ℕ) → IsLaidOut l
     → IsWritten l frame at bit width value (local_written l frame at bit width value) (bytes_of l frame)
-unfolding local_written put
+unfolding local_written put_number
 written_own l frame at bit width value laid = by (slice_get l.starts frame) refl
   where
     stored_or_not : (start : ℕ) → slice_get l.starts frame ≡ Some start
         → start + at + byte_count width ≤ end_of l frame
         → (within : Bool) → is_within l.bytes (start + at) bit width ≡ within
         → IsWritten l frame at bit width value
-        (option_map (λ bytes. record l { bytes = bytes }) (cond within (Some (stored l.bytes (start + at) bit width value)) None))
+        (option_map (λ bytes. record l { bytes = bytes }) (cond within (Some (bytes_with_number l.bytes (start + at) bit width value)) None))
         (Some (slice_range l.bytes start (end_of l frame)))
     stored_or_not start is le true within = written_there l laid frame start at bit width value is le within
     stored_or_not start is le false within =
@@ -594,7 +594,7 @@ written_own l frame at bit width value laid = by (slice_get l.starts frame) refl
     placed : (start : ℕ) → slice_get l.starts frame ≡ Some start
         → (ends : Bool) → nat_le (start + at + byte_count width) (end_of l frame) ≡ ends
         → IsWritten l frame at bit width value
-        (option_and_then (λ place. option_map (λ bytes. record l { bytes = bytes }) (put l.bytes place bit width value)) (cond ends (Some (start + at)) None))
+        (option_and_then (λ place. option_map (λ bytes. record l { bytes = bytes }) (put_number l.bytes place bit width value)) (cond ends (Some (start + at)) None))
         (Some (slice_range l.bytes start (end_of l frame)))
     placed start is true test =
         stored_or_not start is (leb-true (start + at + byte_count width) (end_of l frame) test) (is_within l.bytes (start + at) bit width) refl
@@ -607,7 +607,7 @@ written_own l frame at bit width value laid = by (slice_get l.starts frame) refl
 
     by : (o : Option ℕ) → slice_get l.starts frame ≡ o
         → IsWritten l frame at bit width value
-        (option_and_then (λ place. option_map (λ bytes. record l { bytes = bytes }) (put l.bytes place bit width value))
+        (option_and_then (λ place. option_map (λ bytes. record l { bytes = bytes }) (put_number l.bytes place bit width value))
         (option_and_then (λ start. cond (nat_le (start + at + byte_count width) (end_of l frame)) (Some (start + at)) None) o))
         (option_map (λ start. slice_range l.bytes start (end_of l frame)) o)
     by None is = refl

@@ -5,7 +5,7 @@ use Rattle.plc_base.specs.declared.Width.{Width}
 use Rattle.plc_base.specs.declared.Width.TheVariants.{Byte}
 use Rattle.plc_base.specs.Widths.{byte_count}
 use Rattle.plc_mem.specs.Run.{number_over}
-use Rattle.plc_mem.specs.Writing.{put}
+use Rattle.plc_mem.specs.Writing.{put_number}
 
 -- of each frame where its bytes begin, and the bytes
 pub record LocalData : Type 0 where
@@ -33,7 +33,7 @@ local_number l frame at bit width =
 -- local bytes with a number in an operand of a frame's
 unfoldable pub local_written : LocalData → (frame at bit : ℕ) → Width → ℕ → Option LocalData
 local_written l frame at bit width value =
-    option_and_then (λ place. option_map (λ bytes. record l { bytes = bytes }) (put l.bytes place bit width value)) (lies_within l frame at width)
+    option_and_then (λ place. option_map (λ bytes. record l { bytes = bytes }) (put_number l.bytes place bit width value)) (lies_within l frame at width)
 
 -- a local byte of a frame, and another one there
 abbrev pub byte_at : LocalData → (frame at : ℕ) → Option ℕ

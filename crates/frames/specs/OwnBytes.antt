@@ -3,7 +3,7 @@
 use Rattle.std.specs.Prelude.{◌≡◌, ◌≢◌, ℕ, ◌≤◌, List, [], ◌∷◌, length, slice_get, slice_range, Option, unwrap_or, option_and_then}
 use Rattle.std.specs.Option.{option_map}
 use Rattle.plc_base.specs.declared.Width.{Width}
-use Rattle.plc_mem.specs.Writing.{put}
+use Rattle.plc_mem.specs.Writing.{put_number}
 use Rattle.frames.specs.Locals.{LocalData, end_of}
 
 -- the local bytes of the frame at a place alone, if there is such a frame
@@ -34,6 +34,6 @@ pub record IsLaidOut (l : LocalData) : Type 0 where
 -- What a write to a frame leaves: its own bytes as the write to them alone makes them, those of every
 -- other frame as before, and all one behind the other.
 pub record IsOwnWritten (old new : LocalData) (frame at bit : ℕ) (width : Width) (value : ℕ) : Type 0 where
-  pub own : bytes_of new frame ≡ option_and_then (λ bytes. put bytes at bit width value) (bytes_of old frame)
+  pub own : bytes_of new frame ≡ option_and_then (λ bytes. put_number bytes at bit width value) (bytes_of old frame)
   pub others : (other : ℕ) → other ≢ frame → bytes_of new other ≡ bytes_of old other
   pub laid : IsLaidOut new

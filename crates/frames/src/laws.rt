@@ -3,7 +3,7 @@ ghost use Rattle.std.specs.Prelude.{◌≡◌, ◌-◌, ◌++◌, [], ◌∷◌,
 ghost use Rattle.std.specs.List.{concat};
 ghost use Rattle.plc_base.specs.declared.Width.{Width};
 ghost use Rattle.plc_mem.specs.Run.{number_over};
-ghost use Rattle.plc_mem.specs.Writing.{put};
+ghost use Rattle.plc_mem.specs.Writing.{put_number};
 ghost use Rattle.frames.specs.Locals.{LocalData, no_locals, opened, closed, local_number, local_written};
 ghost use Rattle.frames.specs.OwnBytes.{IsLaidOut, IsOwnWritten, bytes_of, own_bytes};
 
@@ -28,6 +28,6 @@ pub fn law_of_local_operands()
         ≡ option_and_then (λ own. number_over (slice_get own) at bit width) (bytes_of l frame) }
     ensures written { (l : LocalData) (frame at bit : ℕ) (width : Width) (value : ℕ) → IsLaidOut l
         → MatchOption (local_written l frame at bit width value)
-        (option_and_then (λ own. put own at bit width value) (bytes_of l frame) ≡ None)
+        (option_and_then (λ own. put_number own at bit width value) (bytes_of l frame) ≡ None)
         (λ new. IsOwnWritten l new frame at bit width value) }
 {}

@@ -7,9 +7,9 @@ use Rattle.plc_base.specs.declared.BlockId.{BlockId}
 use Rattle.plc_base.specs.declared.blocks.BlockKind.TheVariants as kinds
 use Rattle.plc_mem.specs.Areas.{Areas}
 use Rattle.plc_mem.specs.BitPlace.{PeripheralInputs}
-use Rattle.plc_mem.specs.Fresh.{fresh}
+use Rattle.plc_mem.specs.Fresh.{initial_memory}
 use Rattle.plc_mem.specs.Peripherals.{with_input, outputs_cleared}
-use Rattle.plc_mem.specs.Refresh.{refreshed}
+use Rattle.plc_mem.specs.Refresh.{memory_refreshed}
 use Rattle.plc_mem.proofs.Runs.{mapped}
 use Rattle.status_word.specs.declared.Regs.{Regs}
 use Rattle.frames.specs.Activations.{begun, with_local_byte}
@@ -162,21 +162,21 @@ result_fits l p m n a b to value verifies h gives =
 
 -- ---- memory
 
-pub memory_begins : (f : Profile) (p : Program) → IsMemoryOf (code_of p) (fresh f (code_of p).blocks)
-memory_begins f p = record { profile = f; sizes = same_sizes (fresh f (code_of p).blocks) }
+pub memory_begins : (f : Profile) (p : Program) → IsMemoryOf (code_of p) (initial_memory f (code_of p).blocks)
+memory_begins f p = record { profile = f; sizes = same_sizes (initial_memory f (code_of p).blocks) }
 
 pub input_sizes : (m n : Areas) (byte value : ℕ) → with_input m byte value ≡ Some n → SameSizes m n
 unfolding with_input
 input_sizes m n byte value done = region_sizes m n PeripheralInputs byte 0 widths.Byte value done
 
 pub cleared_sizes : (p : Program) (m : Areas) → IsMemoryOf (code_of p) m → SameSizes m (outputs_cleared m)
-unfolding outputs_cleared fresh
+unfolding outputs_cleared initial_memory
 cleared_sizes p m is =
     changed m m.inputs m.outputs m.bit_memory m.peripheral_inputs _ refl refl refl (same_parts m.peripheral_inputs)
     (record { low = sym is.sizes.peripheral_outputs.low; high = sym is.sizes.peripheral_outputs.high })
 
-pub refreshed_sizes : (p : Program) (m : Areas) → IsMemoryOf (code_of p) m → SameSizes m (refreshed m)
-unfolding refreshed fresh
+pub refreshed_sizes : (p : Program) (m : Areas) → IsMemoryOf (code_of p) m → SameSizes m (memory_refreshed m)
+unfolding memory_refreshed initial_memory
 refreshed_sizes p m is =
     changed m m.peripheral_inputs.low m.outputs m.bit_memory m.peripheral_inputs _ (is.sizes.peripheral_inputs.low ∙ sym is.sizes.inputs) refl refl
     (same_parts m.peripheral_inputs) (record { low = is.sizes.outputs ∙ sym is.sizes.peripheral_outputs.low; high = refl })

@@ -13,7 +13,7 @@ use Rattle.plc_base.specs.declared.Width.TheVariants as widths
 use Rattle.plc_base.specs.Widths.{bit_count, width_number}
 use Rattle.plc_base.specs.declared.Profile.{Profile}
 use Rattle.plc_mem.specs.Areas.{Areas}
-use Rattle.plc_mem.specs.Fresh.{fresh}
+use Rattle.plc_mem.specs.Fresh.{initial_memory}
 use Rattle.plc_mem.proofs.Runs.{tests_agree}
 use Rattle.flat_code.specs.declared.image_fields.ParameterRecord.{ParameterRecord}
 use Rattle.flat_code.specs.declared.operands.Operand.{Operand}
@@ -244,8 +244,8 @@ find_len (d ∷ ds) number =
     by true false e f same more = let s : true ≡ false = sym e ∙ same ∙ f in absurd cc
     by false true e f same more = let s : false ≡ true = sym e ∙ same ∙ f in absurd cc
 
-fresh_len : (f : Profile) (ds : List DataBlock) (number : ℕ) → len_in (fresh f (numbered_bytes ds)) number ≡ data_len number (lens_of ds)
-unfolding fresh
+fresh_len : (f : Profile) (ds : List DataBlock) (number : ℕ) → len_in (initial_memory f (numbered_bytes ds)) number ≡ data_len number (lens_of ds)
+unfolding initial_memory
 fresh_len f ds number = ap (λ (o : Option (List ℕ)). option_map length o) (get-from_entries nat_cmp_total (numbered_bytes ds) number) ∙ find_len ds number
 
 long_by : (needed : ℕ) (o : Option (List ℕ)) (len : Option ℕ) → option_map length o ≡ len → is_short needed len ≡ false → IsLong needed o
@@ -253,7 +253,7 @@ long_by needed None len is h = absurd (let e : is_short needed None ≡ false = 
 long_by needed (Some bytes) len is h = ltb-false (length bytes) needed (rw (sym is) at h)
 
 pub instance_long :
-    (f : Profile) (p : Program) (m : Areas) (number needed : ℕ) → SameSizes (fresh f (numbered_bytes p.data_blocks)) m
+    (f : Profile) (p : Program) (m : Areas) (number needed : ℕ) → SameSizes (initial_memory f (numbered_bytes p.data_blocks)) m
     → is_short needed (data_len number (lens_of p.data_blocks)) ≡ false
     → IsLong needed (finmap.get m.data_blocks number)
 instance_long f p m number needed sizes h =

@@ -9,7 +9,7 @@ use Rattle.plc_base.specs.declared.Width.{Width}
 use Rattle.plc_base.specs.declared.Width.TheVariants as widths
 use Rattle.plc_base.specs.Widths.{byte_count}
 use Rattle.plc_mem.specs.Run.{number_over}
-use Rattle.plc_mem.specs.Writing.{put, is_within}
+use Rattle.plc_mem.specs.Writing.{put_number, is_within}
 use Rattle.plc_mem.proofs.Lawful.{run_exists}
 use Rattle.plc_mem.proofs.Runs.{put_done}
 use Rattle.frames.specs.Locals.{LocalData, end_of, lies_within, local_number, local_written, opened, closed, closed_at, last_start}
@@ -172,8 +172,8 @@ bit_lies bytes at bit widths.Dword le has = le-leb (at + 4) (length bytes) le
 
 put_there :
     (bytes : List ℕ) (at bit : ℕ) (width : Width) (value : ℕ) → is_within bytes at bit width ≡ true
-    → IsSome (put bytes at bit width value)
-unfolding put
+    → IsSome (put_number bytes at bit width value)
+unfolding put_number
 put_there bytes at bit width value within = rw within refl
 
 bit_has :
@@ -184,7 +184,7 @@ bit_has bytes at bit widths.Word within = tt
 bit_has bytes at bit widths.Dword within = tt
 
 put_is :
-    (bytes : List ℕ) (at bit : ℕ) (width : Width) (o : Option (List ℕ)) → put bytes at bit width 0 ≡ o → IsSome o
+    (bytes : List ℕ) (at bit : ℕ) (width : Width) (o : Option (List ℕ)) → put_number bytes at bit width 0 ≡ o → IsSome o
     → HasBit width bit
 put_is bytes at bit width None is there = absurd cc
 put_is bytes at bit width (Some new) is there = bit_has bytes at bit width (put_done bytes new at bit width 0 is).0
@@ -193,7 +193,7 @@ number_has :
     (bytes : List ℕ) (at bit : ℕ) (width : Width) → IsSome (number_over (slice_get bytes) at bit width)
     → HasBit width bit
 number_has bytes at bit width there =
-    put_is bytes at bit width (put bytes at bit width 0) refl
+    put_is bytes at bit width (put_number bytes at bit width 0) refl
     (run_exists bytes at bit width 0 (is_within bytes at bit width) refl ∙ there)
 
 lies_is :
@@ -233,12 +233,12 @@ unfolding local_written
 lies_written frames l k at bit value width fits lies = by (local_len_at frames k) refl lies
   where
     by : (o : Option ℕ) → local_len_at frames k ≡ o → LiesIn o at bit width
-        → IsSome (option_and_then (λ place. option_map (λ bytes. record l { bytes = bytes }) (put l.bytes place bit width value)) (lies_within l k at width))
+        → IsSome (option_and_then (λ place. option_map (λ bytes. record l { bytes = bytes }) (put_number l.bytes place bit width value)) (lies_within l k at width))
     by None is lies = absurd lies
     by (Some len) is lies =
         let there = lies_is l k at len width (frame_spans frames l k len fits is) lies.0 in
         rw there.1
-        (mapped_there (λ (bytes : List ℕ). let r : LocalData = record l { bytes = bytes } in r) (put l.bytes (there.0 + at) bit width value)
+        (mapped_there (λ (bytes : List ℕ). let r : LocalData = record l { bytes = bytes } in r) (put_number l.bytes (there.0 + at) bit width value)
         (put_there l.bytes (there.0 + at) bit width value (bit_lies l.bytes (there.0 + at) bit width there.2 lies.1)))
 
 -- ---- and back

@@ -13,7 +13,7 @@ use Rattle.plc_base.specs.declared.Width.TheVariants as widths
 use Rattle.plc_mem.specs.Areas.{Areas, PeripheralBytes}
 use Rattle.plc_mem.specs.BitPlace.{Region, Inputs, Outputs, BitMemory, PeripheralInputs, PeripheralOutputs, DataBlock}
 use Rattle.plc_mem.specs.Number.{region_of}
-use Rattle.plc_mem.specs.Writing.{put as put_bytes, put_peripheral, put_in_block, written, written_in}
+use Rattle.plc_mem.specs.Writing.{put_number as put_bytes, put_peripheral, put_in_block, number_written, number_written_in}
 use Rattle.plc_mem.proofs.Runs.{mapped}
 use Rattle.status_word.specs.declared.Regs.{Regs}
 use Rattle.timers_counters.specs.Timer.{Timer}
@@ -55,7 +55,7 @@ IsInsideRegion _ = Unit {0}
 
 region_stays :
     (m n : Areas) (region : Region) (byte bit : ℕ) (width : Width) (value : ℕ) → IsInsideRegion region
-    → written_in m region byte bit width value ≡ Some n → Stay m n
+    → number_written_in m region byte bit width value ≡ Some n → Stay m n
 region_stays m n Inputs byte bit width value inside done =
     let was = mapped (λ (s : List ℕ). let r : Areas = record m { inputs = s } in r) (put_bytes m.inputs byte bit width value) n done in
     rw (sym was.2) refl
@@ -77,14 +77,14 @@ region_stays m n (DataBlock k) byte bit width value inside done =
 
 if_zero :
     (m n : Areas) (region : Region) (byte bit : ℕ) (width : Width) (value : ℕ) (is_zero : Bool) → IsInsideRegion region
-    → option_and_then (λ (r : Region). written_in m r byte bit width value) (cond is_zero (Some region) None) ≡ Some n
+    → option_and_then (λ (r : Region). number_written_in m r byte bit width value) (cond is_zero (Some region) None) ≡ Some n
     → Stay m n
 if_zero m n region byte bit width value true inside done = region_stays m n region byte bit width value inside done
 if_zero m n region byte bit width value false inside done = absurd cc
 
 by_area :
     (m n : Areas) (area : Area) (number byte bit : ℕ) (width : Width) (value : ℕ) → is_peripheral area ≡ false
-    → option_and_then (λ (r : Region). written_in m r byte bit width value) (region_of PeripheralOutputs area number) ≡ Some n
+    → option_and_then (λ (r : Region). number_written_in m r byte bit width value) (region_of PeripheralOutputs area number) ≡ Some n
     → Stay m n
 by_area m n areas.I number byte bit width value inside done = if_zero m n Inputs byte bit width value (nat_eq number 0) tt done
 by_area m n areas.Q number byte bit width value inside done = if_zero m n Outputs byte bit width value (nat_eq number 0) tt done
@@ -96,8 +96,8 @@ by_area m n areas.L number byte bit width value inside done = absurd cc
 
 pub written_stays :
     (m n : Areas) (place : Place) (width : Width) (value : ℕ) → is_peripheral place.area ≡ false
-    → written m place width value ≡ Some n → Stay m n
-unfolding written
+    → number_written m place width value ≡ Some n → Stay m n
+unfolding number_written
 written_stays m n place width value inside done =
     by_area m n place.area place.number place.byte place.bit width value inside done
 
@@ -111,7 +111,7 @@ either_stored :
     → cond local
     (option_map (λ (l : LocalData). let r : LocalMemory = record { local = with_locals s l; memory = m } in r)
     (local_written s.locals at.frame at.place.byte at.place.bit at.width value))
-    (option_map (λ (n : Areas). let r : LocalMemory = record { local = s; memory = n } in r) (written m at.place at.width value))
+    (option_map (λ (n : Areas). let r : LocalMemory = record { local = s; memory = n } in r) (number_written m at.place at.width value))
     ≡ Some c
     → MemoryStays m c
 either_stored at value s m c true inside done =
@@ -119,7 +119,7 @@ either_stored at value s m c true inside done =
     (local_written s.locals at.frame at.place.byte at.place.bit at.width value) c done in
     rw (sym was.2) refl
 either_stored at value s m c false inside done =
-    let was = mapped (λ (n : Areas). let r : LocalMemory = record { local = s; memory = n } in r) (written m at.place at.width value) c done in
+    let was = mapped (λ (n : Areas). let r : LocalMemory = record { local = s; memory = n } in r) (number_written m at.place at.width value) c done in
     rw (sym was.2) (written_stays m was.0 at.place at.width value inside was.1)
 
 stored_if :

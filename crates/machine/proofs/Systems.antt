@@ -10,11 +10,11 @@ use Rattle.plc_base.specs.declared.Width.TheVariants as widths
 use Rattle.plc_base.specs.declared.blocks.BlockKind.TheVariants as kinds
 use Rattle.plc_mem.specs.Areas.{Areas}
 use Rattle.plc_mem.specs.BitPlace.{PeripheralInputs, PeripheralOutputs}
-use Rattle.plc_mem.specs.Bits.{bit_at, bit_in, byte_at}
-use Rattle.plc_mem.specs.Fresh.{fresh}
+use Rattle.plc_mem.specs.Bits.{bit_at, bit_of_byte, region_byte}
+use Rattle.plc_mem.specs.Fresh.{initial_memory}
 use Rattle.plc_mem.specs.Number.{number_at, EachBitExists, region_of, operand_bit}
 use Rattle.plc_mem.specs.Places.{HasImage}
-use Rattle.plc_mem.specs.Writing.{written}
+use Rattle.plc_mem.specs.Writing.{number_written}
 use Rattle.plc_base.specs.Widths.{bit_count}
 use Rattle.plc_mem.specs.Run.{number_over}
 use Rattle.plc_mem.proofs.Kept.{number_fits, over_fits}
@@ -58,7 +58,7 @@ record Written (m : Areas) : Type 0 where
   image : HasImage m
 
 of_program : (p : Program) (m : Areas) → IsMemoryOf (code_of p) m → Written m
-unfolding fresh
+unfolding initial_memory
 of_program p m is = record {
   outputs = record {
     low = is.sizes.peripheral_outputs.low ∙ sym is.sizes.peripheral_inputs.low;
@@ -69,7 +69,7 @@ of_program p m is = record {
 
 both_parts :
     (m : Areas) (byte bit : ℕ) → SameParts m.peripheral_inputs m.peripheral_outputs
-    → is_some (bit_in (byte_at m PeripheralOutputs byte) bit) ≡ is_some (bit_in (byte_at m PeripheralInputs byte) bit)
+    → is_some (bit_of_byte (region_byte m PeripheralOutputs byte) bit) ≡ is_some (bit_of_byte (region_byte m PeripheralInputs byte) bit)
 both_parts m byte bit same = part_bits m.peripheral_inputs m.peripheral_outputs byte bit same
 
 peripheral_bits :
@@ -99,7 +99,7 @@ each_writable m areas.L place width same all = all
 
 writable :
     (m : Areas) (place : Place) (width : Width) (value : ℕ) → Written m → IsSome (number_at m place width)
-    → IsSome (written m place width value)
+    → IsSome (number_written m place width value)
 writable m place width value w there =
     let reads = reads_where_each_bit_exists m place width in
     let writes = writing_exists m place width value (λ is. w.image) in
@@ -111,13 +111,13 @@ stored_there :
 stored_there frames m at value s fits w exists = by at.place.area exists
   where
     in_memory : IsSome (number_at m at.place at.width)
-        → IsSome (option_map (λ (memory : Areas). let r : LocalMemory = record { local = s; memory = memory } in r) (written m at.place at.width value))
-    in_memory there = mapped_there _ (written m at.place at.width value) (writable m at.place at.width value w there)
+        → IsSome (option_map (λ (memory : Areas). let r : LocalMemory = record { local = s; memory = memory } in r) (number_written m at.place at.width value))
+    in_memory there = mapped_there _ (number_written m at.place at.width value) (writable m at.place at.width value w there)
 
     by : (area : Area) → ExistsIn area at frames m
         → IsSome (cond (is_local area)
         (option_map (λ (l : LocalData). let r : LocalMemory = record { local = with_locals s l; memory = m } in r) (local_written s.locals at.frame at.place.byte at.place.bit at.width value))
-        (option_map (λ (memory : Areas). let r : LocalMemory = record { local = s; memory = memory } in r) (written m at.place at.width value)))
+        (option_map (λ (memory : Areas). let r : LocalMemory = record { local = s; memory = memory } in r) (number_written m at.place at.width value)))
     by areas.L exists =
         mapped_there _ (local_written s.locals at.frame at.place.byte at.place.bit at.width value)
         (lies_written frames s.locals at.frame at.place.byte at.place.bit value at.width fits exists)

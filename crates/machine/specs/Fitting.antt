@@ -13,7 +13,7 @@ use Rattle.plc_base.specs.declared.Width.{Width}
 use Rattle.plc_base.specs.declared.Width.TheVariants as widths
 use Rattle.plc_base.specs.Widths.{bit_count, byte_count}
 use Rattle.plc_mem.specs.Areas.{Areas, PeripheralBytes}
-use Rattle.plc_mem.specs.Fresh.{fresh}
+use Rattle.plc_mem.specs.Fresh.{initial_memory}
 use Rattle.plc_mem.specs.Number.{number_at}
 use Rattle.status_word.specs.declared.Bracket.{Bracket}
 use Rattle.status_word.specs.declared.Check.{Check}
@@ -172,4 +172,4 @@ pub record SameSizes (m n : Areas) : Type 0 where
 -- a memory of a program: the areas of some profile, and the program's data blocks with their lengths
 pub record IsMemoryOf (code : Code) (m : Areas) : Type 0 where
   pub profile : Profile
-  pub sizes : SameSizes (fresh profile code.blocks) m
+  pub sizes : SameSizes (initial_memory profile code.blocks) m

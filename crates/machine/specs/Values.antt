@@ -4,7 +4,7 @@ use Rattle.std.specs.Option.{option_map}
 use Rattle.plc_base.specs.ErrorCodes as errors
 use Rattle.plc_base.specs.declared.Width.TheVariants as widths
 use Rattle.plc_mem.specs.Areas.{Areas}
-use Rattle.plc_mem.specs.Writing.{written}
+use Rattle.plc_mem.specs.Writing.{number_written}
 use Rattle.status_word.specs.Flags.{flag_value}
 use Rattle.timers_counters.specs.declared.faults.TimerFault.{TimerFault}
 use Rattle.timers_counters.specs.declared.faults.TimerFault.TheVariants.{NoNumber, BadBcd}
@@ -110,7 +110,7 @@ stored_at at value s m =
     then option_map (λ l. record { local = with_locals s l; memory = m })
     (local_written s.locals at.frame at.place.byte at.place.bit at.width value)
     else option_map (λ memory. record { local = s; memory = memory })
-    (written m at.place at.width value)
+    (number_written m at.place at.width value)
 
 -- a number written to a place
 unfoldable pub write : Location → ℕ → Local → Areas → Result LocalMemory ℕ

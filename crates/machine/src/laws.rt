@@ -5,10 +5,10 @@ ghost use Rattle.plc_base.specs.declared.places.Place.{Place};
 ghost use Rattle.plc_base.specs.declared.profiles.Profile.{Profile};
 ghost use Rattle.plc_base.specs.declared.places.Width.{Width};
 ghost use Rattle.plc_mem.specs.Areas.{Areas};
-ghost use Rattle.plc_mem.specs.Fresh.{fresh};
+ghost use Rattle.plc_mem.specs.Fresh.{initial_memory};
 ghost use Rattle.plc_mem.specs.Peripherals.{with_input, outputs_cleared};
-ghost use Rattle.plc_mem.specs.Refresh.{refreshed};
-ghost use Rattle.plc_mem.specs.Writing.{written};
+ghost use Rattle.plc_mem.specs.Refresh.{memory_refreshed};
+ghost use Rattle.plc_mem.specs.Writing.{number_written};
 ghost use Rattle.status_word.specs.declared.registers.Regs.{Regs};
 ghost use Rattle.frames.specs.Activations.{begun, with_local_byte};
 ghost use Rattle.frames.specs.declared.activation.Activation.{Activation};
@@ -116,15 +116,15 @@ pub fn results_fit()
 /// Memory begins as one of the program, and no call of it changes a size.
 pub fn memory_is_kept()
     ensures begins { (f : Profile) (p : Program)
-        → IsMemoryOf (code_of p) (fresh f (code_of p).blocks) }
+        → IsMemoryOf (code_of p) (initial_memory f (code_of p).blocks) }
     ensures writes { (m n : Areas) (place : Place) (width : Width) (value : ℕ)
-        → written m place width value ≡ Some n → SameSizes m n }
+        → number_written m place width value ≡ Some n → SameSizes m n }
     ensures inputs { (m n : Areas) (byte value : ℕ)
         → with_input m byte value ≡ Some n → SameSizes m n }
     ensures clears { (p : Program) (m : Areas)
         → IsMemoryOf (code_of p) m → SameSizes m (outputs_cleared m) }
     ensures refreshes { (p : Program) (m : Areas)
-        → IsMemoryOf (code_of p) m → SameSizes m (refreshed m) }
+        → IsMemoryOf (code_of p) m → SameSizes m (memory_refreshed m) }
 {}
 
 /// In a code that follows another a statement does the same, at the position there: only positions

@@ -150,7 +150,7 @@ written_in_same : (a : Area) (b : Location) (n : ℕ) (p : ExecState)
     then option_map (λ l. record { local = values.with_locals p.local l; memory = p.memory })
     (local_written p.local.locals b.frame b.place.byte b.place.bit b.width n)
     else option_map (λ m. record { local = p.local; memory = m })
-    (memory.written p.memory b.place b.width n))
+    (memory.number_written p.memory b.place b.width n))
     ≡ own.written_in a b n p
 written_in_same area.L b n p = by (local_written p.local.locals b.frame b.place.byte b.place.bit b.width n)
   where
@@ -160,7 +160,7 @@ written_in_same area.L b n p = by (local_written p.local.locals b.frame b.place.
         ≡ option_map (λ l. own.with_locals l p) o
     by None = refl
     by (Some l) = refl
-written_in_same _ b n p = by (memory.written p.memory b.place b.width n)
+written_in_same _ b n p = by (memory.number_written p.memory b.place b.width n)
   where
     by : (o : Option Areas)
         → option_map (with_scene p) (option_map (λ m. record { local = p.local; memory = m }) o)

@@ -260,7 +260,7 @@ written_in area.L b n p =
     option_map (λ l. with_locals l p)
     (local_written p.local.locals b.frame b.place.byte b.place.bit b.width n)
 written_in _ b n p =
-    option_map (λ m. with_memory m p) (memory.written p.memory b.place b.width n)
+    option_map (λ m. with_memory m p) (memory.number_written p.memory b.place b.width n)
 
 unfoldable pub with_number_at : Location → ℕ → ExecState → Result ExecState ℕ
 with_number_at b n p = ok_or (written_in b.place.area b n p) (no_place Writing b.place.area)

@@ -14,7 +14,7 @@ use Rattle.std.proofs.lemmas.Bool.Decides.{nat_tests}
 use Rattle.std.proofs.lemmas.Option.{slice_get-map}
 use Rattle.plc_base.specs.declared.Profile.{Profile}
 use Rattle.plc_mem.specs.Areas.{Areas}
-use Rattle.plc_mem.specs.Fresh.{fresh}
+use Rattle.plc_mem.specs.Fresh.{initial_memory}
 use Rattle.flat_code.specs.Programs.{DataBlock, Program}
 use Rattle.flat_code.specs.Loading.{Verifies}
 use Rattle.image_file.specs.Readers.{bytes_of}
@@ -131,15 +131,15 @@ same_numbers m n same =
     ∙ lens_numbers (finmap.entries m)
 
 fresh_numbers : (profile : Profile) (p : Program) → Verifies p
-    → numbers_of (finmap.entries (fresh profile (numbered_bytes p.data_blocks)).data_blocks) ≡ numbers_of (numbered_bytes p.data_blocks)
-unfolding fresh
+    → numbers_of (finmap.entries (initial_memory profile (numbered_bytes p.data_blocks)).data_blocks) ≡ numbers_of (numbered_bytes p.data_blocks)
+unfolding initial_memory
 fresh_numbers profile p h = ap numbers_of (rising_entries 0 p.data_blocks (numbers_rise p h))
 
 -- the numbers of the data blocks of a memory are those of its program
 pub memory_numbers : (p : Program) (m : Areas) → Verifies p → IsMemoryOf (code_of p) m
     → numbers_of (finmap.entries m.data_blocks) ≡ numbers_of (numbered_bytes p.data_blocks)
 memory_numbers p m h is =
-    same_numbers (fresh is.profile (numbered_bytes p.data_blocks)).data_blocks m.data_blocks is.sizes.data_blocks ∙ fresh_numbers is.profile p h
+    same_numbers (initial_memory is.profile (numbered_bytes p.data_blocks)).data_blocks m.data_blocks is.sizes.data_blocks ∙ fresh_numbers is.profile p h
 
 -- ---- an entry by its place
 
@@ -213,14 +213,14 @@ some_by_length (Some x) (Some y) h = refl
 some_by_length None (Some y) h = absurd cc
 some_by_length (Some x) None h = absurd cc
 
-fresh_block : (profile : Profile) (p : Program) (n : ℕ) → finmap.get (fresh profile (numbered_bytes p.data_blocks)).data_blocks n ≡ bytes_of n p.data_blocks
-unfolding fresh
+fresh_block : (profile : Profile) (p : Program) (n : ℕ) → finmap.get (initial_memory profile (numbered_bytes p.data_blocks)).data_blocks n ≡ bytes_of n p.data_blocks
+unfolding initial_memory
 fresh_block profile p n = get-from_entries nat_cmp_total (numbered_bytes p.data_blocks) n ∙ found_by_number n p.data_blocks
 
 pub loaded_there : (p : Program) (m : Areas) (n : ℕ) → IsMemoryOf (code_of p) m
     → is_some (finmap.get m.data_blocks n) ≡ is_some (bytes_of n p.data_blocks)
 loaded_there p m n is =
-    some_by_length (finmap.get m.data_blocks n) (finmap.get (fresh is.profile (numbered_bytes p.data_blocks)).data_blocks n) (is.sizes.data_blocks n)
+    some_by_length (finmap.get m.data_blocks n) (finmap.get (initial_memory is.profile (numbered_bytes p.data_blocks)).data_blocks n) (is.sizes.data_blocks n)
     ∙ ap (λ (o : Option (List ℕ)). is_some o) (fresh_block is.profile p n)
 
 pub copied_some : (o : Option (Bor (List ℕ))) → is_some (option_copied o) ≡ is_some o
