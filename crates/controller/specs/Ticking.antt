@@ -4,7 +4,7 @@ use Rattle.std.specs.Fn.{iterate}
 use Rattle.frames.specs.declared.Activation.{Activation}
 use Rattle.machine.specs.Code.{Code}
 use Rattle.machine.specs.Statement.{World}
-use Rattle.timers_counters.specs.Timer.{one_ms}
+use Rattle.timers_counters.specs.Timer.{timer_after_ms}
 use Rattle.ob_sched.specs.Course.{Course}
 use Rattle.ob_sched.specs.Millisecond.{ticked}
 use Rattle.controller.specs.State.{State}
@@ -12,7 +12,7 @@ use Rattle.controller.specs.Requests.{course_taken}
 
 -- the running timers, so many single milliseconds
 abbrev pub timers_moved : (ms : ℕ) → World → World
-timers_moved ms w = record w { timers = iterate (map one_ms) ms w.timers }
+timers_moved ms w = record w { timers = iterate (map timer_after_ms) ms w.timers }
 
 -- the organization blocks that are active, the lowest one first
 abbrev pub active : List Activation → List ℕ

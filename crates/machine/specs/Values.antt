@@ -8,7 +8,7 @@ use Rattle.plc_mem.specs.Writing.{number_written}
 use Rattle.status_word.specs.Flags.{flag_value}
 use Rattle.timers_counters.specs.declared.faults.TimerFault.{TimerFault}
 use Rattle.timers_counters.specs.declared.faults.TimerFault.TheVariants.{NoNumber, BadBcd}
-use Rattle.timers_counters.specs.Numbered.{reading}
+use Rattle.timers_counters.specs.Numbered.{read_at_number}
 use Rattle.timers_counters.specs.Timer.{Timer, units_left, time_left}
 use Rattle.timers_counters.specs.Counter.{Counter, is_counting, count_bcd}
 use Rattle.frames.specs.Locals.{LocalData, local_written}
@@ -50,20 +50,20 @@ is_timer kind = kind == 1
 -- of a timer its output, of a counter whether its value is above 0
 unfoldable pub bit_of_numbered : (kind number : ℕ) → List Timer → List Counter → Result Bool ℕ
 bit_of_numbered kind number t n =
-    if is_timer kind then faulty errors.no_timer (reading (λ (timer : Timer). timer.output) t number)
-    else faulty errors.no_counter (reading is_counting n number)
+    if is_timer kind then faulty errors.no_timer (read_at_number (λ (timer : Timer). timer.output) t number)
+    else faulty errors.no_counter (read_at_number is_counting n number)
 
 -- of a timer the time left in units of its base, of a counter its value
 unfoldable pub value_of_numbered : (kind number : ℕ) → List Timer → List Counter → Result ℕ ℕ
 value_of_numbered kind number t n =
-    if is_timer kind then faulty errors.no_timer (reading units_left t number)
-    else faulty errors.no_counter (reading (λ (counter : Counter). counter.value) n number)
+    if is_timer kind then faulty errors.no_timer (read_at_number units_left t number)
+    else faulty errors.no_counter (read_at_number (λ (counter : Counter). counter.value) n number)
 
 -- the same in BCD
 unfoldable pub bcd_of_numbered : (kind number : ℕ) → List Timer → List Counter → Result ℕ ℕ
 bcd_of_numbered kind number t n =
-    if is_timer kind then faulty errors.no_timer (reading time_left t number)
-    else faulty errors.no_counter (reading count_bcd n number)
+    if is_timer kind then faulty errors.no_timer (read_at_number time_left t number)
+    else faulty errors.no_counter (read_at_number count_bcd n number)
 
 -- the number of a timer or counter: its own, or the word at a place
 unfoldable pub number_named : Operand → Local → Areas → Result ℕ ℕ

@@ -17,7 +17,7 @@ use Rattle.status_word.specs.declared.registers.Regs.{Regs}
 use Rattle.alu.specs.Accumulators as accumulators
 use Rattle.timers_counters.specs.Counter as counters
 use Rattle.timers_counters.specs.Counter.{Counter}
-use Rattle.timers_counters.specs.Numbered.{change}
+use Rattle.timers_counters.specs.Numbered.{change_at_number}
 use Rattle.timers_counters.specs.Timer as timers
 use Rattle.timers_counters.specs.Timer.{Timer}
 use Rattle.timers_counters.specs.declared.faults.TimerFault.{TimerFault}
@@ -213,10 +213,10 @@ error_same code (Err BadBcd) = refl
 
 timer_same : (f : Timer → Option Timer) (n : Number) (p : ExecState)
     → does.on_timers p (then_ok (values.number_named (flat_number 1 n) p.local p.memory)
-    (λ which. values.faulty 0x26 (change f p.timers which)))
+    (λ which. values.faulty 0x26 (change_at_number f p.timers which)))
     ≡ own.on_timer f n p
 timer_same f n p =
-    ap (λ z. does.on_timers p (then_ok z (λ which. values.faulty 0x26 (change f p.timers which))))
+    ap (λ z. does.on_timers p (then_ok z (λ which. values.faulty 0x26 (change_at_number f p.timers which))))
     (numbered_same 1 n p)
     ∙ by (reading.number_of_item n p)
   where
@@ -228,18 +228,18 @@ timer_same f n p =
     changed (Err BadBcd) = refl
 
     by : (z : Result ℕ ℕ)
-        → does.on_timers p (then_ok z (λ which. values.faulty 0x26 (change f p.timers which)))
-        ≡ then_ok z (λ which. then_ok (own.or_error 0x26 (change f p.timers which))
+        → does.on_timers p (then_ok z (λ which. values.faulty 0x26 (change_at_number f p.timers which)))
+        ≡ then_ok z (λ which. then_ok (own.or_error 0x26 (change_at_number f p.timers which))
         (λ all. own.on_regs own.string_ended (record p { timers = all })))
-    by (Ok which) = changed (change f p.timers which)
+    by (Ok which) = changed (change_at_number f p.timers which)
     by (Err e) = refl
 
 counter_same : (f : Counter → Option Counter) (n : Number) (p : ExecState)
     → does.on_counters p (then_ok (values.number_named (flat_number 2 n) p.local p.memory)
-    (λ which. values.faulty 0x27 (change f p.counters which)))
+    (λ which. values.faulty 0x27 (change_at_number f p.counters which)))
     ≡ own.on_counter f n p
 counter_same f n p =
-    ap (λ z. does.on_counters p (then_ok z (λ which. values.faulty 0x27 (change f p.counters which))))
+    ap (λ z. does.on_counters p (then_ok z (λ which. values.faulty 0x27 (change_at_number f p.counters which))))
     (numbered_same 2 n p)
     ∙ by (reading.number_of_item n p)
   where
@@ -251,10 +251,10 @@ counter_same f n p =
     changed (Err BadBcd) = refl
 
     by : (z : Result ℕ ℕ)
-        → does.on_counters p (then_ok z (λ which. values.faulty 0x27 (change f p.counters which)))
-        ≡ then_ok z (λ which. then_ok (own.or_error 0x27 (change f p.counters which))
+        → does.on_counters p (then_ok z (λ which. values.faulty 0x27 (change_at_number f p.counters which)))
+        ≡ then_ok z (λ which. then_ok (own.or_error 0x27 (change_at_number f p.counters which))
         (λ all. own.on_regs own.string_ended (record p { counters = all })))
-    by (Ok which) = changed (change f p.counters which)
+    by (Ok which) = changed (change_at_number f p.counters which)
     by (Err e) = refl
 
 -- by the kind in the operand
@@ -293,7 +293,7 @@ pub set_same : (x : Named) (p : ExecState) → is_set x ≡ true
 unfolding does.effect timing.counter_set
 set_same (named.Counter n) p e =
     ap (λ k. does.set_of k (flat_number 2 n) p) (number_kind 2 n)
-    ∙ counter_same (counters.set_to (own.rlo p) (own.low_word p)) n p
+    ∙ counter_same (counters.set_counter (own.rlo p) (own.low_word p)) n p
 set_same (named.Place spot) p e =
     ap (λ k. does.set_of k (flat_spot spot) p) (spot_kind spot)
     ∙ bit_set_same true (named.Place spot) p refl
@@ -320,31 +320,31 @@ pub free_same : (x : Named) (p : ExecState) → is_freed x ≡ true
 unfolding does.effect timing.counter_freed timing.timer_freed
 free_same (named.Timer n) p e =
     ap (λ k. does.free_of k (flat_number 1 n) p) (number_kind 1 n)
-    ∙ timer_same (λ t. Some (timers.freed_timer (own.rlo p) t)) n p
+    ∙ timer_same (λ t. Some (timers.free_timer (own.rlo p) t)) n p
 free_same (named.Counter n) p e =
     ap (λ k. does.free_of k (flat_number 2 n) p) (number_kind 2 n)
-    ∙ counter_same (λ k. Some (counters.freed_counter (own.rlo p) k)) n p
+    ∙ counter_same (λ k. Some (counters.free_counter (own.rlo p) k)) n p
 free_same _ p e = absurd (false≢true e)
 
 pub start_same : (how : TimerKind) (x : Named) (p : ExecState) → is_timer x ≡ true
     → does.effect (operation.Start how) (flat_of x) p ≡ own.starts how x p
 unfolding does.effect timing.starting
 start_same how (named.Timer n) p e =
-    timer_same (timers.started how (own.rlo p) (own.low_word p)) n p
+    timer_same (timers.start_timer how (own.rlo p) (own.low_word p)) n p
 start_same how _ p e = absurd (false≢true e)
 
 pub up_same : (x : Named) (p : ExecState) → is_counter x ≡ true
-    → does.effect operation.CountUp (flat_of x) p ≡ own.counts counters.counted_up x p
+    → does.effect operation.CountUp (flat_of x) p ≡ own.counts counters.count_up x p
 unfolding does.effect timing.counting_up
 up_same (named.Counter n) p e =
-    counter_same (λ k. Some (counters.counted_up (own.rlo p) k)) n p
+    counter_same (λ k. Some (counters.count_up (own.rlo p) k)) n p
 up_same _ p e = absurd (false≢true e)
 
 pub down_same : (x : Named) (p : ExecState) → is_counter x ≡ true
-    → does.effect operation.CountDown (flat_of x) p ≡ own.counts counters.counted_down x p
+    → does.effect operation.CountDown (flat_of x) p ≡ own.counts counters.count_down x p
 unfolding does.effect timing.counting_down
 down_same (named.Counter n) p e =
-    counter_same (λ k. Some (counters.counted_down (own.rlo p) k)) n p
+    counter_same (λ k. Some (counters.count_down (own.rlo p) k)) n p
 down_same _ p e = absurd (false≢true e)
 
 -- ---- the master control relay

@@ -8,7 +8,7 @@ use Rattle.plc_base.specs.declared.places.Area.TheVariants as area
 use Rattle.plc_base.specs.declared.places.Width.TheVariants as widths
 use Rattle.status_word.specs.Flags.{flag_value}
 use Rattle.timers_counters.specs.Counter.{Counter, count_bcd, is_counting}
-use Rattle.timers_counters.specs.Numbered.{reading}
+use Rattle.timers_counters.specs.Numbered.{read_at_number}
 use Rattle.timers_counters.specs.Timer.{Timer, time_left, units_left}
 use Rattle.timers_counters.specs.declared.faults.TimerFault.TheVariants.{NoNumber}
 use Rattle.frames.specs.declared.bindings.Binding.{Binding}
@@ -166,7 +166,7 @@ numbered_same kind (named.Written n) p = refl
 numbered_same kind (named.InWord from byte) p = standing_same from byte widths.Word p
 
 faulty_same : {A B : Type 0} (code : ℕ) (read : A → B) (all : List A) (n : ℕ)
-    → values.faulty code (reading read all n) ≡ ok_or (option_map read (slice_get all n)) code
+    → values.faulty code (read_at_number read all n) ≡ ok_or (option_map read (slice_get all n)) code
 faulty_same {A = A} code read all n = by (slice_get all n)
   where
     by : (o : Option A)
@@ -195,13 +195,13 @@ one_same (Err code) = refl
 -- of a timer or a counter by its number in a word
 in_word : {A B : Type 0} (code : ℕ) (read : A → B) (all : List A) (from : Area) (byte : ℕ) (p : ExecState)
     → then_ok (places.pointer from byte widths.Word p.local p.memory)
-    (λ n. values.faulty code (reading read all n))
+    (λ n. values.faulty code (read_at_number read all n))
     ≡ then_ok (own.stored_number from byte widths.Word p)
     (λ n. ok_or (option_map read (slice_get all n)) code)
 in_word code read all from byte p =
     then_same (places.pointer from byte widths.Word p.local p.memory)
     (own.stored_number from byte widths.Word p)
-    (λ n. values.faulty code (reading read all n))
+    (λ n. values.faulty code (read_at_number read all n))
     (λ n. ok_or (option_map read (slice_get all n)) code)
     (standing_same from byte widths.Word p) (λ n. faulty_same code read all n)
 

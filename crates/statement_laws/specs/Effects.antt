@@ -30,7 +30,7 @@ use Rattle.alu.specs.Shifts as shifts
 use Rattle.alu.specs.Sums as sums
 use Rattle.alu.specs.WordLogic as word_logic
 use Rattle.timers_counters.specs.Counter as counters
-use Rattle.timers_counters.specs.Numbered.{change}
+use Rattle.timers_counters.specs.Numbered.{change_at_number}
 use Rattle.timers_counters.specs.Timer as timers
 use Rattle.timers_counters.specs.declared.faults.TimerFault.{TimerFault}
 use Rattle.timers_counters.specs.declared.faults.TimerFault.TheVariants.{BadBcd, NoNumber}
@@ -294,18 +294,18 @@ or_error code (Err BadBcd) = Err 0x21
 abbrev pub on_timer : (timers.Timer → Option timers.Timer) → Number → ExecState → Result ExecState ℕ
 on_timer f n p =
     then_ok (number_of_item n p) (λ which.
-    then_ok (or_error 0x26 (change f p.timers which)) (λ all.
+    then_ok (or_error 0x26 (change_at_number f p.timers which)) (λ all.
     on_regs string_ended (record p { timers = all })))
 
 abbrev pub on_counter : (counters.Counter → Option counters.Counter) → Number → ExecState → Result ExecState ℕ
 on_counter f n p =
     then_ok (number_of_item n p) (λ which.
-    then_ok (or_error 0x27 (change f p.counters which)) (λ all.
+    then_ok (or_error 0x27 (change_at_number f p.counters which)) (λ all.
     on_regs string_ended (record p { counters = all })))
 
 -- SP SE SD SS SF
 abbrev pub starts : TimerKind → Named → ExecState → Result ExecState ℕ
-starts how (named.Timer n) p = on_timer (timers.started how (rlo p) (low_word p)) n p
+starts how (named.Timer n) p = on_timer (timers.start_timer how (rlo p) (low_word p)) n p
 starts how x p = Err 0
 
 -- CU, CD
@@ -315,7 +315,7 @@ counts f x p = Err 0
 
 -- S of a counter, and of a bit
 abbrev pub sets : Named → ExecState → Result ExecState ℕ
-sets (named.Counter n) p = on_counter (counters.set_to (rlo p) (low_word p)) n p
+sets (named.Counter n) p = on_counter (counters.set_counter (rlo p) (low_word p)) n p
 sets x p = sets_bit true x p
 
 -- R of a timer, of a counter, and of a bit
@@ -326,8 +326,8 @@ resets x p = sets_bit false x p
 
 -- FR of a timer and of a counter
 abbrev pub frees : Named → ExecState → Result ExecState ℕ
-frees (named.Timer n) p = on_timer (λ t. Some (timers.freed_timer (rlo p) t)) n p
-frees (named.Counter n) p = on_counter (λ k. Some (counters.freed_counter (rlo p) k)) n p
+frees (named.Timer n) p = on_timer (λ t. Some (timers.free_timer (rlo p) t)) n p
+frees (named.Counter n) p = on_counter (λ k. Some (counters.free_counter (rlo p) k)) n p
 frees x p = Err 0
 
 -- ---- data blocks
@@ -458,8 +458,8 @@ action code.Sd x p = starts timer.Sd x p
 action code.Ss x p = starts timer.Ss x p
 action code.Sf x p = starts timer.Sf x p
 action code.Fr x p = frees x p
-action code.Cu x p = counts counters.counted_up x p
-action code.Cd x p = counts counters.counted_down x p
+action code.Cu x p = counts counters.count_up x p
+action code.Cd x p = counts counters.count_down x p
 action code.Opn x p = opens x p
 action code.Cdb x p = exchanges_blocks p
 action _ x p = Err 0
