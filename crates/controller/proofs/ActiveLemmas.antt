@@ -4,7 +4,7 @@ use Rattle.std.specs.Prelude.{map, reverse, min, IfSome}
 use Rattle.std.specs.Option.{option_map}
 use Rattle.std.proofs.lemmas.List.{length-reverse, length-take-le, take_more_set, take_more, reverse-append, reverse-reverse}
 use Rattle.plc_base.specs.declared.Profile.{Profile}
-use Rattle.frames.specs.Activations.{begun, frame_begun}
+use Rattle.frames.specs.Activations.{activation_begun, frame_begun}
 use Rattle.frames.specs.declared.Activation.{Activation}
 use Rattle.machine.specs.Code.{Head}
 use Rattle.ob_sched.specs.declared.start_infos.StartInfo.{StartInfo}
@@ -54,7 +54,7 @@ running_last n all a h here =
 pub block_begins : (profile : Profile) (found : Option Head) (class ob : ℕ) (info : StartInfo) (n : ℕ)
     (old : List Activation) → Some n ≡ option_map (λ (head : Head). min head.local_len 1024) found
     → Begins (option_map (ob_begun profile class ob info) found) old
-    (told_from 0 info.bytes (begun profile class ob (frame_begun (ob_block ob) n)) ∷ old) true
+    (told_from 0 info.bytes (activation_begun profile class ob (frame_begun (ob_block ob) n)) ∷ old) true
 unfolding ob_begun
 block_begins profile None class ob info n old h = absurd cc
 block_begins profile (Some head) class ob info n old h = search (rules, h)
@@ -72,6 +72,6 @@ pub block_is : (profile : Profile) (found : Option Head) (class ob : ℕ) (info 
 unfolding ob_begun
 block_is profile None class ob info = tt
 block_is profile (Some head) class ob info = (
-  told_class info.bytes 0 (begun profile class ob (ob_frame ob head)),
-  told_ob info.bytes 0 (begun profile class ob (ob_frame ob head)),
+  told_class info.bytes 0 (activation_begun profile class ob (ob_frame ob head)),
+  told_ob info.bytes 0 (activation_begun profile class ob (ob_frame ob head)),
 )

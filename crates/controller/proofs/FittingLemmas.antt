@@ -16,7 +16,7 @@ use Rattle.plc_mem.specs.Peripherals.{with_input, outputs_cleared}
 use Rattle.plc_mem.specs.Refresh.{memory_refreshed}
 use Rattle.plc_mem.specs.Restart.{retained_bit_memory, memory_after_restart}
 use Rattle.plc_mem.specs.Writing.{number_written}
-use Rattle.frames.specs.Activations.{begun, with_local_byte}
+use Rattle.frames.specs.Activations.{activation_begun, with_local_byte}
 use Rattle.frames.specs.declared.Activation.{Activation}
 use Rattle.frames.specs.declared.bindings.Binding.{Binding}
 use Rattle.flat_code.specs.Loading.{Verifies}
@@ -131,8 +131,8 @@ begun_fits : (profile : Profile) (l : MachineLaws) (p : Program) (m : Areas) (cl
     → FitsProgram p m (ob_begun profile class ob info h)
 unfolding ob_begun
 begun_fits profile l p m class ob info h verifies memory found =
-    told_fits l p m info.bytes 0 (begun profile class ob (ob_frame ob h))
-    (subst (λ (n : ℕ). FitsProgram p m (begun profile class ob (first_frame ob n)))
+    told_fits l p m info.bytes 0 (activation_begun profile class ob (ob_frame ob h))
+    (subst (λ (n : ℕ). FitsProgram p m (activation_begun profile class ob (first_frame ob n)))
     (sym (uncut h.local_len (l.room p ob h verifies found)))
     (l.begins profile p m class ob h verifies memory found))
 

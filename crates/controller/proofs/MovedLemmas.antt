@@ -6,8 +6,8 @@ use Rattle.plc_base.specs.declared.Profile.{Profile}
 use Rattle.plc_base.specs.declared.BlockId.{BlockId}
 use Rattle.plc_base.specs.declared.Spot.{Spot}
 use Rattle.status_word.specs.declared.Regs.{Regs}
-use Rattle.frames.specs.Activations.{begun, with_local_byte}
-use Rattle.frames.specs.Locals.{LocalData, byte_set}
+use Rattle.frames.specs.Activations.{activation_begun, with_local_byte}
+use Rattle.frames.specs.Locals.{LocalData, local_byte_set}
 use Rattle.frames.specs.declared.Activation.{Activation}
 use Rattle.frames.specs.declared.bindings.Binding.{Binding}
 use Rattle.frames.specs.declared.frame.Frame.{Frame}
@@ -68,14 +68,14 @@ told_moves :
     → told_from byte values (moved f a) ≡ moved f (told_from byte values a)
 told_moves f byte [] a = refl
 told_moves f byte (value ∷ rest) a =
-    ap (told_from (byte + 1) rest) (byte_moves f (byte_set a.running.locals 0 byte value) a)
+    ap (told_from (byte + 1) rest) (byte_moves f (local_byte_set a.running.locals 0 byte value) a)
     ∙ told_moves f (byte + 1) rest (unwrap_or (with_local_byte 0 byte value a) a)
 
 begun_moves :
     (profile : Profile) (f : Positions) (class ob : ℕ) (head : Head) → f (ob_block ob) 0 ≡ 0
-    → begun profile class ob (ob_frame ob head) ≡ moved f (begun profile class ob (ob_frame ob head))
+    → activation_begun profile class ob (ob_frame ob head) ≡ moved f (activation_begun profile class ob (ob_frame ob head))
 begun_moves profile f class ob head start =
-    ap (λ (at : ℕ). begun profile class ob (record (ob_frame ob head) { at = at })) (sym start)
+    ap (λ (at : ℕ). activation_begun profile class ob (record (ob_frame ob head) { at = at })) (sym start)
 
 ob_moves :
     (profile : Profile) (f : Positions) (class ob : ℕ) (info : StartInfo) (head : Head) → f (ob_block ob) 0 ≡ 0
@@ -83,7 +83,7 @@ ob_moves :
 unfolding ob_begun
 ob_moves profile f class ob info head start =
     ap (told_from 0 info.bytes) (begun_moves profile f class ob head start)
-    ∙ told_moves f 0 info.bytes (begun profile class ob (ob_frame ob head))
+    ∙ told_moves f 0 info.bytes (activation_begun profile class ob (ob_frame ob head))
 
 head_moves :
     (profile : Profile) (f : Positions) (class ob : ℕ) (info : StartInfo) (o : Option Head) → f (ob_block ob) 0 ≡ 0

@@ -5,8 +5,8 @@ use Rattle.std.specs.Option.{option_map}
 use Rattle.plc_base.specs.Kinds.{is_system_function}
 use Rattle.plc_base.specs.declared.BlockId.{BlockId}
 use Rattle.plc_mem.specs.Areas.{Areas}
-use Rattle.frames.specs.Activations.{refused, with_local_byte}
-use Rattle.frames.specs.Locals.{byte_set, LocalData}
+use Rattle.frames.specs.Activations.{entry_fault, with_local_byte}
+use Rattle.frames.specs.Locals.{local_byte_set, LocalData}
 use Rattle.frames.specs.declared.Activation.{Activation}
 use Rattle.frames.specs.declared.FrameFault.{FrameFault}
 use Rattle.frames.specs.declared.bindings.Binding.{Binding}
@@ -17,7 +17,7 @@ use Rattle.machine.specs.Bindings.{bindings_of}
 use Rattle.machine.specs.Code.{Code, Fetched, Head}
 use Rattle.machine.specs.Effect.{effect_with}
 use Rattle.machine.specs.Entering.{Call, Fails, Stops, Enters, Callee, supplied, entered_if, called_with, call, fresh, caller_at, going_on}
-use Rattle.frames.specs.Activations.{entered}
+use Rattle.frames.specs.Activations.{block_entered}
 use Rattle.machine.specs.ExecState.{ExecState, local_of, exec_state_of}
 use Rattle.machine.specs.Returning.{Return, GoesOn, Ends, left, given_back, returning}
 use Rattle.machine.specs.Statement.{World, Step, Went, Ended, SyncError, SysCall, Stop, Stuck, continue_with, after_call, callee_of, block_called, after_system_call, system_called, called, is_called, not_called, after_return, returned, is_ended, step_of, step_found, statement}
@@ -51,7 +51,7 @@ went_same (Ok p) next a = (refl, refl)
 went_same (Err code) next a = (refl, refl)
 
 supplied_same : (instance : Option ℕ) (params : List Param) (f : Frame) (next : ℕ)
-    (a : Activation) (m : Areas) → SameCall a (supplied instance params (entered f (caller_at next a)) m)
+    (a : Activation) (m : Areas) → SameCall a (supplied instance params (block_entered f (caller_at next a)) m)
 supplied_same None params f next a m = (refl, refl)
 supplied_same (Some instance) params f next a m = (refl, refl)
 
@@ -65,7 +65,7 @@ called_same : (r : Result (List Binding) ℕ) (c : Callee) (next : ℕ) (a : Act
     → SameCall a (called_with r c next a m)
 called_same (Err code) c next a m = tt
 called_same (Ok bindings) c next a m =
-    entered_same (refused c.local_len a) c bindings next a m
+    entered_same (entry_fault c.local_len a) c bindings next a m
 
 call_same : (c : Callee) (passings : List Passing) (next : ℕ) (a : Activation) (m : Areas)
     → SameCall a (call c passings next a m)
@@ -174,11 +174,11 @@ pub told_class : (bytes : List ℕ) (byte : ℕ) (a : Activation)
 told_class [] byte a = refl
 told_class (value ∷ rest) byte a =
     told_class rest (byte + 1) (unwrap_or (with_local_byte 0 byte value a) a)
-    ∙ (local_same (byte_set a.running.locals 0 byte value) a).0
+    ∙ (local_same (local_byte_set a.running.locals 0 byte value) a).0
 
 pub told_ob : (bytes : List ℕ) (byte : ℕ) (a : Activation)
     → (told_from byte bytes a).ob ≡ a.ob
 told_ob [] byte a = refl
 told_ob (value ∷ rest) byte a =
     told_ob rest (byte + 1) (unwrap_or (with_local_byte 0 byte value a) a)
-    ∙ (local_same (byte_set a.running.locals 0 byte value) a).1
+    ∙ (local_same (local_byte_set a.running.locals 0 byte value) a).1

@@ -7,7 +7,7 @@ use Rattle.plc_base.specs.declared.Profile.{Profile}
 use Rattle.plc_base.specs.declared.Profile.TheVariants.{Small}
 use Rattle.plc_base.specs.declared.Mode.{Mode}
 use Rattle.plc_base.specs.declared.Mode.TheVariants.{Run, Startup, Stop}
-use Rattle.frames.specs.Activations.{begun}
+use Rattle.frames.specs.Activations.{activation_begun}
 use Rattle.frames.specs.declared.Activation.{Activation}
 use Rattle.machine.specs.Code.{Code, Head}
 use Rattle.ob_sched.specs.OrganizationBlock.{can_wait, class_in, is_error}
@@ -29,7 +29,7 @@ some_head : Head
 some_head = record { local_len = 0; instance_len = 0; params = [] }
 
 abbrev some_of : (class ob : ℕ) → Activation
-some_of class ob = begun Small class ob (ob_frame ob some_head)
+some_of class ob = activation_begun Small class ob (ob_frame ob some_head)
 
 pub not_empty : (mode : Mode) (a : Activation) (below : List Activation)
     → RunsInStartup mode (a ∷ below)
@@ -163,8 +163,8 @@ ob_is_by : (profile : Profile) (class ob : ℕ) (info : StartInfo) (found : Opti
 unfolding IsOf ob_begun
 ob_is_by profile class ob info None = tt
 ob_is_by profile class ob info (Some h) = (
-  told_class info.bytes 0 (begun profile class ob (ob_frame ob h)),
-  told_ob info.bytes 0 (begun profile class ob (ob_frame ob h)),
+  told_class info.bytes 0 (activation_begun profile class ob (ob_frame ob h)),
+  told_ob info.bytes 0 (activation_begun profile class ob (ob_frame ob h)),
 )
 
 pub ob_is : (profile : Profile) (code : Code) (class ob : ℕ) (info : StartInfo)

@@ -4,7 +4,7 @@ use Rattle.std.specs.Option.{option_map}
 use Rattle.plc_base.specs.declared.Profile.{Profile}
 use Rattle.plc_base.specs.declared.blocks.BlockKind.TheVariants.{Ob}
 use Rattle.plc_base.specs.declared.BlockId.{BlockId}
-use Rattle.frames.specs.Activations.{begun, frame_begun, with_local_byte}
+use Rattle.frames.specs.Activations.{activation_begun, frame_begun, with_local_byte}
 use Rattle.frames.specs.declared.Activation.{Activation}
 use Rattle.frames.specs.declared.frame.Frame.{Frame}
 use Rattle.machine.specs.Code.{Code, Head}
@@ -29,7 +29,7 @@ told_from byte (value ∷ rest) a =
 -- an organization block as it begins, with its start information in its first 20 local bytes: all
 -- registers and the status word 0, nothing delayed
 unfoldable pub ob_begun : Profile → (class ob : ℕ) → StartInfo → Head → Activation
-ob_begun profile class ob info head = told_from 0 info.bytes (begun profile class ob (ob_frame ob head))
+ob_begun profile class ob info head = told_from 0 info.bytes (activation_begun profile class ob (ob_frame ob head))
 
 -- an organization block of a program as it begins; none where it isn't loaded
 abbrev pub ob_in : Profile → Code → (class ob : ℕ) → StartInfo → Option Activation

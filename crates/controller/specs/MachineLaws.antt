@@ -9,7 +9,7 @@ use Rattle.plc_mem.specs.Peripherals.{with_input, outputs_cleared}
 use Rattle.plc_mem.specs.Refresh.{memory_refreshed}
 use Rattle.plc_mem.specs.Writing.{number_written}
 use Rattle.status_word.specs.declared.Regs.{Regs}
-use Rattle.frames.specs.Activations.{begun, with_local_byte}
+use Rattle.frames.specs.Activations.{activation_begun, with_local_byte}
 use Rattle.frames.specs.declared.Activation.{Activation}
 use Rattle.frames.specs.declared.bindings.Binding.{Binding}
 use Rattle.flat_code.specs.Loading.{Verifies}
@@ -31,7 +31,7 @@ pub record MachineLaws : Type 0 where
       → SameSizes m n → FitsProgram p m a → FitsProgram p n a
   pub begins : (profile : Profile) (p : Program) (m : Areas) (class ob : ℕ) (h : Head)
       → Verifies p → IsMemoryOf (code_of p) m → (code_of p).head (ob_block ob) ≡ Some h
-      → FitsProgram p m (begun profile class ob (first_frame ob h.local_len))
+      → FitsProgram p m (activation_begun profile class ob (first_frame ob h.local_len))
   pub room : (p : Program) (ob : ℕ) (h : Head)
       → Verifies p → (code_of p).head (ob_block ob) ≡ Some h → h.local_len ≤ 1024
   pub registers : (p : Program) (m : Areas) (a : Activation) (r : Regs)

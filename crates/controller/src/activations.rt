@@ -1,7 +1,7 @@
 //! The running activation and those that it and others interrupted.
 ghost use Rattle.std.specs.Prelude.{◌≡◌, ◌<◌, ◌≤◌, false, [], ◌∷◌, ◌+◌, ◌++◌, length, map, set, take, vec_capacity, IfOk, IfSome};
 ghost use Rattle.std.specs.Option.{option_map};
-ghost use Rattle.frames.specs.Activations.{begun, frame_begun};
+ghost use Rattle.frames.specs.Activations.{activation_begun, frame_begun};
 ghost use Rattle.machine.specs.Flat.{code_of};
 ghost use Rattle.machine.specs.Statement.{world};
 ghost use Rattle.ob_sched.specs.StartInformation.{ob_of_error};
@@ -134,7 +134,7 @@ fn begin_in(
     requires place { place < length all.old }
     requires local { local_len ≤ 1024 }
     ensures { all.new ≡ set all.old place (told_from 0 info.now.bytes
-        (begun profile class ob (frame_begun (block_of_ob ob) local_len))) }
+        (activation_begun profile class ob (frame_begun (block_of_ob ob) local_len))) }
 {
     let a = &mut all[place];
     a.restart(class, ob, ob_block(ob), local_len, profile);
@@ -206,7 +206,7 @@ impl Activations {
         requires room { length self.old < 48 }
         requires local { local_len ≤ 1024 }
         ensures { self.new ≡ told_from 0 info.now.bytes
-            (begun profile class ob (frame_begun (block_of_ob ob) local_len)) ∷ self.old }
+            (activation_begun profile class ob (frame_begun (block_of_ob ob) local_len)) ∷ self.old }
     {
         make_place(&mut self.all, self.standing);
         begin_in(

@@ -14,8 +14,8 @@ use Rattle.plc_mem.specs.Run.{number_over, operand_bit_of}
 use Rattle.plc_mem.specs.Writing.{is_within, put_number, bytes_with_number, byte_with_bit}
 use Rattle.plc_mem.proofs.Numbers.{run_none, weights_same}
 use Rattle.plc_mem.proofs.Stored.{length-stored}
-use Rattle.frames.specs.Locals.{LocalData, no_locals, end_of, local_number, local_written, opened, closed, closed_at, last_start}
-use Rattle.frames.specs.OwnBytes.{IsLaidOut, IsOwnWritten, bytes_of, own_bytes, pieces}
+use Rattle.frames.specs.Locals.{LocalData, no_locals, frame_bytes_end, local_number, local_written, open_locals, close_locals, close_locals_at, last_start}
+use Rattle.frames.specs.OwnBytes.{IsLaidOut, IsOwnWritten, frame_bytes, own_bytes, bytes_cut}
 
 -- ---- where the pieces begin
 
@@ -136,13 +136,13 @@ laid_from l first rises = record {
 
 pub piece_is :
     (starts bytes : List ℕ) (k : ℕ)
-    → slice_get (pieces starts bytes) k
+    → slice_get (bytes_cut starts bytes) k
     ≡ option_map (λ start. slice_range bytes start (begin starts (length bytes) (suc k))) (slice_get starts k)
 piece_is [] bytes k = refl
 piece_is (s ∷ rest) bytes zero = refl
 piece_is (s ∷ rest) bytes (suc k) = piece_is rest bytes k
 
-pub each_is : (l : LocalData) (frame : ℕ) → slice_get (own_bytes l) frame ≡ bytes_of l frame
+pub each_is : (l : LocalData) (frame : ℕ) → slice_get (own_bytes l) frame ≡ frame_bytes l frame
 each_is l frame =
     piece_is l.starts l.bytes frame
     ∙ ap (λ (n : ℕ). option_map (λ start. slice_range l.bytes start (begin l.starts (length l.bytes) n)) (slice_get l.starts frame)) (sym (add-one frame))
@@ -157,7 +157,7 @@ range_and_rest xs a b le =
 -- the pieces, one behind the other
 joined :
     (starts bytes : List ℕ) → Rises starts (length bytes)
-    → concat (pieces starts bytes) ≡ drop (begin starts (length bytes) 0) bytes
+    → concat (bytes_cut starts bytes) ≡ drop (begin starts (length bytes) 0) bytes
 joined [] bytes rises = sym (drop_all (length bytes) bytes (omega arith))
 joined (s ∷ rest) bytes rises =
     let more = joined rest bytes (λ k. rises (suc k)) in
@@ -180,7 +180,7 @@ range_in_front xs a b s le within =
 
 pieces_push :
     (starts : List ℕ) (s : ℕ) (bytes : List ℕ) → Rises (starts ++ s ∷ []) (length bytes)
-    → pieces (starts ++ s ∷ []) bytes ≡ pieces starts (take s bytes) ++ drop s bytes ∷ []
+    → bytes_cut (starts ++ s ∷ []) bytes ≡ bytes_cut starts (take s bytes) ++ drop s bytes ∷ []
 pieces_push [] s bytes rises = ap (λ (ys : List ℕ). ys ∷ []) (take_rest bytes s)
 pieces_push (a ∷ rest) s bytes rises =
     let behind : Rises (rest ++ s ∷ []) (length bytes) = λ k. rises (suc k) in
@@ -194,7 +194,7 @@ pieces_push (a ∷ rest) s bytes rises =
     ap (slice_range bytes a) next
     ∙ range_in_front bytes a (begin rest s 0) s (omega (arith, up, next)) low
     ∙ ap (λ (n : ℕ). slice_range (take s bytes) a (begin rest n 0)) (sym size) in
-    ap (λ (ys : List ℕ). ys ∷ pieces (rest ++ s ∷ []) bytes) front
+    ap (λ (ys : List ℕ). ys ∷ bytes_cut (rest ++ s ∷ []) bytes) front
     ∙ ap (λ (p : List (List ℕ)). slice_range (take s bytes) a (begin rest (length (take s bytes)) 0) ∷ p) (pieces_push rest s bytes behind)
 
 -- ---- opening and closing
@@ -204,15 +204,15 @@ none_laid = record { begins = refl; rises = λ k. omega arith }
 
 pub opened_own :
     (len : ℕ) (l : LocalData) → IsLaidOut l
-    → IsLaidOut (opened len l) × (own_bytes (opened len l) ≡ own_bytes l ++ replicate len 0 ∷ [])
+    → IsLaidOut (open_locals len l) × (own_bytes (open_locals len l) ≡ own_bytes l ++ replicate len 0 ∷ [])
 opened_own len l laid =
     let zeros : List ℕ = replicate len 0 in
     let all : List ℕ = l.bytes ++ zeros in
     let more : length l.bytes ≤ length all = search (rules, places) in
     let rises = rises_push l.starts (length l.bytes) (length all) (rises_from l laid) more in (
-      laid_from (opened len l) (first_push l.starts (length l.bytes) (length all) ∙ laid.begins) rises,
+      laid_from (open_locals len l) (first_push l.starts (length l.bytes) (length all) ∙ laid.begins) rises,
       pieces_push l.starts (length l.bytes) all rises
-          ∙ ap (λ (ys : List ℕ). pieces l.starts ys ++ drop (length l.bytes) all ∷ []) (take_at l.bytes zeros (length l.bytes) refl)
+          ∙ ap (λ (ys : List ℕ). bytes_cut l.starts ys ++ drop (length l.bytes) all ∷ []) (take_at l.bytes zeros (length l.bytes) refl)
           ∙ ap (λ (ys : List ℕ). own_bytes l ++ ys ∷ []) (drop_at l.bytes zeros (length l.bytes) refl),
     )
 
@@ -241,16 +241,16 @@ without_last front x =
 
 closed_last :
     (front : List ℕ) (s : ℕ) (bytes : List ℕ)
-    → closed (record { starts = front ++ s ∷ []; bytes = bytes }) ≡ record { starts = front; bytes = take s bytes }
+    → close_locals (record { starts = front ++ s ∷ []; bytes = bytes }) ≡ record { starts = front; bytes = take s bytes }
 closed_last front s bytes =
     let l : LocalData = record { starts = front ++ s ∷ []; bytes = bytes } in
     let last : last_start (front ++ s ∷ []) ≡ Some s =
     ap (slice_get (front ++ s ∷ [])) (one_less front s) ∙ last_at front s in
-    ap (closed_at l) last
+    ap (close_locals_at l) last
     ∙ ap (λ (z : List ℕ). let r : LocalData = record { starts = z; bytes = take s bytes } in r) (without_last front s)
 
 abbrev IsClosed : LocalData → Type 0
-IsClosed l = IsLaidOut (closed l) × (own_bytes (closed l) ≡ take (length (own_bytes l) - 1) (own_bytes l))
+IsClosed l = IsLaidOut (close_locals l) × (own_bytes (close_locals l) ≡ take (length (own_bytes l) - 1) (own_bytes l))
 
 closed_none : (bytes : List ℕ) → (let l : LocalData = record { starts = []; bytes = bytes } in IsLaidOut l → IsClosed l)
 closed_none bytes laid = (laid, refl)
@@ -365,17 +365,17 @@ number_in bytes start end at bit width false test =
 pub number_own :
     (l : LocalData) (frame at bit : ℕ) (width : Width)
     → local_number l frame at bit width
-    ≡ option_and_then (λ own. number_over (slice_get own) at bit width) (bytes_of l frame)
+    ≡ option_and_then (λ own. number_over (slice_get own) at bit width) (frame_bytes l frame)
 unfolding local_number
 number_own l frame at bit width = by (slice_get l.starts frame)
   where
     by : (o : Option ℕ)
         → option_and_then (λ place. number_over (slice_get l.bytes) place bit width)
-        (option_and_then (λ start. cond (nat_le (start + at + byte_count width) (end_of l frame)) (Some (start + at)) None) o)
-        ≡ option_and_then (λ own. number_over (slice_get own) at bit width) (option_map (λ start. slice_range l.bytes start (end_of l frame)) o)
+        (option_and_then (λ start. cond (nat_le (start + at + byte_count width) (frame_bytes_end l frame)) (Some (start + at)) None) o)
+        ≡ option_and_then (λ own. number_over (slice_get own) at bit width) (option_map (λ start. slice_range l.bytes start (frame_bytes_end l frame)) o)
     by None = refl
     by (Some start) =
-        number_in l.bytes start (end_of l frame) at bit width (nat_le (start + at + byte_count width) (end_of l frame)) refl
+        number_in l.bytes start (frame_bytes_end l frame) at bit width (nat_le (start + at + byte_count width) (frame_bytes_end l frame)) refl
 
 -- ---- writing
 
@@ -494,7 +494,7 @@ unfolding put_number
 put_none bytes at bit width value is = rw is refl
 
 -- where the next frame's bytes begin
-end_is : (l : LocalData) (frame : ℕ) → end_of l frame ≡ begin l.starts (length l.bytes) (suc frame)
+end_is : (l : LocalData) (frame : ℕ) → frame_bytes_end l frame ≡ begin l.starts (length l.bytes) (suc frame)
 end_is l frame = ap (begin l.starts (length l.bytes)) (add-one frame)
 
 apart : (n m : ℕ) → n ≢ m → (n < m) ⊎ (m < n)
@@ -504,7 +504,7 @@ apart n m other = grind arith
 outside_others :
     (l : LocalData) → IsLaidOut l → (frame start at k other from : ℕ)
     → slice_get l.starts frame ≡ Some start → slice_get l.starts other ≡ Some from → other ≢ frame
-    → start + at + k ≤ end_of l frame → Outside from (end_of l other) (start + at) k
+    → start + at + k ≤ frame_bytes_end l frame → Outside from (frame_bytes_end l other) (start + at) k
 outside_others l laid frame start at k other from is there apart_is within =
     let rises = rises_from l laid in
     let here = begin_is l.starts (length l.bytes) frame start is in
@@ -523,7 +523,7 @@ outside_others l laid frame start at k other from is there apart_is within =
 written_there :
     (l : LocalData) → IsLaidOut l → (frame start at bit : ℕ) (width : Width) (value : ℕ)
     → slice_get l.starts frame ≡ Some start
-    → start + at + byte_count width ≤ end_of l frame
+    → start + at + byte_count width ≤ frame_bytes_end l frame
     → is_within l.bytes (start + at) bit width ≡ true
     → (let new : LocalData = record l { bytes = bytes_with_number l.bytes (start + at) bit width value } in IsOwnWritten l new frame at bit width value)
 written_there l laid frame start at bit width value is le within =
@@ -531,20 +531,20 @@ written_there l laid frame start at bit width value is le within =
     let new : LocalData = record l { bytes = bytes } in
     let rises = rises_from l laid in
     let size : length bytes ≡ length l.bytes = length-stored l.bytes (start + at) bit width value in
-    let ends : (k : ℕ) → end_of new k ≡ end_of l k = λ k. ap (λ (n : ℕ). begin l.starts n (k + 1)) size in
+    let ends : (k : ℕ) → frame_bytes_end new k ≡ frame_bytes_end l k = λ k. ap (λ (n : ℕ). begin l.starts n (k + 1)) size in
     let past = before_end l.starts (length l.bytes) rises (suc frame) in
     let end = end_is l frame in
-    let own : List ℕ = slice_range l.bytes start (end_of l frame) in
-    let mine : bytes_of l frame ≡ Some own = ap (option_map (λ s. slice_range l.bytes s (end_of l frame))) is in
+    let own : List ℕ = slice_range l.bytes start (frame_bytes_end l frame) in
+    let mine : frame_bytes l frame ≡ Some own = ap (option_map (λ s. slice_range l.bytes s (frame_bytes_end l frame))) is in
     record {
       own =
-          ap (option_map (λ s. slice_range bytes s (end_of new frame))) is
+          ap (option_map (λ s. slice_range bytes s (frame_bytes_end new frame))) is
           ∙ ap (λ (e : ℕ). Some (slice_range bytes start e)) (ends frame)
-          ∙ ap Some (stored_own l.bytes start (end_of l frame) at bit width value le)
+          ∙ ap Some (stored_own l.bytes start (frame_bytes_end l frame) at bit width value le)
           ∙ sym
           (ap (option_and_then (λ ys. put_number ys at bit width value)) mine
           ∙ put_stored own at bit width value
-          (within_own l.bytes start (end_of l frame) at bit width le (omega (arith, past, end)) ∙ within));
+          (within_own l.bytes start (frame_bytes_end l frame) at bit width le (omega (arith, past, end)) ∙ within));
       others = λ other apart_is. by other apart_is size ends (slice_get l.starts other) refl;
       laid =
           laid_from new
@@ -554,15 +554,15 @@ written_there l laid frame start at bit width value is le within =
   where
     by : (other : ℕ) → other ≢ frame
         → length (bytes_with_number l.bytes (start + at) bit width value) ≡ length l.bytes
-        → ((k : ℕ) → begin l.starts (length (bytes_with_number l.bytes (start + at) bit width value)) (k + 1) ≡ end_of l k)
+        → ((k : ℕ) → begin l.starts (length (bytes_with_number l.bytes (start + at) bit width value)) (k + 1) ≡ frame_bytes_end l k)
         → (o : Option ℕ) → slice_get l.starts other ≡ o
         → option_map (λ s. slice_range (bytes_with_number l.bytes (start + at) bit width value) s (begin l.starts (length (bytes_with_number l.bytes (start + at) bit width value)) (other + 1))) o
-        ≡ option_map (λ s. slice_range l.bytes s (end_of l other)) o
+        ≡ option_map (λ s. slice_range l.bytes s (frame_bytes_end l other)) o
     by other apart_is size ends None there = refl
     by other apart_is size ends (Some from) there =
         ap (λ (e : ℕ). Some (slice_range (bytes_with_number l.bytes (start + at) bit width value) from e)) (ends other)
         ∙ ap Some
-        (stored_other l.bytes from (end_of l other) (start + at) bit width value
+        (stored_other l.bytes from (frame_bytes_end l other) (start + at) bit width value
         (outside_others l laid frame start at (byte_count width) other from is there apart_is le))
 
 -- what a write of a frame leaves, or that the frame's own bytes have no such operand
@@ -574,41 +574,41 @@ IsWritten l frame at bit width value done own =
 
 pub written_own :
     (l : LocalData) (frame at bit : ℕ) (width : Width) (value : ℕ) → IsLaidOut l
-    → IsWritten l frame at bit width value (local_written l frame at bit width value) (bytes_of l frame)
+    → IsWritten l frame at bit width value (local_written l frame at bit width value) (frame_bytes l frame)
 unfolding local_written put_number
 written_own l frame at bit width value laid = by (slice_get l.starts frame) refl
   where
     stored_or_not : (start : ℕ) → slice_get l.starts frame ≡ Some start
-        → start + at + byte_count width ≤ end_of l frame
+        → start + at + byte_count width ≤ frame_bytes_end l frame
         → (within : Bool) → is_within l.bytes (start + at) bit width ≡ within
         → IsWritten l frame at bit width value
         (option_map (λ bytes. record l { bytes = bytes }) (cond within (Some (bytes_with_number l.bytes (start + at) bit width value)) None))
-        (Some (slice_range l.bytes start (end_of l frame)))
+        (Some (slice_range l.bytes start (frame_bytes_end l frame)))
     stored_or_not start is le true within = written_there l laid frame start at bit width value is le within
     stored_or_not start is le false within =
         let past = before_end l.starts (length l.bytes) (rises_from l laid) (suc frame) in
         let end = end_is l frame in
-        put_none (slice_range l.bytes start (end_of l frame)) at bit width value
-        (within_own l.bytes start (end_of l frame) at bit width le (omega (arith, past, end)) ∙ within)
+        put_none (slice_range l.bytes start (frame_bytes_end l frame)) at bit width value
+        (within_own l.bytes start (frame_bytes_end l frame) at bit width le (omega (arith, past, end)) ∙ within)
 
     placed : (start : ℕ) → slice_get l.starts frame ≡ Some start
-        → (ends : Bool) → nat_le (start + at + byte_count width) (end_of l frame) ≡ ends
+        → (ends : Bool) → nat_le (start + at + byte_count width) (frame_bytes_end l frame) ≡ ends
         → IsWritten l frame at bit width value
         (option_and_then (λ place. option_map (λ bytes. record l { bytes = bytes }) (put_number l.bytes place bit width value)) (cond ends (Some (start + at)) None))
-        (Some (slice_range l.bytes start (end_of l frame)))
+        (Some (slice_range l.bytes start (frame_bytes_end l frame)))
     placed start is true test =
-        stored_or_not start is (leb-true (start + at + byte_count width) (end_of l frame) test) (is_within l.bytes (start + at) bit width) refl
+        stored_or_not start is (leb-true (start + at + byte_count width) (frame_bytes_end l frame) test) (is_within l.bytes (start + at) bit width) refl
     placed start is false test =
-        let past = leb-false (start + at + byte_count width) (end_of l frame) test in
-        let short = range_short l.bytes start (end_of l frame) in
+        let past = leb-false (start + at + byte_count width) (frame_bytes_end l frame) test in
+        let short = range_short l.bytes start (frame_bytes_end l frame) in
         let some = some_first width in
-        put_none (slice_range l.bytes start (end_of l frame)) at bit width value
-        (not_within (slice_range l.bytes start (end_of l frame)) at bit width (omega (arith, past, short, some)))
+        put_none (slice_range l.bytes start (frame_bytes_end l frame)) at bit width value
+        (not_within (slice_range l.bytes start (frame_bytes_end l frame)) at bit width (omega (arith, past, short, some)))
 
     by : (o : Option ℕ) → slice_get l.starts frame ≡ o
         → IsWritten l frame at bit width value
         (option_and_then (λ place. option_map (λ bytes. record l { bytes = bytes }) (put_number l.bytes place bit width value))
-        (option_and_then (λ start. cond (nat_le (start + at + byte_count width) (end_of l frame)) (Some (start + at)) None) o))
-        (option_map (λ start. slice_range l.bytes start (end_of l frame)) o)
+        (option_and_then (λ start. cond (nat_le (start + at + byte_count width) (frame_bytes_end l frame)) (Some (start + at)) None) o))
+        (option_map (λ start. slice_range l.bytes start (frame_bytes_end l frame)) o)
     by None is = refl
-    by (Some start) is = placed start is (nat_le (start + at + byte_count width) (end_of l frame)) refl
+    by (Some start) is = placed start is (nat_le (start + at + byte_count width) (frame_bytes_end l frame)) refl

@@ -12,8 +12,8 @@ use Rattle.plc_mem.specs.Peripherals.{with_input, outputs_cleared}
 use Rattle.plc_mem.specs.Refresh.{memory_refreshed}
 use Rattle.plc_mem.proofs.Runs.{mapped}
 use Rattle.status_word.specs.declared.Regs.{Regs}
-use Rattle.frames.specs.Activations.{begun, with_local_byte}
-use Rattle.frames.specs.Locals.{LocalData, no_locals, opened, byte_set}
+use Rattle.frames.specs.Activations.{activation_begun, with_local_byte}
+use Rattle.frames.specs.Locals.{LocalData, no_locals, open_locals, local_byte_set}
 use Rattle.frames.specs.declared.Activation.{Activation}
 use Rattle.frames.specs.declared.bindings.Binding.{Binding}
 use Rattle.frames.specs.declared.bindings.Binding.TheVariants as binding
@@ -53,7 +53,7 @@ no_params ps m is = rw is tt
 pub ob_begins :
     (l : ImageLaws) (f : Profile) (p : Program) (m : Areas) (class ob : ℕ) (h : Head) → Verifies p → IsMemoryOf (code_of p) m
     → (code_of p).head (record { kind = kinds.Ob; number = ob }) ≡ Some h
-    → FitsProgram p m (begun f class ob (first_frame ob h.local_len))
+    → FitsProgram p m (activation_begun f class ob (first_frame ob h.local_len))
 ob_begins l profile p m class ob h verifies memory found =
     let block : BlockId = record { kind = kinds.Ob; number = ob } in
     let f = first_frame ob h.local_len in
@@ -64,7 +64,7 @@ ob_begins l profile p m class ob h verifies memory found =
     let params : h.params ≡ [] = ap (λ (x : Head). x.params) (sym one.2) ∙ right.0 in
     record {
       memory = memory;
-      fits = fits_of (code_of p) (open_codes p) m (begun profile class ob f) (record {
+      fits = fits_of (code_of p) (open_codes p) m (activation_begun profile class ob f) (record {
         left = refl;
         frame = record {
           statement = let s = statement_there l p block 0 nothing_open entry in some_there ((code_of p).fetch block 0) _ s.fetched;
@@ -93,7 +93,7 @@ local_room l p ob h verifies found =
 pub start_written :
     (l : ImageLaws) (f : Profile) (p : Program) (class ob byte value : ℕ) (h : Head) → Verifies p
     → (code_of p).head (record { kind = kinds.Ob; number = ob }) ≡ Some h → byte < 20
-    → IsSome (with_local_byte 0 byte value (begun f class ob (first_frame ob h.local_len)))
+    → IsSome (with_local_byte 0 byte value (activation_begun f class ob (first_frame ob h.local_len)))
 start_written l profile p class ob byte value h verifies found less =
     let block : BlockId = record { kind = kinds.Ob; number = ob } in
     let f = first_frame ob h.local_len in
@@ -101,8 +101,8 @@ start_written l profile p class ob byte value h verifies found less =
     let b = one.0 in
     let right = (l.blocks p b block verifies one.1).organization (kind_found p.code_blocks block b one.1) in
     let long : 20 ≤ h.local_len = let e : b.local_len ≡ h.local_len = ap (λ (x : Head). x.local_len) one.2 in let r = right.1 in omega (arith, e, r) in
-    mapped_there _ (byte_set (opened f.local_len no_locals) 0 byte value)
-    (lies_written (f ∷ []) (opened f.local_len no_locals) 0 byte 0 value widths.Byte
+    mapped_there _ (local_byte_set (open_locals f.local_len no_locals) 0 byte value)
+    (lies_written (f ∷ []) (open_locals f.local_len no_locals) 0 byte 0 value widths.Byte
     (locals_opened f [] no_locals (record { starts = refl; len = refl })) (omega (arith, less, long), tt))
 
 -- ---- what else changes an activation
@@ -112,7 +112,7 @@ pub local_byte_fits :
     → FitsProgram p m a → FitsProgram p m b
 local_byte_fits p m a b frame byte value done h =
     let was = mapped (λ (l : LocalData). let r : Activation = record a { running = record a.running { locals = l } } in r)
-    (byte_set a.running.locals frame byte value) b done in
+    (local_byte_set a.running.locals frame byte value) b done in
     let kept = local_kept a.running.locals was.0 frame byte 0 widths.Byte value was.1 in
     let s = stands_of (code_of p) (open_codes p) m a h.fits in
     rw (sym was.2) (record {

@@ -12,7 +12,7 @@ use Rattle.plc_base.specs.declared.blocks.BlockKind.TheVariants as kinds
 use Rattle.plc_base.specs.Widths.{bit_count}
 use Rattle.plc_mem.specs.Areas.{Areas}
 use Rattle.plc_mem.specs.Number.{number_at}
-use Rattle.frames.specs.Bound.{set_at as bound_at_index}
+use Rattle.frames.specs.Bound.{binding_set as bound_at_index}
 use Rattle.frames.specs.Locals.{LocalData, local_number}
 use Rattle.frames.specs.declared.bindings.Binding.{Binding}
 use Rattle.frames.specs.declared.bindings.Binding.TheVariants as binding

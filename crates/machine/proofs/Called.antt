@@ -6,7 +6,7 @@ use Rattle.plc_base.specs.declared.blocks.BlockKind.{BlockKind}
 use Rattle.plc_base.specs.declared.blocks.BlockKind.TheVariants as kinds
 use Rattle.plc_mem.specs.Areas.{Areas}
 use Rattle.status_word.specs.declared.Regs.{Regs}
-use Rattle.frames.specs.Activations.{frames_of, entered, refused}
+use Rattle.frames.specs.Activations.{frames_of, block_entered, entry_fault}
 use Rattle.frames.specs.FrameData.{FrameData}
 use Rattle.frames.specs.declared.Activation.{Activation}
 use Rattle.frames.specs.declared.FrameFault.{FrameFault}
@@ -116,7 +116,7 @@ entered_fits :
     (l : ImageLaws) (p : Program) (m : Areas) (a : Activation) (next : ℕ) (block : BlockId) (b : CodeBlock) (o : Option ℕ)
     (bs : List Binding) → Caller p m a next → block_of block p.code_blocks ≡ Some b
     → AreBound block.kind b.params (caller a next ∷ a.below) m bs → HasInstance block.kind (head_of b) m o
-    → FitsProgram p m (entered (fresh_frame (callee_of block o (head_of b)) bs a.running.frame) (caller_at next a))
+    → FitsProgram p m (block_entered (fresh_frame (callee_of block o (head_of b)) bs a.running.frame) (caller_at next a))
 entered_fits l p m a next block b o bs h found bound instance =
     let c = code_of p in
     let brackets = open_codes p in
@@ -146,7 +146,7 @@ entered_fits l p m a next block b o bs h found bound instance =
     let below_is : frames_of (caller_at next a) ≡ g ∷ a.below = frames_are (caller_at next a) was.left in
     record {
       memory = h.fits.memory;
-      fits = fits_of c brackets m (entered new (caller_at next a)) (record {
+      fits = fits_of c brackets m (block_entered new (caller_at next a)) (record {
         left = refl;
         frame = rw below_is top;
         below = rw below_is (behind, was.below);
@@ -173,13 +173,13 @@ called_lasts :
     → Lasts p w (after_call (called_with r (callee_of block o (head_of b)) next a w.memory) next a w)
 called_lasts l p a w next block b o (Err code) h found told bound instance =
     (told, going_fits l p w.memory a next a.running.regs h.fits h.stood)
-called_lasts l p a w next block b o (Ok bs) h found told bound instance = by (refused b.local_len a)
+called_lasts l p a w next block b o (Ok bs) h found told bound instance = by (entry_fault b.local_len a)
   where
     by : (fault : Option FrameFault)
         → Lasts p w (after_call (entered_if fault (callee_of block o (head_of b)) bs next a w.memory) next a w)
     by (Some fault) = stops_told p a w next fault
     by None =
-        supplied_lasts l p a (entered (fresh_frame (callee_of block o (head_of b)) bs a.running.frame) (caller_at next a)) w next o b.params h.verifies
+        supplied_lasts l p a (block_entered (fresh_frame (callee_of block o (head_of b)) bs a.running.frame) (caller_at next a)) w next o b.params h.verifies
         (entered_fits l p w.memory a next block b o bs h found bound instance)
 
 -- the bindings of a block that is called: all supplied for a function

@@ -14,7 +14,7 @@ use Rattle.flat_code.specs.declared.operands.Operand.TheVariants as operand
 use Rattle.flat_code.specs.declared.programs.Param.{Param}
 use Rattle.flat_code.specs.Instr.{Passing}
 use Rattle.machine.specs.Code.{Code, Fetched}
-use Rattle.frames.specs.Bound.{set_at}
+use Rattle.frames.specs.Bound.{binding_set}
 use Rattle.machine.specs.ExecState.{Local, then_ok}
 use Rattle.machine.specs.Bindings.{bound_params, bound_for}
 use Rattle.machine.specs.Flat.{Run, run_at, run_with, with_op, most_ops, passings_of, use_db_of, with_passing, fetched_of, statement_at, instr_of}
@@ -40,7 +40,7 @@ passes_op :
     → then_ok (bound_by o params bindings s m) (λ bound. bound_params params rest bound s m)
     ≡ bound_params params (with_passing o rest) bindings s m
 passes_op params (operand.Pass index actual) rest bindings s m =
-    then_twice (bound_for (slice_get params index) actual s m) (λ b. set_at bindings index b)
+    then_twice (bound_for (slice_get params index) actual s m) (λ b. binding_set bindings index b)
     (λ bound. bound_params params rest bound s m)
 passes_op params operand.Nothing rest bindings s m = refl
 passes_op params (operand.Literal value) rest bindings s m = refl

@@ -12,7 +12,7 @@ use Rattle.plc_mem.specs.Run.{number_over}
 use Rattle.plc_mem.specs.Writing.{put_number, is_within}
 use Rattle.plc_mem.proofs.Lawful.{run_exists}
 use Rattle.plc_mem.proofs.Runs.{put_done}
-use Rattle.frames.specs.Locals.{LocalData, end_of, lies_within, local_number, local_written, opened, closed, closed_at, last_start}
+use Rattle.frames.specs.Locals.{LocalData, frame_bytes_end, local_operand_start, local_number, local_written, open_locals, close_locals, close_locals_at, last_start}
 use Rattle.frames.specs.declared.frame.Frame.{Frame}
 use Rattle.machine.specs.Fitting.{local_len_at, HasBit, LiesIn, starts_from, bytes_together, LocalsFit}
 
@@ -80,7 +80,7 @@ locals_moved f g below l same fits = record {
 
 pub locals_opened :
     (f : Frame) (frames : List Frame) (l : LocalData) → LocalsFit frames l
-    → LocalsFit (f ∷ frames) (opened f.local_len l)
+    → LocalsFit (f ∷ frames) (open_locals f.local_len l)
 locals_opened f frames l fits = record {
   starts = ap (λ (z : List ℕ). z ++ length l.bytes ∷ []) fits.starts
       ∙ ap (λ (k : ℕ). starts_from 0 (reverse frames) ++ k ∷ []) fits.len ∙ sym (starts_on f frames);
@@ -99,7 +99,7 @@ one_longer xs x = let e = length-append xs (x ∷ []) in omega (arith, e)
 
 closed_last :
     (l : LocalData) (xs : List ℕ) (x : ℕ) → l.starts ≡ xs ++ x ∷ []
-    → closed l ≡ record { starts = xs; bytes = take x l.bytes }
+    → close_locals l ≡ record { starts = xs; bytes = take x l.bytes }
 closed_last l xs x is =
     let last : last_start l.starts ≡ Some x =
     ap (λ (z : List ℕ). slice_get z (length z - 1)) is
@@ -107,11 +107,11 @@ closed_last l xs x is =
     let front : take (length l.starts - 1) l.starts ≡ xs =
     ap (λ (z : List ℕ). take (length z - 1) z) is
     ∙ ap (λ (k : ℕ). take k (xs ++ x ∷ [])) (one_longer xs x) ∙ take-append_seam xs (x ∷ []) in
-    ap (λ (o : Option ℕ). closed_at l o) last
+    ap (λ (o : Option ℕ). close_locals_at l o) last
     ∙ ap (λ (z : List ℕ). let r : LocalData = record { starts = z; bytes = take x l.bytes } in r) front
 
 pub locals_closed :
-    (f : Frame) (below : List Frame) (l : LocalData) → LocalsFit (f ∷ below) l → LocalsFit below (closed l)
+    (f : Frame) (below : List Frame) (l : LocalData) → LocalsFit (f ∷ below) l → LocalsFit below (close_locals l)
 locals_closed f below l fits =
     let e = fits.len in
     rw (closed_last l (starts_from 0 (reverse below)) (bytes_together below) (fits.starts ∙ starts_on f below))
@@ -198,13 +198,13 @@ number_has bytes at bit width there =
 
 lies_is :
     (l : LocalData) (k at len : ℕ) (width : Width) → Spans l.starts (length l.bytes) k len
-    → at + byte_count width ≤ len → (start : ℕ) × (lies_within l k at width ≡ Some (start + at))
+    → at + byte_count width ≤ len → (start : ℕ) × (local_operand_start l k at width ≡ Some (start + at))
     × (start + at + byte_count width ≤ length l.bytes)
 lies_is l k at len width spans le =
     let e = spans.end in
     let w = spans.within in
-    let test : leb (spans.start + at + byte_count width) (end_of l k) ≡ true =
-    le-leb (spans.start + at + byte_count width) (end_of l k) (omega (arith, e, le)) in
+    let test : leb (spans.start + at + byte_count width) (frame_bytes_end l k) ≡ true =
+    le-leb (spans.start + at + byte_count width) (frame_bytes_end l k) (omega (arith, e, le)) in
     (spans.start, rw (spans.is, test) refl, omega (arith, w, le))
 
 pub lies_local :
@@ -214,7 +214,7 @@ unfolding local_number
 lies_local frames l k at bit width fits lies = by (local_len_at frames k) refl lies
   where
     by : (o : Option ℕ) → local_len_at frames k ≡ o → LiesIn o at bit width
-        → IsSome (option_and_then (λ place. number_over (slice_get l.bytes) place bit width) (lies_within l k at width))
+        → IsSome (option_and_then (λ place. number_over (slice_get l.bytes) place bit width) (local_operand_start l k at width))
     by None is lies = absurd lies
     by (Some len) is lies =
         let there = lies_is l k at len width (frame_spans frames l k len fits is) lies.0 in
@@ -233,7 +233,7 @@ unfolding local_written
 lies_written frames l k at bit value width fits lies = by (local_len_at frames k) refl lies
   where
     by : (o : Option ℕ) → local_len_at frames k ≡ o → LiesIn o at bit width
-        → IsSome (option_and_then (λ place. option_map (λ bytes. record l { bytes = bytes }) (put_number l.bytes place bit width value)) (lies_within l k at width))
+        → IsSome (option_and_then (λ place. option_map (λ bytes. record l { bytes = bytes }) (put_number l.bytes place bit width value)) (local_operand_start l k at width))
     by None is lies = absurd lies
     by (Some len) is lies =
         let there = lies_is l k at len width (frame_spans frames l k len fits is) lies.0 in
@@ -257,22 +257,22 @@ unfolding local_number
 local_lies frames l k at bit width fits there = by (slice_get l.starts k) refl there
   where
     fitting : (start len : ℕ) (test : Bool) → Spans l.starts (length l.bytes) k len
-        → slice_get l.starts k ≡ Some start → leb (start + at + byte_count width) (end_of l k) ≡ test
+        → slice_get l.starts k ≡ Some start → leb (start + at + byte_count width) (frame_bytes_end l k) ≡ test
         → IsSome (option_and_then (λ place. number_over (slice_get l.bytes) place bit width) (cond test (Some (start + at)) None))
         → (at + byte_count width ≤ len) × HasBit width bit
     fitting start len false spans is t there = absurd cc
     fitting start len true spans is t there =
         let same : spans.start ≡ start = let e = spans.is in let s : Some spans.start ≡ Some start = sym e ∙ is in cc in
         let end = spans.end in
-        let le = leb-true (start + at + byte_count width) (end_of l k) t in
+        let le = leb-true (start + at + byte_count width) (frame_bytes_end l k) t in
         (omega (arith, same, end, le), number_has l.bytes (start + at) bit width there)
 
     by : (o : Option ℕ) → slice_get l.starts k ≡ o
         → IsSome (option_and_then (λ place. number_over (slice_get l.bytes) place bit width)
-        (option_and_then (λ start. cond (leb (start + at + byte_count width) (end_of l k)) (Some (start + at)) None) o))
+        (option_and_then (λ start. cond (leb (start + at + byte_count width) (frame_bytes_end l k)) (Some (start + at)) None) o))
         → LiesIn (local_len_at frames k) at bit width
     by None is there = absurd cc
     by (Some start) is there =
         let found = starts_there 0 (reverse frames) k start (ap (λ (z : List ℕ). slice_get z k) (sym fits.starts) ∙ is) in
         rw found.1
-        (fitting start found.0 (leb (start + at + byte_count width) (end_of l k)) (frame_spans frames l k found.0 fits found.1) is refl there)
+        (fitting start found.0 (leb (start + at + byte_count width) (frame_bytes_end l k)) (frame_spans frames l k found.0 fits found.1) is refl there)

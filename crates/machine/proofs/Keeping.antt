@@ -17,7 +17,7 @@ use Rattle.timers_counters.specs.Counter.{Counter}
 use Rattle.frames.specs.FrameData.{FrameData}
 use Rattle.frames.specs.Relay.{outer_zones, zone_opened, zone_ended}
 use Rattle.frames.specs.declared.relay.Relay.{Relay}
-use Rattle.frames.specs.Locals.{LocalData, local_written, lies_within}
+use Rattle.frames.specs.Locals.{LocalData, local_written, local_operand_start}
 use Rattle.flat_code.specs.Placed.{is_empty, most_zones}
 use Rattle.flat_code.specs.declared.operands.Operand.{Operand}
 use Rattle.flat_code.specs.declared.operands.Operand.TheVariants as operand
@@ -85,7 +85,7 @@ pub local_kept :
 unfolding local_written
 local_kept l k frame at bit width value done =
     let found = chained (λ (place : ℕ). option_map (λ (bytes : List ℕ). let r : LocalData = record l { bytes = bytes } in r) (put_number l.bytes place bit width value))
-    (lies_within l frame at width) k done in
+    (local_operand_start l frame at width) k done in
     let was = mapped (λ (bytes : List ℕ). let r : LocalData = record l { bytes = bytes } in r) (put_number l.bytes found.0 bit width value) k found.2 in
     rw (sym was.2) (record { starts = refl; len = length-put l.bytes was.0 found.0 bit width value was.1 })
 

@@ -8,7 +8,7 @@ use Rattle.status_word.specs.declared.registers.Regs.{Regs}
 use Rattle.flat_code.specs.Instr.{Instr, Passing, Does, Jumps, JumpsByList, Calls, Returns}
 use Rattle.flat_code.specs.declared.kinds.JumpOperation.{JumpOperation}
 use Rattle.flat_code.specs.declared.programs.Param.{Param}
-use Rattle.frames.specs.Activations.{frames_of, refused, entered}
+use Rattle.frames.specs.Activations.{frames_of, entry_fault, block_entered}
 use Rattle.frames.specs.declared.Activation.{Activation}
 use Rattle.frames.specs.declared.frame.Frame.{Frame}
 use Rattle.frames.specs.declared.bindings.Binding.{Binding}
@@ -70,20 +70,20 @@ frames_move f a = by a.left
 frame_count : (f : BlockId → ℕ → ℕ) (a : Activation) → length (frames_of (moved f a)) ≡ length (frames_of a)
 frame_count f a = ap length (frames_move f a) ∙ length-map (frames_of a) (moved_frame f)
 
-refused_same : (f : BlockId → ℕ → ℕ) (local_len : ℕ) (a : Activation) → refused local_len (moved f a) ≡ refused local_len a
+refused_same : (f : BlockId → ℕ → ℕ) (local_len : ℕ) (a : Activation) → entry_fault local_len (moved f a) ≡ entry_fault local_len a
 refused_same f local_len a = rw (frame_count f a) refl
 
 enters_moves :
     (f : BlockId → ℕ → ℕ) (to : Callee) (bindings : List Binding) (next : ℕ) (a : Activation) → f to.block 0 ≡ 0
-    → entered (fresh to bindings (moved f a).running.frame) (caller_at (f a.running.frame.block next) (moved f a))
-    ≡ moved f (entered (fresh to bindings a.running.frame) (caller_at next a))
+    → block_entered (fresh to bindings (moved f a).running.frame) (caller_at (f a.running.frame.block next) (moved f a))
+    ≡ moved f (block_entered (fresh to bindings a.running.frame) (caller_at next a))
 enters_moves f to bindings next a start = by a.left
   where
     caller : Frame
     caller = record a.running.frame { at = next }
 
     new : (at : ℕ) (below : List Frame) → Activation
-    new at below = record (entered (record (fresh to bindings a.running.frame) { at = at }) (caller_at next a)) { below = below; left = false }
+    new at below = record (block_entered (record (fresh to bindings a.running.frame) { at = at }) (caller_at next a)) { below = below; left = false }
 
     by : (b : Bool) → new 0 (if b then [] else moved_frame f caller ∷ map (moved_frame f) a.below)
         ≡ new (f to.block 0) (map (moved_frame f) (if b then [] else caller ∷ a.below))
@@ -103,7 +103,7 @@ entered_moves :
 entered_moves f (Some fault) to bindings next a m start = refl
 entered_moves f None to bindings next a m start =
     ap (λ (z : Activation). supplied to.instance to.params z m) (enters_moves f to bindings next a start)
-    ∙ supplied_moves f to.instance to.params (entered (fresh to bindings a.running.frame) (caller_at next a)) m
+    ∙ supplied_moves f to.instance to.params (block_entered (fresh to bindings a.running.frame) (caller_at next a)) m
 
 called_with_moves :
     (f : BlockId → ℕ → ℕ) (r : Result (List Binding) ℕ) (to : Callee) (next : ℕ) (a : Activation) (m : Areas) → f to.block 0 ≡ 0
@@ -111,7 +111,7 @@ called_with_moves :
 called_with_moves f (Err code) to next a m start = refl
 called_with_moves f (Ok bindings) to next a m start =
     ap (λ (z : Option FrameFault). entered_if z to bindings (f a.running.frame.block next) (moved f a) m) (refused_same f to.local_len a)
-    ∙ entered_moves f (refused to.local_len a) to bindings next a m start
+    ∙ entered_moves f (entry_fault to.local_len a) to bindings next a m start
 
 call_moves :
     (f : BlockId → ℕ → ℕ) (to : Callee) (passings : List Passing) (next : ℕ) (a : Activation) (m : Areas) → f to.block 0 ≡ 0

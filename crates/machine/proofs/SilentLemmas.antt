@@ -4,7 +4,7 @@ use Rattle.std.proofs.Common.{◌≡◌, ◌∙◌, ◌+◌, ◌<◌, ◌≤◌,
 use Rattle.plc_base.specs.Kinds.{is_system_function}
 use Rattle.plc_base.specs.declared.BlockId.{BlockId}
 use Rattle.plc_mem.specs.Areas.{Areas}
-use Rattle.frames.specs.Activations.{frames_of, refused}
+use Rattle.frames.specs.Activations.{frames_of, entry_fault}
 use Rattle.frames.specs.declared.Activation.{Activation}
 use Rattle.frames.specs.declared.bindings.Binding.{Binding}
 use Rattle.frames.specs.declared.frame.Frame.{Frame}
@@ -76,7 +76,7 @@ call_bound_stays :
     → EnterStays m (called_with bindings called next a m)
 call_bound_stays (Err code) called next a m = tt
 call_bound_stays (Ok bindings) called next a m =
-    entered_stays (refused called.local_len a) called bindings next a m
+    entered_stays (entry_fault called.local_len a) called bindings next a m
 
 call_stays :
     (called : Callee) (passings : List Passing) (next : ℕ) (a : Activation) (m : Areas)

@@ -3,7 +3,7 @@ use Rattle.std.specs.Prelude.{ℕ, ◌==◌, List, [], ◌∷◌, length, replic
 use Rattle.plc_base.specs.ErrorCodes as errors
 use Rattle.plc_base.specs.declared.Area.TheVariants as areas
 use Rattle.plc_mem.specs.Areas.{Areas}
-use Rattle.frames.specs.Bound.{set_at}
+use Rattle.frames.specs.Bound.{binding_set}
 use Rattle.frames.specs.declared.bindings.Binding.{Binding}
 use Rattle.frames.specs.declared.bindings.Binding.TheVariants as binding
 use Rattle.flat_code.specs.declared.operands.Passed.{Passed}
@@ -59,7 +59,7 @@ abbrev pub bound_params :
 bound_params params [] bindings s m = Ok bindings
 bound_params params (passing ∷ rest) bindings s m =
     then_ok (bound_for (slice_get params passing.index) passing.actual s m) (λ b.
-    bound_params params rest (set_at bindings passing.index b) s m)
+    bound_params params rest (binding_set bindings passing.index b) s m)
 
 -- before, none is supplied
 abbrev pub unsupplied : List Param → List Binding

@@ -4,7 +4,7 @@ use Rattle.std.specs.Prelude.{ℕ, ◌≡◌, true, false, List, Option, Some, N
 use Rattle.plc_base.specs.declared.BlockId.{BlockId}
 use Rattle.plc_mem.specs.Areas.{Areas}
 use Rattle.status_word.specs.declared.Regs.{Regs}
-use Rattle.frames.specs.Activations.{entered, frame_begun, refused}
+use Rattle.frames.specs.Activations.{block_entered, frame_begun, entry_fault}
 use Rattle.frames.specs.declared.Activation.{Activation}
 use Rattle.frames.specs.declared.FrameFault.{FrameFault}
 use Rattle.frames.specs.declared.bindings.Binding.{Binding}
@@ -76,13 +76,13 @@ abbrev pub entered_if :
 entered_if (Some fault) called bindings next a m = Stops fault
 entered_if None called bindings next a m =
     supplied called.instance called.params
-    (entered (fresh called bindings a.running.frame) (caller_at next a)) m
+    (block_entered (fresh called bindings a.running.frame) (caller_at next a)) m
 
 -- a parameter that can't be bound is a synchronous error, and comes before depth and local data
 abbrev pub called_with : Result (List Binding) ℕ → Callee → (next : ℕ) → Activation → Areas → Call
 called_with (Err code) called next a m = Fails code
 called_with (Ok bindings) called next a m =
-    entered_if (refused called.local_len a) called bindings next a m
+    entered_if (entry_fault called.local_len a) called bindings next a m
 
 -- after the call the caller goes on at `next`
 unfoldable pub call : Callee → List Passing → (next : ℕ) → Activation → Areas → Call

@@ -2,7 +2,7 @@
 -- Siemens, Statement List (STL): Program Control Instructions, "MCR (Master Control Relay)".
 use Rattle.std.specs.Prelude.{ℕ, ◌==◌, Bool, true, false, ◌&&◌, not, length, if◌then◌else◌, Result, Ok, Err}
 use Rattle.status_word.specs.Store.{stored}
-use Rattle.frames.specs.Relay.{is_closed, zone_opened, zone_ended}
+use Rattle.frames.specs.Relay.{is_zone_closed, zone_opened, zone_ended}
 use Rattle.frames.specs.declared.relay.Relay.{Relay}
 use Rattle.flat_code.specs.Placed.{is_empty, most_zones}
 use Rattle.flat_code.specs.declared.operations.RelayOperation.{RelayOperation}
@@ -12,7 +12,7 @@ use Rattle.machine.specs.Places.{no_operand}
 
 -- the relay of the innermost frame is active, and its last zone has the value 0
 abbrev pub closed : Local → Bool
-closed s = is_closed s.inner.relay
+closed s = is_zone_closed s.inner.relay
 
 -- RLO as the relay lets it through: 0 while it is closed
 abbrev pub power_flow : Local → Bool

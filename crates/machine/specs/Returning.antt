@@ -4,7 +4,7 @@ use Rattle.std.specs.Prelude.{ℕ, ◌≡◌, Bool, true, false, List, [], ◌�
 use Rattle.plc_mem.specs.Areas.{Areas}
 use Rattle.status_word.specs.declared.Regs.{Regs}
 use Rattle.frames.specs.Activations.{frames_of}
-use Rattle.frames.specs.Locals.{closed}
+use Rattle.frames.specs.Locals.{close_locals}
 use Rattle.frames.specs.declared.Activation.{Activation}
 use Rattle.frames.specs.declared.frame.Frame.{Frame}
 use Rattle.flat_code.specs.declared.programs.Param.{Param}
@@ -37,7 +37,7 @@ left_to caller rest a =
       running = record a.running {
         regs = at_block a.running.regs;
         frame = caller;
-        locals = closed a.running.locals;
+        locals = close_locals a.running.locals;
       };
       below = rest;
     }

@@ -1,7 +1,7 @@
 -- How the machine goes along the ops of a statement, by their offsets.
 use Rattle.std.specs.Prelude.{ℕ, true, zero, suc, List, [], slice_get, Option, Some, None, unwrap_or, Result, Ok, if◌then◌else◌}
 use Rattle.plc_mem.specs.Areas.{Areas}
-use Rattle.frames.specs.Bound.{set_at}
+use Rattle.frames.specs.Bound.{binding_set}
 use Rattle.frames.specs.declared.bindings.Binding.{Binding}
 use Rattle.flat_code.specs.Ops.{OpData}
 use Rattle.flat_code.specs.Placed.{op_placed, line_placed}
@@ -51,7 +51,7 @@ picked most ops target at number =
 -- an op that passes a parameter sets what it stands for
 abbrev pub bound_by : Operand → List Param → List Binding → Local → Areas → Result (List Binding) ℕ
 bound_by (operand.Pass index actual) params bindings s m =
-    then_ok (bound_for (slice_get params index) actual s m) (λ b. Ok (set_at bindings index b))
+    then_ok (bound_for (slice_get params index) actual s m) (λ b. Ok (binding_set bindings index b))
 bound_by _ params bindings s m = Ok bindings
 
 -- so do all ops of a statement

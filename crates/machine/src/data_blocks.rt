@@ -1,6 +1,6 @@
 //! OPN, CDB, L DBLG, L DBNO, L DILG, L DINO.
 ghost use Rattle.std.specs.Prelude.{◌≡◌, ◌<◌};
-ghost use Rattle.frames.specs.FrameData.{inner_of};
+ghost use Rattle.frames.specs.FrameData.{frame_data_of};
 ghost use Rattle.machine.specs.ExecState.{local_of, with_local};
 ghost use Rattle.machine.specs.Outcomes.{Checks, Turns};
 ghost use Rattle.machine.specs.DataBlocks.{is_loaded as is_loaded_in, opened_if, opening, exchanged, number_opened as number_opened_of, len_opened as len_opened_of, open_block_fact as open_block_fact_of, loading_open_block};
@@ -88,7 +88,7 @@ fn len_opened(block: Option<u16>, m: &Memory) -> u32
 
 #[tactic(auto, unfolding(crate::specs::DataBlocks::open_block_fact))]
 fn open_block_fact(which: u32, f: &Frame, m: &Memory) -> u32
-    ensures { result ≡ open_block_fact_of which (inner_of f.now) m.now }
+    ensures { result ≡ open_block_fact_of which (frame_data_of f.now) m.now }
 {
     match which {
         0 => len_opened(f.db, m),

@@ -10,7 +10,7 @@ ghost use Rattle.plc_mem.specs.Peripherals.{with_input, outputs_cleared};
 ghost use Rattle.plc_mem.specs.Refresh.{memory_refreshed};
 ghost use Rattle.plc_mem.specs.Writing.{number_written};
 ghost use Rattle.status_word.specs.declared.registers.Regs.{Regs};
-ghost use Rattle.frames.specs.Activations.{begun, with_local_byte};
+ghost use Rattle.frames.specs.Activations.{activation_begun, with_local_byte};
 ghost use Rattle.frames.specs.declared.activation.Activation.{Activation};
 ghost use Rattle.frames.specs.declared.bindings.Binding.{Binding};
 ghost use Rattle.flat_code.specs.Programs.{Program};
@@ -84,12 +84,12 @@ pub fn what_fits_stays()
 pub fn blocks_begin()
     ensures fits { (f : Profile) (p : Program) (m : Areas) (class ob : ℕ) (h : Head)
         → Verifies p → IsMemoryOf (code_of p) m → (code_of p).head (ob_block ob) ≡ Some h
-        → FitsProgram p m (begun f class ob (first_frame ob h.local_len)) }
+        → FitsProgram p m (activation_begun f class ob (first_frame ob h.local_len)) }
     ensures room { (p : Program) (ob : ℕ) (h : Head)
         → Verifies p → (code_of p).head (ob_block ob) ≡ Some h → h.local_len ≤ 1024 }
     ensures start { (f : Profile) (p : Program) (class ob byte value : ℕ) (h : Head)
         → Verifies p → (code_of p).head (ob_block ob) ≡ Some h → byte < 20
-        → IsSome (with_local_byte 0 byte value (begun f class ob (first_frame ob h.local_len))) }
+        → IsSome (with_local_byte 0 byte value (activation_begun f class ob (first_frame ob h.local_len))) }
 {
     what_verifying_gives();
 }

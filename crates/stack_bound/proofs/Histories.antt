@@ -6,7 +6,7 @@ use Rattle.std.specs.Option.{option_map}
 use Rattle.plc_base.specs.StopCauses as causes
 use Rattle.plc_base.specs.declared.Spot.{Spot}
 use Rattle.plc_mem.specs.Areas.{Areas}
-use Rattle.frames.specs.Activations.{begun, with_local_byte}
+use Rattle.frames.specs.Activations.{activation_begun, with_local_byte}
 use Rattle.frames.specs.declared.Activation.{Activation}
 use Rattle.frames.specs.declared.bindings.Binding.{Binding}
 use Rattle.flat_code.specs.Loading.{Verifies}
@@ -86,9 +86,9 @@ begun_room : (z : Profile) (c : List Bound) (class ob : ℕ) (info : StartInfo) 
     → RoomFor z (bound_of (ob_block ob) c) [] → Roomy z c (ob_begun z class ob info h)
 unfolding ob_begun
 begun_room z c class ob info h room = (
-  told_profile info.bytes 0 (begun z class ob (ob_frame ob h)),
+  told_profile info.bytes 0 (activation_begun z class ob (ob_frame ob h)),
   subst (λ (stack : List _). HasRoom z c stack)
-      (sym (told_stack info.bytes 0 (begun z class ob (ob_frame ob h)))) (room, tt),
+      (sym (told_stack info.bytes 0 (activation_begun z class ob (ob_frame ob h)))) (room, tt),
 )
 
 ob_room_by : (z : Profile) (code : Code) (c : List Bound) (class ob : ℕ) (info : StartInfo) (found : Option Head)

@@ -10,8 +10,8 @@ use Rattle.std.proofs.lemmas.List.{length-map}
 use Rattle.std.proofs.lemmas.Bool.Decides.{nat_tests}
 use Rattle.plc_base.specs.declared.BlockId.{BlockId}
 use Rattle.plc_mem.specs.Areas.{Areas}
-use Rattle.frames.specs.Activations.{entered, frames_of, refused, with_local_byte}
-use Rattle.frames.specs.Locals.{LocalData, byte_set}
+use Rattle.frames.specs.Activations.{block_entered, frames_of, entry_fault, with_local_byte}
+use Rattle.frames.specs.Locals.{LocalData, local_byte_set}
 use Rattle.frames.specs.declared.Activation.{Activation}
 use Rattle.frames.specs.declared.FrameFault.{FrameFault}
 use Rattle.frames.specs.declared.FrameFault.TheVariants.{Depth, LocalFull}
@@ -77,7 +77,7 @@ enters_by most depth bytes local_len full deep fits = rw deep (rw fits refl)
 
 not_refused : (z : Profile) (d : Option Bound) (local_len : ℕ) (stack : List (BlockId × ℕ)) (a : Activation)
     → a.profile ≡ z → RoomFor z d stack → CountsItself local_len d → length (frames_of a) ≡ length stack
-    → length a.running.locals.bytes ≡ bytes_below stack → refused local_len a ≡ None
+    → length a.running.locals.bytes ≡ bytes_below stack → entry_fault local_len a ≡ None
 not_refused z None local_len stack a same room own depth bytes = absurd room
 not_refused z (Some d) local_len stack a same room own depth bytes =
     enters_by (most_frames a.profile) (length (frames_of a)) (length a.running.locals.bytes) local_len
@@ -136,7 +136,7 @@ supplied_room z c (Some instance) params b m a room = room
 
 -- the frame of the called block stands above those that stood
 entered_stack : (to : Callee) (bindings : List Binding) (next : ℕ) (a : Activation) → a.left ≡ false
-    → stack_of (entered (fresh to bindings a.running.frame) (caller_at next a))
+    → stack_of (block_entered (fresh to bindings a.running.frame) (caller_at next a))
     ≡ (to.block, to.local_len) ∷ stack_of a
 entered_stack to bindings next a is =
     ap (λ (frames : List (BlockId × ℕ)). (to.block, to.local_len) ∷ frames)
@@ -148,7 +148,7 @@ entered_room : (z : Profile) (c : List Bound) (fault : Option FrameFault) (to : 
     → CallHasRoom z c a (entered_if fault to bindings next a m)
 entered_room z c (Some fault) to bindings next a m stands none more room = absurd cc
 entered_room z c None to bindings next a m stands none more room =
-    supplied_room z c to.instance to.params (entered (fresh to bindings a.running.frame) (caller_at next a))
+    supplied_room z c to.instance to.params (block_entered (fresh to bindings a.running.frame) (caller_at next a))
     m a (
       room.0,
       subst (λ (stack : List (BlockId × ℕ)). HasRoom z c stack)
@@ -156,15 +156,15 @@ entered_room z c None to bindings next a m stands none more room =
     )
 
 call_by : (z : Profile) (c : List Bound) (r : Result (List Binding) ℕ) (to : Callee) (next : ℕ) (a : Activation)
-    (m : Areas) → a.left ≡ false → refused to.local_len a ≡ None
+    (m : Areas) → a.left ≡ false → entry_fault to.local_len a ≡ None
     → RoomFor z (bound_of to.block c) (stack_of a) → Roomy z c a
     → CallHasRoom z c a (called_with r to next a m)
 call_by z c (Err code) to next a m stands none more room = tt
 call_by z c (Ok bindings) to next a m stands none more room =
-    entered_room z c (refused to.local_len a) to bindings next a m stands none more room
+    entered_room z c (entry_fault to.local_len a) to bindings next a m stands none more room
 
 call_room : (z : Profile) (c : List Bound) (to : Callee) (passings : List Passing) (next : ℕ) (a : Activation)
-    (m : Areas) → a.left ≡ false → refused to.local_len a ≡ None
+    (m : Areas) → a.left ≡ false → entry_fault to.local_len a ≡ None
     → RoomFor z (bound_of to.block c) (stack_of a) → Roomy z c a
     → CallHasRoom z c a (call to passings next a m)
 unfolding call
@@ -321,7 +321,7 @@ local_stack (Some locals) a = refl
 
 pub byte_stack : (byte value : ℕ) (a : Activation)
     → stack_of (unwrap_or (with_local_byte 0 byte value a) a) ≡ stack_of a
-byte_stack byte value a = local_stack (byte_set a.running.locals 0 byte value) a
+byte_stack byte value a = local_stack (local_byte_set a.running.locals 0 byte value) a
 
 local_profile : (locals : Option LocalData) (a : Activation)
     → (unwrap_or (option_map (λ l. record a { running = record a.running { locals = l } }) locals) a).profile
@@ -331,4 +331,4 @@ local_profile (Some locals) a = refl
 
 pub byte_profile : (byte value : ℕ) (a : Activation)
     → (unwrap_or (with_local_byte 0 byte value a) a).profile ≡ a.profile
-byte_profile byte value a = local_profile (byte_set a.running.locals 0 byte value) a
+byte_profile byte value a = local_profile (local_byte_set a.running.locals 0 byte value) a

@@ -11,7 +11,7 @@ use Rattle.plc_base.specs.declared.blocks.BlockId.{BlockId}
 use Rattle.plc_base.specs.declared.places.Area.{Area}
 use Rattle.plc_base.specs.declared.places.Area.TheVariants as area
 use Rattle.plc_base.specs.declared.places.Width.{Width}
-use Rattle.frames.specs.Bound.{set_at}
+use Rattle.frames.specs.Bound.{binding_set}
 use Rattle.frames.specs.declared.Activation.{Activation}
 use Rattle.frames.specs.declared.bindings.Binding.{Binding}
 use Rattle.frames.specs.declared.bindings.Binding.TheVariants as binding
@@ -137,7 +137,7 @@ step_same : (params : List Param) (index : ℕ) (actual : Passed) (x : Named) (r
     ≡ own.binds (Some x) (slice_get params index) index before p
     (λ more. bindings.bound_params params rest more p.local p.memory)
 step_same params index actual x rest before p h =
-    ap (λ r. then_ok r (λ b. bindings.bound_params params rest (set_at before index b) p.local p.memory))
+    ap (λ r. then_ok r (λ b. bindings.bound_params params rest (binding_set before index b) p.local p.memory))
     (for_same (slice_get params index) actual x p h)
 
 passing_same : (params : List Param) (index : ℕ) (x : Named) (rest : List Passing)
@@ -265,8 +265,8 @@ binds_same : (o : Option Named) (param : Option Param) (index : ℕ) (before : L
 binds_same None param index before p f g h = h before
 binds_same (Some x) param index before p f g h =
     then_same (own.binding_for param x p) (own.binding_for param x p)
-    (λ b. f (set_at before index b)) (λ b. g (set_at before index b)) refl
-    (λ b. h (set_at before index b))
+    (λ b. f (binding_set before index b)) (λ b. g (binding_set before index b)) refl
+    (λ b. h (binding_set before index b))
 
 all_same : (c : Context) (actuals : List Actual) (params : List Param) (index : ℕ)
     (formals : List Formal) (before : List Binding) (p : ExecState)

@@ -8,7 +8,7 @@ use Rattle.plc_base.specs.Kinds.{is_system_function}
 use Rattle.plc_base.specs.declared.blocks.BlockId.{BlockId}
 use Rattle.plc_base.specs.declared.places.Area.TheVariants as area
 use Rattle.status_word.specs.declared.registers.Regs.{Regs}
-use Rattle.frames.specs.Bound.{set_at}
+use Rattle.frames.specs.Bound.{binding_set}
 use Rattle.frames.specs.declared.Activation.{Activation}
 use Rattle.frames.specs.declared.bindings.Binding.{Binding}
 use Rattle.frames.specs.declared.bindings.Binding.TheVariants as binding
@@ -154,7 +154,7 @@ abbrev pub binds :
     → (List Binding → Result (List Binding) ℕ) → Result (List Binding) ℕ
 binds None param index bindings p next = next bindings
 binds (Some x) param index bindings p next =
-    then_ok (binding_for param x p) (λ b. next (set_at bindings index b))
+    then_ok (binding_for param x p) (λ b. next (binding_set bindings index b))
 
 -- one after the other, by the order of the parameters; the first that can't be bound is the error
 abbrev pub bindings_from :

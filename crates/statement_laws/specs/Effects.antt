@@ -35,7 +35,7 @@ use Rattle.timers_counters.specs.Timer as timers
 use Rattle.timers_counters.specs.declared.faults.TimerFault.{TimerFault}
 use Rattle.timers_counters.specs.declared.faults.TimerFault.TheVariants.{BadBcd, NoNumber}
 use Rattle.frames.specs.FrameData.{FrameData}
-use Rattle.frames.specs.Relay.{is_closed, zone_ended, zone_opened}
+use Rattle.frames.specs.Relay.{is_zone_closed, zone_ended, zone_opened}
 use Rattle.frames.specs.declared.relay.Relay.{Relay}
 use Rattle.stl_ast.specs.declared.literals.Literal.TheVariants as literal
 use Rattle.stl_ast.specs.declared.mnemonics.Mnemonic.{Mnemonic}
@@ -69,7 +69,7 @@ abbrev pub rlo : ExecState → Bool
 rlo p = (regs p).status.rlo
 
 abbrev pub is_relay_closed : ExecState → Bool
-is_relay_closed p = is_closed p.local.inner.relay
+is_relay_closed p = is_zone_closed p.local.inner.relay
 
 abbrev pub flow : ExecState → Bool
 flow p = rlo p && not (is_relay_closed p)
