@@ -20,7 +20,7 @@ use Rattle.machine.specs.Results.{with_result}
 use Rattle.machine.specs.Statement.{with_memory}
 use Rattle.machine.specs.Values.{with_locals, write}
 use Rattle.ob_sched.specs.OrganizationBlock.{is_delay}
-use Rattle.ob_sched.specs.Scheduler.{Scheduler, delay_of, delay_started, delay_cancelled, retriggered}
+use Rattle.ob_sched.specs.Scheduler.{Scheduler, delay_of, delay_started, delay_cancelled, cycle_retriggered}
 use Rattle.sys_funcs.specs.Disabling.{refusal}
 use Rattle.sys_funcs.specs.Functions.{dis_airt, en_airt, set_unless, dis_irt, en_irt, srt_dint, can_dint, time_tck, with_delay}
 use Rattle.sys_funcs.specs.Returned.{Returned, returned, passed}
@@ -110,7 +110,7 @@ served_same number inputs s a =
     (if_served (number == 40) a _ _ (en_irt_same s a (input 0 inputs) (input 1 inputs))
     (if_served (number == 41) a _ _ (dis_airt_same s a)
     (if_served (number == 42) a _ _ (en_airt_same s a)
-    (if_served (number == 43) a (Passes (retriggered s) (passed a)) _ (refl, refl)
+    (if_served (number == 43) a (Passes (cycle_retriggered s) (passed a)) _ (refl, refl)
     (if_served (number == 46) a (Stops 1 (passed a)) _ (refl, refl) (time_tck_same s a))))))))
 
 -- nor does its result

@@ -8,9 +8,9 @@ use Rattle.frames.specs.declared.Activation.{Activation}
 use Rattle.frames.specs.declared.bindings.Binding.{Binding}
 use Rattle.machine.specs.Code.{Code}
 use Rattle.machine.specs.Statement.{Step, Went, Ended, SyncError, SysCall, Stop, Stuck, statement}
-use Rattle.ob_sched.specs.Course.{Course, requested}
-use Rattle.ob_sched.specs.Millisecond.{begun, ticked}
-use Rattle.ob_sched.specs.OrganizationBlock.{class_in}
+use Rattle.ob_sched.specs.TickState.{TickState, ob_requested}
+use Rattle.ob_sched.specs.Millisecond.{tick_begun, after_tick}
+use Rattle.ob_sched.specs.OrganizationBlock.{priority_class_in}
 use Rattle.ob_sched.specs.Request.{best_of}
 use Rattle.ob_sched.specs.StartInformation.{start_info}
 use Rattle.ob_sched.specs.declared.requests.Pending.{Pending}
@@ -69,7 +69,7 @@ settled_counts code s =
 cycle_counts : (code : Code) (s : State) → (cycle_point code s).entries ≡ s.entries
 unfolding cycle_point
 cycle_counts code s =
-    begun_counts (ob_in s.profile code (class_in s.mode 1) 1 (cycle_info s)) (cycle_passed s)
+    begun_counts (ob_in s.profile code (priority_class_in s.mode 1) 1 (cycle_info s)) (cycle_passed s)
 
 answered_counts : (fresh : Option Activation) (error : ℕ) (at : Option Spot) (a : Activation)
     (below : List Activation) (s : State) → (error_answered fresh error at a below s).entries ≡ s.entries
@@ -119,7 +119,7 @@ stopped_counts : (code : Code) (cause : Option ℕ) (s : State)
 stopped_counts code None s = refl
 stopped_counts code (Some cause) s = halted_counts code cause s
 
-course_counts : (code : Code) (c : Course) (s : State)
+course_counts : (code : Code) (c : TickState) (s : State)
     → (course_taken code c s).entries ≡ s.entries
 course_counts code c s =
     stopped_counts code c.passed.stop
@@ -132,19 +132,19 @@ unfolding arrived
 arrived_counts code ob value s =
     if_counts (is_stop s.mode) s
     (course_taken code
-    (requested s.mode ob (start_info (Arrival ob value) (class_in s.mode ob)) (begun s.sched)) s)
+    (ob_requested s.mode ob (start_info (Arrival ob value) (priority_class_in s.mode ob)) (tick_begun s.sched)) s)
     s.entries refl
     (course_counts code
-    (requested s.mode ob (start_info (Arrival ob value) (class_in s.mode ob)) (begun s.sched)) s)
+    (ob_requested s.mode ob (start_info (Arrival ob value) (priority_class_in s.mode ob)) (tick_begun s.sched)) s)
 
-tick_counts : (code : Code) (c : Course) (s : State) → (tick_taken code c s).entries ≡ s.entries
+tick_counts : (code : Code) (c : TickState) (s : State) → (tick_taken code c s).entries ≡ s.entries
 tick_counts code c s =
     course_counts code c (record s { world = timers_moved c.passed.ms s.world })
 
 passed_counts : (code : Code) (ms : ℕ) (s : State) → (time_passed code ms s).entries ≡ s.entries
 unfolding time_passed
 passed_counts code ms s =
-    tick_counts code (ticked s.mode (active s.activations) ms s.sched) s
+    tick_counts code (after_tick s.mode (active s.activations) ms s.sched) s
 
 started_counts : (begun : Option Activation) (s : State) → (started_up begun s).entries ≡ s.entries
 started_counts None s = refl

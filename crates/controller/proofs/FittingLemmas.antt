@@ -28,11 +28,11 @@ use Rattle.machine.specs.Flat.{code_of}
 use Rattle.machine.specs.Lasting.{FitsProgram, GoesOn, IsReady as IsReadyIn, Lasts, first_frame}
 use Rattle.machine.specs.Statement.{World, Step, Went, Ended, SyncError, SysCall, Stop as Stops, Stuck, statement}
 use Rattle.machine.proofs.Sizes.{same_sizes, sizes_then, same_parts}
-use Rattle.ob_sched.specs.Course.{Course, requested}
-use Rattle.ob_sched.specs.Millisecond.{begun as course_begun, ticked}
-use Rattle.ob_sched.specs.OrganizationBlock.{class_in, is_delay}
+use Rattle.ob_sched.specs.TickState.{TickState, ob_requested}
+use Rattle.ob_sched.specs.Millisecond.{tick_begun as course_begun, after_tick}
+use Rattle.ob_sched.specs.OrganizationBlock.{priority_class_in, is_delay}
 use Rattle.ob_sched.specs.Request.{best_of}
-use Rattle.ob_sched.specs.Scheduler.{Scheduler, started, delay_of, delay_started, delay_cancelled, retriggered}
+use Rattle.ob_sched.specs.Scheduler.{Scheduler, best_removed, delay_of, delay_started, delay_cancelled, cycle_retriggered}
 use Rattle.ob_sched.specs.StartInformation.{ob_of_error, start_info}
 use Rattle.ob_sched.specs.declared.requests.Pending.{Pending}
 use Rattle.ob_sched.specs.declared.start_infos.StartEvent.TheVariants.{Arrival}
@@ -352,7 +352,7 @@ served_fits l p m number inputs s a fit is =
     (en_irt_fits l p m s a (input 0 inputs) (input 1 inputs) fit is)
     (of_either (KeepsServed p m) (number == 41) _ _ (dis_airt_fits l p m s a fit is)
     (of_either (KeepsServed p m) (number == 42) _ _ (en_airt_fits l p m s a fit is)
-    (of_either (KeepsServed p m) (number == 43) (Passes (retriggered s) (passed a)) _
+    (of_either (KeepsServed p m) (number == 43) (Passes (cycle_retriggered s) (passed a)) _
     (record { fits = l.registers p m a _ fit; sched = retriggered_schedule s is })
     (of_either (KeepsServed p m) (number == 46) (Halts 1 (passed a)) _ tt (time_tck_fits l p m s a fit is))))))))
 
@@ -469,10 +469,10 @@ cycle_fits : (l : MachineLaws) (p : Program) (s : State) → Verifies p → s.ac
 unfolding cycle_point
 cycle_fits l p s verifies idle running fit =
     let next : IsFit p (cycle_passed s) = passed_fits l p s fit in
-    begins_above p (class_in s.mode 1) 1
-    (ob_in s.profile (code_of p) (class_in s.mode 1) 1 (cycle_info s)) (cycle_passed s)
-    (ob_fits s.profile l p (memory_refreshed s.world.memory) (class_in s.mode 1) 1 (cycle_info s) verifies next.memory)
-    (ob_is s.profile (code_of p) (class_in s.mode 1) 1 (cycle_info s))
+    begins_above p (priority_class_in s.mode 1) 1
+    (ob_in s.profile (code_of p) (priority_class_in s.mode 1) 1 (cycle_info s)) (cycle_passed s)
+    (ob_fits s.profile l p (memory_refreshed s.world.memory) (priority_class_in s.mode 1) 1 (cycle_info s) verifies next.memory)
+    (ob_is s.profile (code_of p) (priority_class_in s.mode 1) 1 (cycle_info s))
     (cycle_may_begin s.mode s.activations idle running fit.standing) next
 
 stepped_on_fits : (l : MachineLaws) (p : Program) (activations : List Activation) (s : State)
@@ -507,7 +507,7 @@ stopped_fits : (l : MachineLaws) (p : Program) (cause : Option ℕ) (s : State) 
 stopped_fits l p None s fit = fit
 stopped_fits l p (Some cause) s fit = halted_fits l p cause s fit
 
-course_fits : (l : MachineLaws) (p : Program) (c : Course) (s : State) → IsSchedule c.sched → IsFit p s
+course_fits : (l : MachineLaws) (p : Program) (c : TickState) (s : State) → IsSchedule c.sched → IsFit p s
     → IsFit p (course_taken (code_of p) c s)
 course_fits l p c s is fit =
     stopped_fits l p c.passed.stop
@@ -521,13 +521,13 @@ unfolding arrived
 arrived_fits l p ob value s known fit =
     unless_stop p s _ fit
     (λ running. course_fits l p
-    (requested s.mode ob (start_info (Arrival ob value) (class_in s.mode ob)) (course_begun s.sched))
+    (ob_requested s.mode ob (start_info (Arrival ob value) (priority_class_in s.mode ob)) (course_begun s.sched))
     s
-    (requested_known s.mode ob (start_info (Arrival ob value) (class_in s.mode ob))
+    (requested_known s.mode ob (start_info (Arrival ob value) (priority_class_in s.mode ob))
     (course_begun s.sched) (arrival_waits ob known) fit.sched)
     fit)
 
-tick_fits : (l : MachineLaws) (p : Program) (c : Course) (s : State) → IsSchedule c.sched → IsFit p s
+tick_fits : (l : MachineLaws) (p : Program) (c : TickState) (s : State) → IsSchedule c.sched → IsFit p s
     → IsFit p (tick_taken (code_of p) c s)
 tick_fits l p c s is fit =
     course_fits l p c (record s { world = timers_moved c.passed.ms s.world }) is
@@ -537,7 +537,7 @@ time_fits : (l : MachineLaws) (p : Program) (ms : ℕ) (s : State) → IsFit p s
     → IsFit p (time_passed (code_of p) ms s)
 unfolding time_passed
 time_fits l p ms s fit =
-    tick_fits l p (ticked s.mode (active s.activations) ms s.sched) s
+    tick_fits l p (after_tick s.mode (active s.activations) ms s.sched) s
     (ticked_known s.mode (active s.activations) ms s.sched fit.sched) fit
 
 -- ---- an input
@@ -687,7 +687,7 @@ request_fits l p best s verifies may fit =
     (request_taken s)
     (ob_fits s.profile l p s.world.memory best.class best.ob best.info verifies fit.memory)
     (ob_is s.profile (code_of p) best.class best.ob best.info) may
-    (other_sched p s (started s.sched) (started_schedule s.sched fit.sched) fit)
+    (other_sched p s (best_removed s.sched) (started_schedule s.sched fit.sched) fit)
 
 best_fits : (l : MachineLaws) (p : Program) (best : Option Pending) (s : State) → Verifies p
     → is_stop s.mode ≡ false → best_of s.mode s.sched.pending ≡ best → IsFit p s

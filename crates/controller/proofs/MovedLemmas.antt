@@ -16,11 +16,11 @@ use Rattle.machine.specs.Moved.{Follows, moved, moved_fetched, moved_frame, move
 use Rattle.machine.specs.Statement.{Step, Went, Ended, SyncError, SysCall, Stop, Stuck, statement}
 use Rattle.machine.specs.SystemCalls.{Given}
 use Rattle.monitor.specs.declared.MonRecord.{MonRecord}
-use Rattle.ob_sched.specs.Course.{Course, requested}
-use Rattle.ob_sched.specs.Scheduler.{Scheduler, retriggered, delay_of, delay_started, delay_cancelled}
+use Rattle.ob_sched.specs.TickState.{TickState, ob_requested}
+use Rattle.ob_sched.specs.Scheduler.{Scheduler, cycle_retriggered, delay_of, delay_started, delay_cancelled}
 use Rattle.ob_sched.specs.StartInformation.{ob_of_error, start_info}
-use Rattle.ob_sched.specs.Millisecond.{ticked, begun as course_begun}
-use Rattle.ob_sched.specs.OrganizationBlock.{class_in, is_delay}
+use Rattle.ob_sched.specs.Millisecond.{after_tick, tick_begun as course_begun}
+use Rattle.ob_sched.specs.OrganizationBlock.{priority_class_in, is_delay}
 use Rattle.ob_sched.specs.Request.{best_of}
 use Rattle.ob_sched.specs.declared.requests.Pending.{Pending}
 use Rattle.ob_sched.specs.declared.start_infos.StartEvent.TheVariants.{Arrival}
@@ -142,7 +142,7 @@ stopped_moves f c d None s follows = refl
 stopped_moves f c d (Some cause) s follows = halted_moves f c d cause s follows
 
 course_moves :
-    (f : Positions) (c d : Code) (course : Course) (s : State) → Follows f c d
+    (f : Positions) (c d : Code) (course : TickState) (s : State) → Follows f c d
     → course_taken d course (moved_state f s) ≡ moved_state f (course_taken c course s)
 course_moves f c d course s follows =
     ap (stopped_if d course.passed.stop) (diagnosed_moves f course.passed.records.items (record s { sched = course.sched }))
@@ -229,7 +229,7 @@ chosen b32 b33 b39 b40 b41 b42 b43 b46 inputs s a =
     else if b40 then Returns (en_irt s a (input 0 inputs) (input 1 inputs))
     else if b41 then Returns (dis_airt s a)
     else if b42 then Returns (en_airt s a)
-    else if b43 then Passes (retriggered s) (passed a)
+    else if b43 then Passes (cycle_retriggered s) (passed a)
     else if b46 then Stops causes.by_program (passed a)
     else Returns (time_tck s a)
 
@@ -345,8 +345,8 @@ arrived_moves :
 unfolding arrived
 arrived_moves f c d ob value s follows = either (moved_state f) (is_stop s.mode) s _ (course_taken c (arrival_of s ob value) s) _ refl (course_moves f c d (arrival_of s ob value) s follows)
   where
-    arrival_of : State → (ob value : ℕ) → Course
-    arrival_of s ob value = requested s.mode ob (start_info (Arrival ob value) (class_in s.mode ob)) (course_begun s.sched)
+    arrival_of : State → (ob value : ℕ) → TickState
+    arrival_of s ob value = ob_requested s.mode ob (start_info (Arrival ob value) (priority_class_in s.mode ob)) (course_begun s.sched)
 
 active_same : (f : Positions) (activations : List Activation) → active (map (moved f) activations) ≡ active activations
 active_same f activations =
@@ -370,9 +370,9 @@ time_passes_moves :
     (f : Positions) (c d : Code) (ms : ℕ) (s : State) → Follows f c d → time_passed d ms (moved_state f s) ≡ moved_state f (time_passed c ms s)
 unfolding time_passed
 time_passes_moves f c d ms s follows =
-    ap (λ (obs : List ℕ). tick_taken d (ticked s.mode obs ms s.sched) (moved_state f s)) (active_same f s.activations)
-    ∙ course_moves f c d (ticked s.mode (active s.activations) ms s.sched)
-    (record s { world = timers_moved (ticked s.mode (active s.activations) ms s.sched).passed.ms s.world }) follows
+    ap (λ (obs : List ℕ). tick_taken d (after_tick s.mode obs ms s.sched) (moved_state f s)) (active_same f s.activations)
+    ∙ course_moves f c d (after_tick s.mode (active s.activations) ms s.sched)
+    (record s { world = timers_moved (after_tick s.mode (active s.activations) ms s.sched).passed.ms s.world }) follows
 
 may_start_same : (f : Positions) (class : ℕ) (activations : List Activation) → may_start class (map (moved f) activations) ≡ may_start class activations
 may_start_same f class [] = refl

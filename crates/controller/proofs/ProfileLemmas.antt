@@ -8,9 +8,9 @@ use Rattle.frames.specs.declared.Activation.{Activation}
 use Rattle.frames.specs.declared.bindings.Binding.{Binding}
 use Rattle.machine.specs.Code.{Code}
 use Rattle.machine.specs.Statement.{Step, Went, Ended, SyncError, SysCall, Stop, Stuck, statement}
-use Rattle.ob_sched.specs.Course.{Course, requested}
-use Rattle.ob_sched.specs.Millisecond.{begun, ticked}
-use Rattle.ob_sched.specs.OrganizationBlock.{class_in}
+use Rattle.ob_sched.specs.TickState.{TickState, ob_requested}
+use Rattle.ob_sched.specs.Millisecond.{tick_begun, after_tick}
+use Rattle.ob_sched.specs.OrganizationBlock.{priority_class_in}
 use Rattle.ob_sched.specs.Request.{best_of}
 use Rattle.ob_sched.specs.StartInformation.{start_info}
 use Rattle.ob_sched.specs.declared.requests.Pending.{Pending}
@@ -69,7 +69,7 @@ settled_stays code s =
 cycle_stays : (code : Code) (s : State) → (cycle_point code s).profile ≡ s.profile
 unfolding cycle_point
 cycle_stays code s =
-    begun_stays (ob_in s.profile code (class_in s.mode 1) 1 (cycle_info s)) (cycle_passed s)
+    begun_stays (ob_in s.profile code (priority_class_in s.mode 1) 1 (cycle_info s)) (cycle_passed s)
 
 answered_stays : (fresh : Option Activation) (error : ℕ) (at : Option Spot) (a : Activation)
     (below : List Activation) (s : State) → (error_answered fresh error at a below s).profile ≡ s.profile
@@ -119,7 +119,7 @@ stopped_stays : (code : Code) (cause : Option ℕ) (s : State)
 stopped_stays code None s = refl
 stopped_stays code (Some cause) s = halted_stays code cause s
 
-course_stays : (code : Code) (c : Course) (s : State)
+course_stays : (code : Code) (c : TickState) (s : State)
     → (course_taken code c s).profile ≡ s.profile
 course_stays code c s =
     stopped_stays code c.passed.stop
@@ -132,19 +132,19 @@ unfolding arrived
 arrived_stays code ob value s =
     if_stays (is_stop s.mode) s
     (course_taken code
-    (requested s.mode ob (start_info (Arrival ob value) (class_in s.mode ob)) (begun s.sched)) s)
+    (ob_requested s.mode ob (start_info (Arrival ob value) (priority_class_in s.mode ob)) (tick_begun s.sched)) s)
     s.profile refl
     (course_stays code
-    (requested s.mode ob (start_info (Arrival ob value) (class_in s.mode ob)) (begun s.sched)) s)
+    (ob_requested s.mode ob (start_info (Arrival ob value) (priority_class_in s.mode ob)) (tick_begun s.sched)) s)
 
-tick_stays : (code : Code) (c : Course) (s : State) → (tick_taken code c s).profile ≡ s.profile
+tick_stays : (code : Code) (c : TickState) (s : State) → (tick_taken code c s).profile ≡ s.profile
 tick_stays code c s =
     course_stays code c (record s { world = timers_moved c.passed.ms s.world })
 
 passed_stays : (code : Code) (ms : ℕ) (s : State) → (time_passed code ms s).profile ≡ s.profile
 unfolding time_passed
 passed_stays code ms s =
-    tick_stays code (ticked s.mode (active s.activations) ms s.sched) s
+    tick_stays code (after_tick s.mode (active s.activations) ms s.sched) s
 
 started_stays : (begun : Option Activation) (s : State) → (started_up begun s).profile ≡ s.profile
 started_stays None s = refl

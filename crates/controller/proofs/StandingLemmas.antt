@@ -10,7 +10,7 @@ use Rattle.plc_base.specs.declared.Mode.TheVariants.{Run, Startup, Stop}
 use Rattle.frames.specs.Activations.{activation_begun}
 use Rattle.frames.specs.declared.Activation.{Activation}
 use Rattle.machine.specs.Code.{Code, Head}
-use Rattle.ob_sched.specs.OrganizationBlock.{can_wait, class_in, is_error}
+use Rattle.ob_sched.specs.OrganizationBlock.{can_wait, priority_class_in, is_error}
 use Rattle.ob_sched.specs.Request.{Request, best_of}
 use Rattle.ob_sched.specs.StartInformation.{ob_of_error}
 use Rattle.ob_sched.specs.declared.requests.Pending.{Pending}
@@ -66,22 +66,22 @@ begun_stands mode class ob a below class_is ob_is standing may = record {
 
 -- the best request
 pub best_class : (mode : Mode) (pending : List Request) (best : Pending)
-    → best_of mode pending ≡ Some best → best.class ≡ class_in mode best.ob
+    → best_of mode pending ≡ Some best → best.class ≡ priority_class_in mode best.ob
 best_class mode [] best h = absurd cc
 best_class mode (first ∷ rest) best h =
-    let same : record { ob = first.0; class = class_in mode first.0; info = first.1 } ≡ best =
+    let same : record { ob = first.0; class = priority_class_in mode first.0; info = first.1 } ≡ best =
     search (rules, h) in
-    subst (λ (b : Pending). b.class ≡ class_in mode b.ob) same refl
+    subst (λ (b : Pending). b.class ≡ priority_class_in mode b.ob) same refl
 
 no_synchronous : (ob : ℕ) → IsTrue (can_wait ob) → is_synchronous ob ≡ false
 no_synchronous ob h = grind (arith, nat_tests)
 
-above_27 : (ob class : ℕ) → IsTrue (can_wait ob) → class ≡ class_in Startup ob → 27 < class
+above_27 : (ob class : ℕ) → IsTrue (can_wait ob) → class ≡ priority_class_in Startup ob → 27 < class
     → IsTrue (is_error ob)
 above_27 ob class waits is above = grind (arith, nat_tests)
 
 started_above : (mode : Mode) (class ob : ℕ) (below : List Activation) → is_stop mode ≡ false
-    → IsTrue (can_wait ob) → class ≡ class_in mode ob → IsAbove class below
+    → IsTrue (can_wait ob) → class ≡ priority_class_in mode ob → IsAbove class below
     → IsStanding mode below → IsStarted mode class ob below
 started_above Run class ob below running waits is above standing =
     record { stands = waits; class_is = is; above = above }
@@ -101,7 +101,7 @@ above_running class [] may = tt
 above_running class (a ∷ below) may = grind (arith, nat_tests)
 
 pub best_may_begin : (mode : Mode) (class ob : ℕ) (activations : List Activation)
-    → is_stop mode ≡ false → IsTrue (can_wait ob) → class ≡ class_in mode ob
+    → is_stop mode ≡ false → IsTrue (can_wait ob) → class ≡ priority_class_in mode ob
     → may_start class activations ≡ true → IsStanding mode activations
     → MayBegin mode class ob activations
 best_may_begin mode class ob activations running waits is may standing = (
@@ -112,11 +112,11 @@ best_may_begin mode class ob activations running waits is may standing = (
 
 pub cycle_may_begin : (mode : Mode) (activations : List Activation) → activations ≡ []
     → is_stop mode ≡ false → IsStanding mode activations
-    → MayBegin mode (class_in mode 1) 1 activations
+    → MayBegin mode (priority_class_in mode 1) 1 activations
 cycle_may_begin mode activations idle running standing = (
   refl,
-  started_above mode (class_in mode 1) 1 activations running refl refl
-      (subst (λ acts. IsAbove (class_in mode 1) acts) (sym idle) tt) standing,
+  started_above mode (priority_class_in mode 1) 1 activations running refl refl
+      (subst (λ acts. IsAbove (priority_class_in mode 1) acts) (sym idle) tt) standing,
 )
 
 -- an OB 121 or 122

@@ -3,7 +3,7 @@ use Rattle.std.specs.Prelude.{false}
 use Rattle.plc_mem.specs.Refresh.{memory_refreshed}
 use Rattle.machine.specs.Code.{Code}
 use Rattle.machine.specs.Statement.{World}
-use Rattle.ob_sched.specs.OrganizationBlock.{class_in}
+use Rattle.ob_sched.specs.OrganizationBlock.{priority_class_in}
 use Rattle.ob_sched.specs.Scheduler.{cycle_begun}
 use Rattle.ob_sched.specs.StartInformation.{start_info}
 use Rattle.ob_sched.specs.declared.start_infos.StartInfo.{StartInfo}
@@ -28,9 +28,9 @@ cycle_passed s =
 
 -- the start information of OB 1: start code 16#01 in the first cycle after a start, else 16#03
 abbrev pub cycle_info : State → StartInfo
-cycle_info s = start_info (Cycle s.first_cycle) (class_in s.mode 1)
+cycle_info s = start_info (Cycle s.first_cycle) (priority_class_in s.mode 1)
 
 -- then OB 1 begins, if it is loaded
 unfoldable pub cycle_point : Code → State → State
 cycle_point code s =
-    begun_above (ob_in s.profile code (class_in s.mode 1) 1 (cycle_info s)) (cycle_passed s)
+    begun_above (ob_in s.profile code (priority_class_in s.mode 1) 1 (cycle_info s)) (cycle_passed s)

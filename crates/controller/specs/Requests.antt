@@ -1,9 +1,9 @@
 -- Requests from outside: arrivals, and what they lead to.
 use Rattle.std.specs.Prelude.{ℕ, Option, Some, None, if◌then◌else◌}
 use Rattle.machine.specs.Code.{Code}
-use Rattle.ob_sched.specs.Course.{Course, requested}
-use Rattle.ob_sched.specs.Millisecond.{begun}
-use Rattle.ob_sched.specs.OrganizationBlock.{class_in}
+use Rattle.ob_sched.specs.TickState.{TickState, ob_requested}
+use Rattle.ob_sched.specs.Millisecond.{tick_begun}
+use Rattle.ob_sched.specs.OrganizationBlock.{priority_class_in}
 use Rattle.ob_sched.specs.StartInformation.{start_info}
 use Rattle.ob_sched.specs.declared.start_infos.StartEvent.TheVariants.{Arrival}
 use Rattle.controller.specs.State.{State, is_stop, each_diagnosed}
@@ -15,7 +15,7 @@ stopped_if code None s = s
 stopped_if code (Some cause) s = halted code cause s
 
 -- the scheduler as its course leaves it; its records are made, then it stops, if there is a cause
-abbrev pub course_taken : Code → Course → State → State
+abbrev pub course_taken : Code → TickState → State → State
 course_taken code c s =
     stopped_if code c.passed.stop
     (each_diagnosed c.passed.records.items (record s { sched = c.sched }))
@@ -26,4 +26,4 @@ unfoldable pub arrived : Code → (ob value : ℕ) → State → State
 arrived code ob value s =
     if is_stop s.mode then s
     else course_taken code
-    (requested s.mode ob (start_info (Arrival ob value) (class_in s.mode ob)) (begun s.sched)) s
+    (ob_requested s.mode ob (start_info (Arrival ob value) (priority_class_in s.mode ob)) (tick_begun s.sched)) s

@@ -10,7 +10,7 @@ use Rattle.machine.specs.Results.{with_result}
 use Rattle.machine.specs.Returning.{ReturnState, with_copied}
 use Rattle.machine.specs.Statement.{with_memory}
 use Rattle.machine.specs.SystemCalls.{Given}
-use Rattle.ob_sched.specs.Scheduler.{Scheduler, retriggered}
+use Rattle.ob_sched.specs.Scheduler.{Scheduler, cycle_retriggered}
 use Rattle.sys_funcs.specs.Functions.{dis_airt, en_airt, dis_irt, en_irt, srt_dint, can_dint, time_tck}
 use Rattle.sys_funcs.specs.Returned.{Returned, passed}
 use Rattle.controller.specs.State.{State}
@@ -38,7 +38,7 @@ served number inputs s a =
     else if number == 40 then Returns (en_irt s a (input 0 inputs) (input 1 inputs))
     else if number == 41 then Returns (dis_airt s a)
     else if number == 42 then Returns (en_airt s a)
-    else if number == 43 then Passes (retriggered s) (passed a)
+    else if number == 43 then Passes (cycle_retriggered s) (passed a)
     else if number == 46 then Stops causes.by_program (passed a)
     else Returns (time_tck s a)
 

@@ -3,7 +3,7 @@ use Rattle.std.specs.Prelude.{ℕ, ◌==◌, ◌&&◌, nat_lt, Bool, true, List,
 use Rattle.frames.specs.declared.Activation.{Activation}
 use Rattle.machine.specs.Code.{Code}
 use Rattle.ob_sched.specs.Request.{best_of}
-use Rattle.ob_sched.specs.Scheduler.{started}
+use Rattle.ob_sched.specs.Scheduler.{best_removed}
 use Rattle.ob_sched.specs.declared.requests.Pending.{Pending}
 use Rattle.controller.specs.Beginning.{ob_in, begun_above}
 use Rattle.controller.specs.State.{State, is_stop}
@@ -16,7 +16,7 @@ may_start class (a ∷ below) = nat_lt a.class class && a.delay == 0
 
 -- the best request isn't pending any more
 abbrev pub request_taken : State → State
-request_taken s = record s { sched = started s.sched }
+request_taken s = record s { sched = best_removed s.sched }
 
 -- and its organization block begins above those that stand, in its class and with its start
 -- information; if it isn't loaded, none begins

@@ -6,7 +6,7 @@ use Rattle.std.specs.Prelude.{◌≡◌, ℕ, ◌<◌, ◌≤◌, Bool, true, fa
 use Rattle.plc_base.specs.declared.Mode.{Mode}
 use Rattle.plc_base.specs.declared.Mode.TheVariants.{Run, Startup, Stop}
 use Rattle.frames.specs.declared.Activation.{Activation}
-use Rattle.ob_sched.specs.OrganizationBlock.{can_wait, class_in, is_error}
+use Rattle.ob_sched.specs.OrganizationBlock.{can_wait, priority_class_in, is_error}
 use Rattle.controller.specs.Errors.{is_synchronous}
 
 -- which organization blocks are started, above others or above none: in RUN each that can wait, in
@@ -26,7 +26,7 @@ IsAbove class (b ∷ below) = b.class < class
 -- that is above the class of the one below it
 pub record IsStarted (mode : Mode) (class ob : ℕ) (below : List Activation) : Type 0 where
   pub stands : IsTrue (may_stand mode ob below)
-  pub class_is : class ≡ class_in mode ob
+  pub class_is : class ≡ priority_class_in mode ob
   pub above : IsAbove class below
 
 -- an OB 121 or 122 has the class of the one below it, which is neither of the two itself

@@ -11,7 +11,7 @@ use Rattle.timers_counters.specs.Restart.{counters_retained}
 use Rattle.frames.specs.declared.Activation.{Activation}
 use Rattle.machine.specs.Code.{Code}
 use Rattle.machine.specs.Statement.{World}
-use Rattle.ob_sched.specs.Scheduler.{at_rest, restarted as sched_restarted}
+use Rattle.ob_sched.specs.Scheduler.{sched_at_rest, sched_restarted}
 use Rattle.ob_sched.specs.StartInformation.{start_info}
 use Rattle.ob_sched.specs.declared.start_infos.StartInfo.{StartInfo}
 use Rattle.ob_sched.specs.declared.start_infos.StartEvent.TheVariants.{Startup as OfStartup}
@@ -46,7 +46,7 @@ before_start profile code = record {
   world = world_at_rest profile code;
   mode = Run;
   activations = [];
-  sched = at_rest (loaded_obs code);
+  sched = sched_at_rest (loaded_obs code);
   first_cycle = true;
   monitored = None;
   diagnostics = [];

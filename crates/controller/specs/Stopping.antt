@@ -9,7 +9,7 @@ use Rattle.frames.specs.declared.Activation.{Activation}
 use Rattle.frames.specs.declared.frame.Frame.{Frame}
 use Rattle.machine.specs.Code.{Code}
 use Rattle.machine.specs.Statement.{World}
-use Rattle.ob_sched.specs.Scheduler.{stopped}
+use Rattle.ob_sched.specs.Scheduler.{sched_stopped}
 use Rattle.controller.specs.State.{State, diagnosed}
 
 -- a block and the source line of its statement at a position; none where no statement stands there
@@ -37,7 +37,7 @@ halted_at at cause s =
       world = outputs_off s.world;
       mode = Stop cause at;
       activations = [];
-      sched = stopped s.sched;
+      sched = sched_stopped s.sched;
     }
 
 -- at the statement at which the running activation stands

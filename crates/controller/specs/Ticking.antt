@@ -5,8 +5,8 @@ use Rattle.frames.specs.declared.Activation.{Activation}
 use Rattle.machine.specs.Code.{Code}
 use Rattle.machine.specs.Statement.{World}
 use Rattle.timers_counters.specs.Timer.{timer_after_ms}
-use Rattle.ob_sched.specs.Course.{Course}
-use Rattle.ob_sched.specs.Millisecond.{ticked}
+use Rattle.ob_sched.specs.TickState.{TickState}
+use Rattle.ob_sched.specs.Millisecond.{after_tick}
 use Rattle.controller.specs.State.{State}
 use Rattle.controller.specs.Requests.{course_taken}
 
@@ -20,7 +20,7 @@ active activations = map (λ (a : Activation). a.ob) (reverse activations)
 
 -- in each millisecond the timers move first, so they move in all that have passed, in that of a stop
 -- too
-abbrev pub tick_taken : Code → Course → State → State
+abbrev pub tick_taken : Code → TickState → State → State
 tick_taken code c s =
     course_taken code c (record s { world = timers_moved c.passed.ms s.world })
 
@@ -28,4 +28,4 @@ tick_taken code c s =
 -- time. A stop ends it, and in STOP nothing passes
 unfoldable pub time_passed : Code → (ms : ℕ) → State → State
 time_passed code ms s =
-    tick_taken code (ticked s.mode (active s.activations) ms s.sched) s
+    tick_taken code (after_tick s.mode (active s.activations) ms s.sched) s

@@ -1,7 +1,7 @@
 //! Synchronous errors.
 ghost use Rattle.std.specs.Prelude.{◌≡◌};
 ghost use Rattle.machine.specs.Flat.{code_of};
-ghost use Rattle.ob_sched.specs.StartInformation.{IsEvent, ob_of, ob_of_error};
+ghost use Rattle.ob_sched.specs.StartInformation.{IsEvent, event_ob, ob_of_error};
 ghost use Rattle.controller.specs.Ready.{HasStatement};
 ghost use Rattle.controller.specs.Errors.{is_synchronous as is_error_ob, cause_without as cause_of_missing, failure as failure_of};
 ghost use Rattle.controller.specs.Leaves.{error_left};
@@ -37,7 +37,7 @@ fn cause_without(ob: u16) -> u8
 /// What failed.
 pub(crate) fn failure(code: u8, at: Option<Spot>) -> StartEvent
     ensures value { result ≡ failure_of code at }
-    ensures ob { ob_of result ≡ ob_of_error code }
+    ensures ob { event_ob result ≡ ob_of_error code }
     ensures event { IsEvent result }
 {
     match at {

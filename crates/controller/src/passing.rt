@@ -12,11 +12,11 @@ ghost use Rattle.controller.specs.Views.{state_of};
 use crate::cpus::Cpu;
 use crate::stopping::is_stop;
 use image_file::Loaded;
-use ob_sched::{Passed, StartEvent, StartInfo, class_in};
+use ob_sched::{TickResult, StartEvent, StartInfo, class_in};
 
 impl Cpu {
     // The records of the scheduler, and the stop that it came to.
-    fn take(&mut self, program: &Loaded, passed: &Passed)
+    fn take(&mut self, program: &Loaded, passed: &TickResult)
         requires ready { IsReady (code_of program.now.program) self.old.activations }
         requires stack { IsStanding self.old.mode self.old.activations }
         ensures state { state_of self.new
@@ -45,7 +45,7 @@ impl Cpu {
         }
         let event = StartEvent::Arrival { ob, value };
         let info = StartInfo::new(event, class_in(self.mode, ob));
-        let mut passed = Passed::new();
+        let mut passed = TickResult::new();
         self.sched.request(self.mode, ob, info, &mut passed);
         self.take(program, &passed);
     }

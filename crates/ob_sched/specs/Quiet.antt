@@ -2,7 +2,7 @@
 use Rattle.std.specs.Prelude.{ℕ, ◌+◌, ◌-◌, ◌%◌, ◌^◌, ◌≤◌, All, Option, Some, None, map, option_map}
 use Rattle.plc_base.specs.declared.Mode.{Mode}
 use Rattle.plc_base.specs.declared.Mode.TheVariants.{Run, Startup, Stop}
-use Rattle.ob_sched.specs.Course.{Course}
+use Rattle.ob_sched.specs.TickState.{TickState}
 use Rattle.ob_sched.specs.Scheduler.{Scheduler, Countdowns}
 
 -- a delay that is started has so many milliseconds left
@@ -22,7 +22,7 @@ RunLastsIn Startup ms s = Unit {0}
 RunLastsIn (Stop cause at) ms s = Unit {0}
 
 -- nothing ends and nothing is due before so many milliseconds have passed
-pub record Lasts (mode : Mode) (ms : ℕ) (s : Scheduler) : Type 0 where
+pub record NothingDueFor (mode : Mode) (ms : ℕ) (s : Scheduler) : Type 0 where
   pub delays : All (DelayLasts ms) s.countdowns.delays
   pub run : RunLastsIn mode ms s
 
@@ -50,8 +50,8 @@ run_shortened_in (Stop cause at) ms s = s
 
 -- all that they do: the clock and the delays move, in RUN the periods and the cycle counter too;
 -- the milliseconds are counted; pending requests, records and the stop cause stay
-abbrev pub waited : Mode → ℕ → Course → Course
-waited mode ms c = record c {
+abbrev pub after_quiet_ms : Mode → ℕ → TickState → TickState
+after_quiet_ms mode ms c = record c {
   sched =
       run_shortened_in mode ms
       (record c.sched {

@@ -10,9 +10,9 @@ use Rattle.frames.specs.declared.bindings.Binding.{Binding}
 use Rattle.machine.specs.Code.{Code}
 use Rattle.machine.specs.Flat.{code_of}
 use Rattle.machine.specs.Statement.{Step, Went, Ended, SyncError, SysCall, Stop, Stuck, statement}
-use Rattle.ob_sched.specs.Course.{Course, requested}
-use Rattle.ob_sched.specs.Millisecond.{begun, ticked}
-use Rattle.ob_sched.specs.OrganizationBlock.{class_in}
+use Rattle.ob_sched.specs.TickState.{TickState, ob_requested}
+use Rattle.ob_sched.specs.Millisecond.{tick_begun, after_tick}
+use Rattle.ob_sched.specs.OrganizationBlock.{priority_class_in}
 use Rattle.ob_sched.specs.StartInformation.{start_info}
 use Rattle.ob_sched.specs.declared.start_infos.StartEvent.TheVariants.{Arrival}
 use Rattle.ob_sched.specs.Request.{best_of}
@@ -216,7 +216,7 @@ unfolding halted
 stopped_keeps code None s place there on = stays s.activations place there
 stopped_keeps code (Some cause) s place there on = absurd cc
 
-course_keeps : (code : Code) (c : Course) (s : State) (place : ℕ)
+course_keeps : (code : Code) (c : TickState) (s : State) (place : ℕ)
     → place < length s.activations → is_stop (course_taken code c s).mode ≡ false
     → Keeps s.activations (course_taken code c s).activations place
 course_keeps code c s place there on =
@@ -233,8 +233,8 @@ arrived_keeps : (code : Code) (ob value : ℕ) (s : State) (place : ℕ)
 unfolding arrived
 arrived_keeps code ob value s place there on = by (is_stop s.mode) on
   where
-    course : Course
-    course = requested s.mode ob (start_info (Arrival ob value) (class_in s.mode ob)) (begun s.sched)
+    course : TickState
+    course = ob_requested s.mode ob (start_info (Arrival ob value) (priority_class_in s.mode ob)) (tick_begun s.sched)
 
     by : (b : Bool) → is_stop (if b then s else course_taken code course s).mode ≡ false
         → Keeps s.activations (if b then s else course_taken code course s).activations place
@@ -248,8 +248,8 @@ unfolding time_passed
 time_keeps code ms s place there on =
     course_keeps code course (record s { world = timers_moved course.passed.ms s.world }) place there on
   where
-    course : Course
-    course = ticked s.mode (active s.activations) ms s.sched
+    course : TickState
+    course = after_tick s.mode (active s.activations) ms s.sched
 
 -- ---- requests of operators
 

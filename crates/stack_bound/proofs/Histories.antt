@@ -14,11 +14,11 @@ use Rattle.flat_code.specs.Programs.{Program}
 use Rattle.machine.specs.Code.{Code, Head}
 use Rattle.machine.specs.Flat.{code_of}
 use Rattle.machine.specs.Statement.{Step, Went, Ended, SyncError, SysCall, Stop as StopsBy, Stuck, statement}
-use Rattle.ob_sched.specs.Course.{Course, requested}
-use Rattle.ob_sched.specs.Millisecond.{begun as course_begun, ticked}
-use Rattle.ob_sched.specs.OrganizationBlock.{class_in, is_delay}
+use Rattle.ob_sched.specs.TickState.{TickState, ob_requested}
+use Rattle.ob_sched.specs.Millisecond.{tick_begun as course_begun, after_tick}
+use Rattle.ob_sched.specs.OrganizationBlock.{priority_class_in, is_delay}
 use Rattle.ob_sched.specs.Request.{best_of}
-use Rattle.ob_sched.specs.Scheduler.{Scheduler, delay_of, delay_started, delay_cancelled, retriggered}
+use Rattle.ob_sched.specs.Scheduler.{Scheduler, delay_of, delay_started, delay_cancelled, cycle_retriggered}
 use Rattle.ob_sched.specs.StartInformation.{ob_of_error, start_info}
 use Rattle.ob_sched.specs.declared.requests.Pending.{Pending}
 use Rattle.ob_sched.specs.declared.start_infos.StartEvent.TheVariants.{Arrival}
@@ -248,7 +248,7 @@ served_same number inputs s a =
     (if_served (number == 40) a _ _ (en_irt_same s a (input 0 inputs) (input 1 inputs))
     (if_served (number == 41) a _ _ (dis_airt_same s a)
     (if_served (number == 42) a _ _ (en_airt_same s a)
-    (if_served (number == 43) a (Passes (retriggered s) (passed a)) _ (refl, refl)
+    (if_served (number == 43) a (Passes (cycle_retriggered s) (passed a)) _ (refl, refl)
     (if_served (number == 46) a (Halts causes.by_program (passed a)) _ refl (time_tck_same s a))))))))
 
 given_stack : (to : Option Binding) (value : ℕ) (a : Activation) (m : Areas)
@@ -317,9 +317,9 @@ cycle_bounded : (z : Profile) (code : Code) (c : List Bound) (s : State) → Cer
     → Bounded z c (cycle_point code s)
 unfolding cycle_point
 cycle_bounded z code c s holds b =
-    begins_room z c (ob_in s.profile code (class_in s.mode 1) 1 (cycle_info s)) (cycle_passed s)
-    (subst (λ (f : Profile). RoomIf z c (ob_in f code (class_in s.mode 1) 1 (cycle_info s))) (sym b.profile)
-    (ob_room z code c (class_in s.mode 1) 1 (cycle_info s) holds))
+    begins_room z c (ob_in s.profile code (priority_class_in s.mode 1) 1 (cycle_info s)) (cycle_passed s)
+    (subst (λ (f : Profile). RoomIf z c (ob_in f code (priority_class_in s.mode 1) 1 (cycle_info s))) (sym b.profile)
+    (ob_room z code c (priority_class_in s.mode 1) 1 (cycle_info s) holds))
     (record { profile = b.profile; room = b.room; mode = b.mode })
 
 stepped_on_bounded : (z : Profile) (p : Program) (c : List Bound) (activations : List Activation) (s : State)
@@ -349,7 +349,7 @@ stopped_bounded : (z : Profile) (code : Code) (c : List Bound) (cause : Option �
 stopped_bounded z code c None s fine b = b
 stopped_bounded z code c (Some cause) s fine b = halted_bounded z code c cause s b.profile fine
 
-course_bounded : (z : Profile) (code : Code) (c : List Bound) (course : Course) (s : State)
+course_bounded : (z : Profile) (code : Code) (c : List Bound) (course : TickState) (s : State)
     → NoOverflow course.passed.stop → Bounded z c s → Bounded z c (course_taken code course s)
 course_bounded z code c course s fine b =
     stopped_bounded z code c course.passed.stop
@@ -363,16 +363,16 @@ unfolding arrived
 arrived_bounded z code c ob value s b =
     either_bounded z c (is_stop s.mode) s _ b
     (course_bounded z code c
-    (requested s.mode ob (start_info (Arrival ob value) (class_in s.mode ob)) (course_begun s.sched)) s
-    (requested_fine s.mode ob (start_info (Arrival ob value) (class_in s.mode ob))
+    (ob_requested s.mode ob (start_info (Arrival ob value) (priority_class_in s.mode ob)) (course_begun s.sched)) s
+    (requested_fine s.mode ob (start_info (Arrival ob value) (priority_class_in s.mode ob))
     (course_begun s.sched) tt) b)
 
 time_bounded : (z : Profile) (code : Code) (c : List Bound) (ms : ℕ) (s : State) → Bounded z c s
     → Bounded z c (time_passed code ms s)
 unfolding time_passed
 time_bounded z code c ms s b =
-    course_bounded z code c (ticked s.mode (active s.activations) ms s.sched)
-    (record s { world = timers_moved (ticked s.mode (active s.activations) ms s.sched).passed.ms s.world })
+    course_bounded z code c (after_tick s.mode (active s.activations) ms s.sched)
+    (record s { world = timers_moved (after_tick s.mode (active s.activations) ms s.sched).passed.ms s.world })
     (ticked_fine s.mode (active s.activations) ms s.sched) (record { profile = b.profile; room = b.room; mode = b.mode })
 
 started_bounded : (z : Profile) (c : List Bound) (one : Option Activation) (s : State) → RoomIf z c one

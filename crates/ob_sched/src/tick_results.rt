@@ -1,25 +1,25 @@
 ghost use Rattle.std.specs.Prelude.{◌≡◌, [], None};
-ghost use Rattle.ob_sched.specs.Course.{with_record, with_stop};
+ghost use Rattle.ob_sched.specs.TickState.{with_record, with_stop};
 
 use arrayvec::ArrayVec;
 
 /// What passed in a tick: the milliseconds, the stop cause that ended it, and the last 100 records of
 /// diagnostics, each a code and its detail.
 #[derive(Drop)]
-pub struct Passed {
+pub struct TickResult {
     pub ms: u32,
     pub stop: Option<u8>,
     pub records: ArrayVec<(u16, u16), 100>,
 }
 
-impl Passed {
+impl TickResult {
     /// Nothing has passed.
-    pub fn new() -> Passed
+    pub fn new() -> TickResult
         ensures ms { result.ms ≡ 0 }
         ensures stop { result.stop ≡ None }
         ensures records { result.records.items ≡ [] }
     {
-        Passed {
+        TickResult {
             ms: 0,
             stop: None,
             records: ArrayVec::new(),
