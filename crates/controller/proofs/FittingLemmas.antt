@@ -46,24 +46,24 @@ use Rattle.var_access.specs.declared.Var.{Var}
 use Rattle.var_access.specs.declared.What.{What}
 use Rattle.var_access.specs.declared.What.TheVariants as what
 use Rattle.var_access.specs.Entry.{IsInRange}
-use Rattle.controller.specs.Asking.{asked}
-use Rattle.controller.specs.Beginning.{ob_block, ob_frame, told_from, ob_begun, ob_in, begun_above}
-use Rattle.controller.specs.CyclePoint.{cycle_point, cycle_passed, cycle_info}
-use Rattle.controller.specs.Errors.{is_synchronous, cause_without, failure, copied_from, error_in, error_answered, failed}
-use Rattle.controller.specs.Event.{counted, effect, state_after}
+use Rattle.controller.specs.Asking.{request_effect}
+use Rattle.controller.specs.Beginning.{ob_block, ob_frame, with_start_bytes, ob_begun, ob_in, begun_above}
+use Rattle.controller.specs.CyclePoint.{cycle_point, cycle_finished, cycle_info}
+use Rattle.controller.specs.Errors.{is_synchronous, cause_without, error_event, copied_from, error_in, error_ob_started, error_raised}
+use Rattle.controller.specs.Event.{entry_counted, entry_effect, state_after}
 use Rattle.controller.specs.Fitting.{AllFit, AreInRange, EntriesKeepFit, FitIsReady, HistoriesAreFit, IsFit, IsSchedule, StartIsFit}
 use Rattle.controller.specs.MachineLaws.{MachineLaws}
 use Rattle.controller.specs.Ready.{IsReady}
 use Rattle.controller.specs.Replay.{happens, run_from, replay}
-use Rattle.controller.specs.Requests.{stopped_if, course_taken, arrived}
-use Rattle.controller.specs.Serving.{Served, Returns, Passes, Stops as Halts, input, served, result_given, after_service}
-use Rattle.controller.specs.Settling.{may_start, request_taken, request_started, best_started, settled}
-use Rattle.controller.specs.Stack.{IsStanding, MayBegin}
-use Rattle.controller.specs.Start.{before_start, cleared, loaded_obs, restarted, start, started_up, startup_info, startup_ob}
-use Rattle.controller.specs.State.{State, is_stop, diagnosed, each_diagnosed}
-use Rattle.controller.specs.Stepping.{stepped, stepped_on, after_statement, run_starts, ob_ended, with_activations}
-use Rattle.controller.specs.Stopping.{halted, halted_at, spot, spot_of}
-use Rattle.controller.specs.Ticking.{active, tick_taken, time_passed, timers_moved}
+use Rattle.controller.specs.Requests.{stopped_if, tick_state_taken, arrival_served}
+use Rattle.controller.specs.Serving.{Served, Returns, Passes, Stops as Halts, in_parameter, system_function_served, result_given, after_service}
+use Rattle.controller.specs.Settling.{may_start, request_taken, request_started, best_started, after_settling}
+use Rattle.controller.specs.Stack.{IsActivationStack, MayBegin}
+use Rattle.controller.specs.Start.{before_start, restart_cleared, loaded_obs, warm_restarted, start, started_up, startup_info, startup_ob}
+use Rattle.controller.specs.State.{State, is_stop, diagnosis_recorded, each_diagnosed}
+use Rattle.controller.specs.Stepping.{after_step, step_of_first, after_statement, run_starts, ob_ended, with_activations}
+use Rattle.controller.specs.Stopping.{stop_entered, stop_entered_at, running_spot, spot_of}
+use Rattle.controller.specs.Ticking.{active_obs, tick_taken, time_passed, timers_moved}
 use Rattle.controller.proofs.CallLemmas.{SameServed, served_same, given_same}
 use Rattle.controller.proofs.SameLemmas.{SameStep, statement_same}
 use Rattle.controller.proofs.ScheduleLemmas.{of_either, best_waits, rest_schedule, started_schedule, stopped_schedule, run_schedule, cycle_schedule, restarted_schedule, retriggered_schedule, delay_schedule, cancelled_schedule, all_schedule, requested_known, arrival_waits, ticked_known}
@@ -117,7 +117,7 @@ told_one l p m byte value a None is fit = fit
 told_one l p m byte value a (Some b) is fit = l.local_byte p m a b 0 byte value is fit
 
 told_fits : (l : MachineLaws) (p : Program) (m : Areas) (bytes : List ℕ) (byte : ℕ) (a : Activation)
-    → FitsProgram p m a → FitsProgram p m (told_from byte bytes a)
+    → FitsProgram p m a → FitsProgram p m (with_start_bytes byte bytes a)
 told_fits l p m [] byte a fit = fit
 told_fits l p m (value ∷ rest) byte a fit =
     told_fits l p m rest (byte + 1) (unwrap_or (with_local_byte 0 byte value a) a)
@@ -165,7 +165,7 @@ begins_above p class ob (Some a) s one is may fit = record {
 -- ---- records and stops
 
 diagnosed_fit : (p : Program) (code info : ℕ) (s : State) → IsFit p s
-    → IsFit p (diagnosed code info s)
+    → IsFit p (diagnosis_recorded code info s)
 diagnosed_fit p code info s fit = record {
   memory = fit.memory;
   activations = fit.activations;
@@ -177,10 +177,10 @@ each_fit : (p : Program) (records : List (ℕ × ℕ)) (s : State) → IsFit p s
     → IsFit p (each_diagnosed records s)
 each_fit p [] s fit = fit
 each_fit p (one ∷ rest) s fit =
-    each_fit p rest (diagnosed one.0 one.1 s) (diagnosed_fit p one.0 one.1 s fit)
+    each_fit p rest (diagnosis_recorded one.0 one.1 s) (diagnosed_fit p one.0 one.1 s fit)
 
 halts : (l : MachineLaws) (p : Program) (at : Option Spot) (cause : ℕ) (s : State) → IsFit p s
-    → IsFit p (halted_at at cause s)
+    → IsFit p (stop_entered_at at cause s)
 halts l p at cause s fit = record {
   memory =
       memory_stays p s.world.memory (outputs_cleared s.world.memory)
@@ -191,9 +191,9 @@ halts l p at cause s fit = record {
 }
 
 halted_fits : (l : MachineLaws) (p : Program) (cause : ℕ) (s : State) → IsFit p s
-    → IsFit p (halted (code_of p) cause s)
-unfolding halted
-halted_fits l p cause s fit = halts l p (spot (code_of p) s.activations) cause s fit
+    → IsFit p (stop_entered (code_of p) cause s)
+unfolding stop_entered
+halted_fits l p cause s fit = halts l p (running_spot (code_of p) s.activations) cause s fit
 
 -- ---- synchronous errors
 
@@ -215,8 +215,8 @@ copied_is class ob a (Some fresh) is = is
 answers : (l : MachineLaws) (p : Program) (one : Option Activation) (error : ℕ) (at : Option Spot)
     (a : Activation) (below : List Activation) (s : State) → is_synchronous a.ob ≡ false
     → FitsIf p s.world.memory one → IsOf a.class (ob_of_error error) one
-    → AllFit p s.world.memory (a ∷ below) → IsStanding s.mode (a ∷ below) → IsFit p s
-    → IsFit p (error_answered one error at a below s)
+    → AllFit p s.world.memory (a ∷ below) → IsActivationStack s.mode (a ∷ below) → IsFit p s
+    → IsFit p (error_ob_started one error at a below s)
 unfolding FitsIf IsOf
 answers l p None error at a below s single one is all standing fit =
     halts l p at (cause_without (ob_of_error error)) s fit
@@ -229,24 +229,24 @@ answers l p (Some fresh) error at a below s single one is all standing fit = rec
 
 failed_fits : (l : MachineLaws) (p : Program) (error : ℕ) (at : Option Spot) (a : Activation)
     (below : List Activation) (s : State) → Verifies p → AllFit p s.world.memory (a ∷ below)
-    → IsStanding s.mode (a ∷ below) → IsFit p s → IsFit p (failed (code_of p) error at a below s)
-unfolding failed
+    → IsActivationStack s.mode (a ∷ below) → IsFit p s → IsFit p (error_raised (code_of p) error at a below s)
+unfolding error_raised
 failed_fits l p error at a below s verifies all standing fit = by (is_synchronous a.ob) refl
   where
-    recorded : IsFit p (diagnosed 4 error s)
+    recorded : IsFit p (diagnosis_recorded 4 error s)
     recorded = diagnosed_fit p 4 error s fit
 
     by : (test : Bool) → is_synchronous a.ob ≡ test
-        → IsFit p (if test then halted_at at causes.in_error_ob (diagnosed 4 error s)
-        else error_answered (error_in (code_of p) error at a) error at a below (diagnosed 4 error s))
-    by true is = halts l p at causes.in_error_ob (diagnosed 4 error s) recorded
+        → IsFit p (if test then stop_entered_at at causes.in_error_ob (diagnosis_recorded 4 error s)
+        else error_ob_started (error_in (code_of p) error at a) error at a below (diagnosis_recorded 4 error s))
+    by true is = halts l p at causes.in_error_ob (diagnosis_recorded 4 error s) recorded
     by false is =
-        answers l p (error_in (code_of p) error at a) error at a below (diagnosed 4 error s) is
+        answers l p (error_in (code_of p) error at a) error at a below (diagnosis_recorded 4 error s) is
         (copied_fits l p s.world.memory a _
         (ob_fits a.profile l p s.world.memory a.class (ob_of_error error)
-        (start_info (failure error at) a.class) verifies fit.memory))
+        (start_info (error_event error at) a.class) verifies fit.memory))
         (copied_is a.class (ob_of_error error) a _
-        (ob_is a.profile (code_of p) a.class (ob_of_error error) (start_info (failure error at) a.class)))
+        (ob_is a.profile (code_of p) a.class (ob_of_error error) (start_info (error_event error at) a.class)))
         all standing recorded
 
 -- ---- system functions
@@ -339,17 +339,17 @@ KeepsServed p m (Halts cause a) = Unit {0}
 
 served_fits : (l : MachineLaws) (p : Program) (m : Areas) (number : ℕ) (inputs : List ℕ) (s : Scheduler)
     (a : Activation) → FitsProgram p m a → IsSchedule s
-    → KeepsServed p m (served number inputs s a)
-unfolding served KeepsServed
+    → KeepsServed p m (system_function_served number inputs s a)
+unfolding system_function_served KeepsServed
 served_fits l p m number inputs s a fit is =
     of_either (KeepsServed p m) (number == 32) _ _
-    (srt_dint_fits l p m s a (input 0 inputs) (input 1 inputs) (input 2 inputs) fit is)
+    (srt_dint_fits l p m s a (in_parameter 0 inputs) (in_parameter 1 inputs) (in_parameter 2 inputs) fit is)
     (of_either (KeepsServed p m) (number == 33) _ _
-    (can_dint_fits l p m s a (input 0 inputs) fit is)
+    (can_dint_fits l p m s a (in_parameter 0 inputs) fit is)
     (of_either (KeepsServed p m) (number == 39) _ _
-    (dis_irt_fits l p m s a (input 0 inputs) (input 1 inputs) fit is)
+    (dis_irt_fits l p m s a (in_parameter 0 inputs) (in_parameter 1 inputs) fit is)
     (of_either (KeepsServed p m) (number == 40) _ _
-    (en_irt_fits l p m s a (input 0 inputs) (input 1 inputs) fit is)
+    (en_irt_fits l p m s a (in_parameter 0 inputs) (in_parameter 1 inputs) fit is)
     (of_either (KeepsServed p m) (number == 41) _ _ (dis_airt_fits l p m s a fit is)
     (of_either (KeepsServed p m) (number == 42) _ _ (en_airt_fits l p m s a fit is)
     (of_either (KeepsServed p m) (number == 43) (Passes (cycle_retriggered s) (passed a)) _
@@ -366,7 +366,7 @@ given_fits l p m (Some to) value a verifies fit =
 service_fits : (l : MachineLaws) (p : Program) (call : Option Spot) (sv : Served) (to : Option Binding)
     (a : Activation) (below : List Activation) (s : State) → Verifies p
     → KeepsServed p s.world.memory sv → SameServed a sv → AllFit p s.world.memory below
-    → IsStanding s.mode (a ∷ below) → IsFit p s → IsFit p (after_service call sv to below s)
+    → IsActivationStack s.mode (a ∷ below) → IsFit p s → IsFit p (after_service call sv to below s)
 unfolding KeepsServed KeepsReturned SameServed
 service_fits l p call (Returns r) to a below s verifies kept same rest standing fit =
     let goes = given_fits l p s.world.memory to r.value r.activation verifies kept.fits in
@@ -389,7 +389,7 @@ service_fits l p call (Halts cause b) to a below s verifies kept same rest stand
 
 -- ---- a statement
 
-run_starts_fits : (p : Program) (s : State) → IsStanding Run s.activations → IsFit p s
+run_starts_fits : (p : Program) (s : State) → IsActivationStack Run s.activations → IsFit p s
     → IsFit p (run_starts s)
 run_starts_fits p s standing fit = record {
   memory = fit.memory;
@@ -400,7 +400,7 @@ run_starts_fits p s standing fit = record {
 
 ended_fits : (l : MachineLaws) (p : Program) (w : World) (a : Activation) (below : List Activation)
     (s : State) → SameSizes s.world.memory w.memory → AllFit p s.world.memory below
-    → IsStanding s.mode (a ∷ below) → IsFit p s
+    → IsActivationStack s.mode (a ∷ below) → IsFit p s
     → IsFit p (ob_ended a.ob (with_activations w below s))
 ended_fits l p w a below s same rest standing fit = by (a.ob == 100) refl
   where
@@ -428,7 +428,7 @@ ended_fits l p w a below s same rest standing fit = by (a.ob == 100) refl
 
 statement_fits : (l : MachineLaws) (p : Program) (step : Step) (a : Activation) (at : Option Spot)
     (below : List Activation) (s : State) → Verifies p → Lasts p s.world step → SameStep a step
-    → AllFit p s.world.memory below → IsStanding s.mode (a ∷ below) → IsFit p s
+    → AllFit p s.world.memory below → IsActivationStack s.mode (a ∷ below) → IsFit p s
     → IsFit p (after_statement (code_of p) step a.ob at below s)
 statement_fits l p (Went b w) a at below s verifies lasts same rest standing fit = record {
   memory = memory_stays p s.world.memory w.memory lasts.sizes fit.memory;
@@ -442,7 +442,7 @@ statement_fits l p (SyncError error b) a at below s verifies lasts same rest sta
     failed_fits l p error at b below s verifies (lasts.1, rest)
     (same_stack s.mode a b below same standing) fit
 statement_fits l p (SysCall number given b) a at below s verifies lasts same rest standing fit =
-    service_fits l p at (served number given.inputs s.sched b) given.result b below s verifies
+    service_fits l p at (system_function_served number given.inputs s.sched b) given.result b below s verifies
     (served_fits l p s.world.memory number given.inputs s.sched b lasts.2 fit.sched)
     (served_same number given.inputs s.sched b) rest
     (same_stack s.mode a b below same standing) fit
@@ -452,7 +452,7 @@ statement_fits l p Stuck a at below s verifies lasts same rest standing fit = ab
 
 -- ---- a step
 
-passed_fits : (l : MachineLaws) (p : Program) (s : State) → IsFit p s → IsFit p (cycle_passed s)
+passed_fits : (l : MachineLaws) (p : Program) (s : State) → IsFit p s → IsFit p (cycle_finished s)
 passed_fits l p s fit =
     let same : SameSizes s.world.memory (memory_refreshed s.world.memory) =
     l.refreshes p s.world.memory fit.memory in
@@ -468,27 +468,27 @@ cycle_fits : (l : MachineLaws) (p : Program) (s : State) → Verifies p → s.ac
     → is_stop s.mode ≡ false → IsFit p s → IsFit p (cycle_point (code_of p) s)
 unfolding cycle_point
 cycle_fits l p s verifies idle running fit =
-    let next : IsFit p (cycle_passed s) = passed_fits l p s fit in
+    let next : IsFit p (cycle_finished s) = passed_fits l p s fit in
     begins_above p (priority_class_in s.mode 1) 1
-    (ob_in s.profile (code_of p) (priority_class_in s.mode 1) 1 (cycle_info s)) (cycle_passed s)
+    (ob_in s.profile (code_of p) (priority_class_in s.mode 1) 1 (cycle_info s)) (cycle_finished s)
     (ob_fits s.profile l p (memory_refreshed s.world.memory) (priority_class_in s.mode 1) 1 (cycle_info s) verifies next.memory)
     (ob_is s.profile (code_of p) (priority_class_in s.mode 1) 1 (cycle_info s))
     (cycle_may_begin s.mode s.activations idle running fit.standing) next
 
 stepped_on_fits : (l : MachineLaws) (p : Program) (activations : List Activation) (s : State)
     → Verifies p → s.activations ≡ activations → is_stop s.mode ≡ false → IsFit p s
-    → IsFit p (stepped_on (code_of p) activations s)
+    → IsFit p (step_of_first (code_of p) activations s)
 stepped_on_fits l p [] s verifies is running fit = cycle_fits l p s verifies is running fit
 stepped_on_fits l p (a ∷ below) s verifies is running fit =
     let all : AllFit p s.world.memory (a ∷ below) =
     subst (λ (acts : List Activation). AllFit p s.world.memory acts) is fit.activations in
     statement_fits l p (statement (code_of p) a s.world) a (spot_of (code_of p) a.running.frame)
     below s verifies (l.lasts p a s.world verifies all.0) (statement_same (code_of p) a s.world) all.1
-    (subst (λ (acts : List Activation). IsStanding s.mode acts) is fit.standing) fit
+    (subst (λ (acts : List Activation). IsActivationStack s.mode acts) is fit.standing) fit
 
 step_fits : (l : MachineLaws) (p : Program) (s : State) → Verifies p → is_stop s.mode ≡ false
-    → IsFit p s → IsFit p (stepped (code_of p) s)
-unfolding stepped
+    → IsFit p s → IsFit p (after_step (code_of p) s)
+unfolding after_step
 step_fits l p s verifies running fit =
     stepped_on_fits l p s.activations s verifies refl running fit
 
@@ -508,7 +508,7 @@ stopped_fits l p None s fit = fit
 stopped_fits l p (Some cause) s fit = halted_fits l p cause s fit
 
 course_fits : (l : MachineLaws) (p : Program) (c : TickState) (s : State) → IsSchedule c.sched → IsFit p s
-    → IsFit p (course_taken (code_of p) c s)
+    → IsFit p (tick_state_taken (code_of p) c s)
 course_fits l p c s is fit =
     stopped_fits l p c.passed.stop
     (each_diagnosed c.passed.records.items (record s { sched = c.sched }))
@@ -516,8 +516,8 @@ course_fits l p c s is fit =
     (other_sched p s c.sched is fit))
 
 arrived_fits : (l : MachineLaws) (p : Program) (ob value : ℕ) (s : State)
-    → IsInRange (what.Arrive ob value) → IsFit p s → IsFit p (arrived (code_of p) ob value s)
-unfolding arrived
+    → IsInRange (what.Arrive ob value) → IsFit p s → IsFit p (arrival_served (code_of p) ob value s)
+unfolding arrival_served
 arrived_fits l p ob value s known fit =
     unless_stop p s _ fit
     (λ running. course_fits l p
@@ -537,8 +537,8 @@ time_fits : (l : MachineLaws) (p : Program) (ms : ℕ) (s : State) → IsFit p s
     → IsFit p (time_passed (code_of p) ms s)
 unfolding time_passed
 time_fits l p ms s fit =
-    tick_fits l p (after_tick s.mode (active s.activations) ms s.sched) s
-    (ticked_known s.mode (active s.activations) ms s.sched fit.sched) fit
+    tick_fits l p (after_tick s.mode (active_obs s.activations) ms s.sched) s
+    (ticked_known s.mode (active_obs s.activations) ms s.sched fit.sched) fit
 
 -- ---- an input
 
@@ -555,13 +555,13 @@ started_up_fits : (p : Program) (one : Option Activation) (s : State)
 unfolding FitsIf IsOf
 started_up_fits p None s one is idle fit =
     run_starts_fits p s
-    (subst (λ (acts : List Activation). IsStanding Run acts) (sym idle)
+    (subst (λ (acts : List Activation). IsActivationStack Run acts) (sym idle)
     (record { stack = tt; startup = tt })) fit
 started_up_fits p (Some a) s one is idle fit = record {
   memory = fit.memory;
   activations = (one, fit.activations);
   standing =
-      subst (λ (acts : List Activation). IsStanding Startup (a ∷ acts)) (sym idle)
+      subst (λ (acts : List Activation). IsActivationStack Startup (a ∷ acts)) (sym idle)
       (first_stands a is.0 is.1);
   sched = fit.sched;
 }
@@ -594,7 +594,7 @@ cleared_sizes p m is = record {
   data_blocks = λ number. refl;
 }
 
-cleared_fits : (l : MachineLaws) (p : Program) (s : State) → IsFit p s → IsFit p (cleared s)
+cleared_fits : (l : MachineLaws) (p : Program) (s : State) → IsFit p s → IsFit p (restart_cleared s)
 cleared_fits l p s fit =
     let same : SameSizes s.world.memory (memory_after_restart s.world.memory) =
     cleared_sizes p s.world.memory fit.memory in
@@ -615,12 +615,12 @@ written_fits l m var value None is = same_sizes m
 written_fits l m var value (Some n) is = l.writes m n var.place var.width value is
 
 restart_fits : (l : MachineLaws) (p : Program) (s : State) → Verifies p → is_stop s.mode ≡ true
-    → IsFit p s → IsFit p (restarted (code_of p) s)
-unfolding restarted
+    → IsFit p s → IsFit p (warm_restarted (code_of p) s)
+unfolding warm_restarted
 restart_fits l p s verifies stop fit =
-    let next : IsFit p (cleared (diagnosed 6 0 s)) =
-    cleared_fits l p (diagnosed 6 0 s) (diagnosed_fit p 6 0 s fit) in
-    started_up_fits p (startup_ob s.profile (code_of p)) (cleared (diagnosed 6 0 s))
+    let next : IsFit p (restart_cleared (diagnosis_recorded 6 0 s)) =
+    cleared_fits l p (diagnosis_recorded 6 0 s) (diagnosed_fit p 6 0 s fit) in
+    started_up_fits p (startup_ob s.profile (code_of p)) (restart_cleared (diagnosis_recorded 6 0 s))
     (ob_fits s.profile l p (memory_after_restart s.world.memory) 27 100 startup_info verifies next.memory)
     (ob_is s.profile (code_of p) 27 100 startup_info)
     (stop_idle s.mode s.activations stop fit.standing.stack) next
@@ -635,8 +635,8 @@ monitored_fits p s monitored fit = record {
 }
 
 asked_fits : (l : MachineLaws) (p : Program) (request : Request) (s : State) → Verifies p
-    → IsFit p s → IsFit p (asked (code_of p) request s)
-unfolding asked
+    → IsFit p s → IsFit p (request_effect (code_of p) request s)
+unfolding request_effect
 asked_fits l p (ask.ReadVars vars) s verifies fit = fit
 asked_fits l p (ask.WriteVar var value) s verifies fit =
     moved_memory l p s _
@@ -647,7 +647,7 @@ asked_fits l p ask.Stop s verifies fit =
 asked_fits l p ask.Restart s verifies fit = by (is_stop s.mode) refl
   where
     by : (test : Bool) → is_stop s.mode ≡ test
-        → IsFit p (if test then restarted (code_of p) s else s)
+        → IsFit p (if test then warm_restarted (code_of p) s else s)
     by true is = restart_fits l p s verifies is fit
     by false is = fit
 asked_fits l p (ask.MonitorOn block) s verifies fit =
@@ -658,7 +658,7 @@ asked_fits l p ask.Diag s verifies fit = fit
 
 -- ---- an entry
 
-counted_fits : (p : Program) (s : State) → IsFit p s → IsFit p (counted s)
+counted_fits : (p : Program) (s : State) → IsFit p s → IsFit p (entry_counted s)
 counted_fits p s fit = record {
   memory = fit.memory;
   activations = fit.activations;
@@ -667,9 +667,9 @@ counted_fits p s fit = record {
 }
 
 effect_fits : (l : MachineLaws) (p : Program) (e : What) (s : State) → Verifies p → IsInRange e
-    → IsFit p s → IsFit p (effect (code_of p) e s)
+    → IsFit p s → IsFit p (entry_effect (code_of p) e s)
 effect_fits l p what.Step s verifies range fit =
-    unless_stop p s (stepped (code_of p) s) fit (λ running. step_fits l p s verifies running fit)
+    unless_stop p s (after_step (code_of p) s) fit (λ running. step_fits l p s verifies running fit)
 effect_fits l p (what.Input byte value) s verifies range fit =
     moved_memory l p s _
     (input_fits l s.world.memory byte value (with_input s.world.memory byte value) refl) fit
@@ -706,8 +706,8 @@ best_fits l p (Some best) s verifies running is fit =
     by false may = fit
 
 settled_fits : (l : MachineLaws) (p : Program) (s : State) → Verifies p → IsFit p s
-    → IsFit p (settled (code_of p) s)
-unfolding settled
+    → IsFit p (after_settling (code_of p) s)
+unfolding after_settling
 settled_fits l p s verifies fit =
     unless_stop p s (best_started (code_of p) (best_of s.mode s.sched.pending) s) fit
     (λ running. best_fits l p (best_of s.mode s.sched.pending) s verifies running refl fit)
@@ -716,8 +716,8 @@ after_fits : (l : MachineLaws) (p : Program) (s : State) (e : What) → Verifies
     → IsFit p s → IsFit p (state_after (code_of p) e s)
 unfolding state_after
 after_fits l p s e verifies range fit =
-    settled_fits l p (effect (code_of p) e (counted s)) verifies
-    (effect_fits l p e (counted s) verifies range (counted_fits p s fit))
+    settled_fits l p (entry_effect (code_of p) e (entry_counted s)) verifies
+    (effect_fits l p e (entry_counted s) verifies range (counted_fits p s fit))
 
 -- ---- the first start
 

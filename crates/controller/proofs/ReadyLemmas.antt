@@ -13,7 +13,7 @@ use Rattle.machine.specs.Flat.{code_of, statement_at, run_at, most_ops, Run, fet
 use Rattle.machine.specs.Statement.{World, IsNotStuck, step_found, statement}
 use Rattle.controller.specs.Ready.{HasStatement, CanGo}
 use Rattle.controller.specs.Start.{world_at_rest}
-use Rattle.controller.specs.Stopping.{spot_at}
+use Rattle.controller.specs.Stopping.{statement_spot}
 
 fetched_there : (code : Code) (f : Option Fetched) (a : Activation) (w : World)
     → IsNotStuck (step_found code f a w) → IsSome f
@@ -57,7 +57,7 @@ block_spot block at (Some b) there =
 
 pub spot_read : (p : Program) (block : BlockId) (at : ℕ) → HasStatement (code_of p) block at
     → option_map (λ n. record { block = block; line = n }) (line_of block at p.code_blocks)
-    ≡ spot_at (code_of p) block at
+    ≡ statement_spot (code_of p) block at
 unfolding HasStatement
 spot_read p block at there = block_spot block at (block_of block p.code_blocks) there
 

@@ -23,7 +23,7 @@ use Rattle.machine.specs.Returning.{Return, GoesOn, Ends, left, given_back, retu
 use Rattle.machine.specs.Statement.{World, Step, Went, Ended, SyncError, SysCall, Stop, Stuck, continue_with, after_call, callee_of, block_called, after_system_call, system_called, called, is_called, not_called, after_return, returned, is_ended, step_of, step_found, statement}
 use Rattle.machine.specs.SystemCalls.{Given, system_function, system_call}
 use Rattle.machine.specs.Jumps.{rlo_tested}
-use Rattle.controller.specs.Beginning.{told_from}
+use Rattle.controller.specs.Beginning.{with_start_bytes}
 
 abbrev pub Same : (a b : Activation) → Type 0
 Same a b = (b.class ≡ a.class) × (b.ob ≡ a.ob)
@@ -170,14 +170,14 @@ local_same None a = (refl, refl)
 local_same (Some locals) a = (refl, refl)
 
 pub told_class : (bytes : List ℕ) (byte : ℕ) (a : Activation)
-    → (told_from byte bytes a).class ≡ a.class
+    → (with_start_bytes byte bytes a).class ≡ a.class
 told_class [] byte a = refl
 told_class (value ∷ rest) byte a =
     told_class rest (byte + 1) (unwrap_or (with_local_byte 0 byte value a) a)
     ∙ (local_same (local_byte_set a.running.locals 0 byte value) a).0
 
 pub told_ob : (bytes : List ℕ) (byte : ℕ) (a : Activation)
-    → (told_from byte bytes a).ob ≡ a.ob
+    → (with_start_bytes byte bytes a).ob ≡ a.ob
 told_ob [] byte a = refl
 told_ob (value ∷ rest) byte a =
     told_ob rest (byte + 1) (unwrap_or (with_local_byte 0 byte value a) a)

@@ -18,7 +18,7 @@ use Rattle.ob_sched.specs.declared.start_infos.StartInfo.{StartInfo}
 use Rattle.controller.specs.Beginning.{ob_begun, ob_block, ob_frame, ob_in}
 use Rattle.controller.specs.Errors.{is_synchronous}
 use Rattle.controller.specs.Settling.{may_start}
-use Rattle.controller.specs.Stack.{IsAbove, IsStarted, StandsOn, IsStack, RunsInStartup, IsStanding, MayBegin}
+use Rattle.controller.specs.Stack.{IsAbove, IsStarted, StandsOn, IsStack, RunsInStartup, IsActivationStack, MayBegin}
 use Rattle.controller.specs.Start.{started_up, startup_info, startup_ob}
 use Rattle.controller.specs.State.{State, is_stop}
 use Rattle.controller.proofs.SameLemmas.{told_class, told_ob}
@@ -48,7 +48,7 @@ stack_more mode class ob a below class_is ob_is stack may = (
 )
 
 pub room_to_begin : (mode : Mode) (class ob : ℕ) (below : List Activation)
-    → IsStanding mode below → MayBegin mode class ob below → length below < 48
+    → IsActivationStack mode below → MayBegin mode class ob below → length below < 48
 room_to_begin mode class ob below standing may =
     omega (
       arith,
@@ -57,8 +57,8 @@ room_to_begin mode class ob below standing may =
     )
 
 pub begun_stands : (mode : Mode) (class ob : ℕ) (a : Activation) (below : List Activation)
-    → a.class ≡ class → a.ob ≡ ob → IsStanding mode below → MayBegin mode class ob below
-    → IsStanding mode (a ∷ below)
+    → a.class ≡ class → a.ob ≡ ob → IsActivationStack mode below → MayBegin mode class ob below
+    → IsActivationStack mode (a ∷ below)
 begun_stands mode class ob a below class_is ob_is standing may = record {
   stack = stack_more mode class ob a below class_is ob_is standing.stack may;
   startup = not_empty mode a below;
@@ -82,7 +82,7 @@ above_27 ob class waits is above = grind (arith, nat_tests)
 
 started_above : (mode : Mode) (class ob : ℕ) (below : List Activation) → is_stop mode ≡ false
     → IsTrue (can_wait ob) → class ≡ priority_class_in mode ob → IsAbove class below
-    → IsStanding mode below → IsStarted mode class ob below
+    → IsActivationStack mode below → IsStarted mode class ob below
 started_above Run class ob below running waits is above standing =
     record { stands = waits; class_is = is; above = above }
 started_above Startup class ob [] running waits is above standing = absurd standing.startup
@@ -102,7 +102,7 @@ above_running class (a ∷ below) may = grind (arith, nat_tests)
 
 pub best_may_begin : (mode : Mode) (class ob : ℕ) (activations : List Activation)
     → is_stop mode ≡ false → IsTrue (can_wait ob) → class ≡ priority_class_in mode ob
-    → may_start class activations ≡ true → IsStanding mode activations
+    → may_start class activations ≡ true → IsActivationStack mode activations
     → MayBegin mode class ob activations
 best_may_begin mode class ob activations running waits is may standing = (
   no_synchronous ob waits,
@@ -111,7 +111,7 @@ best_may_begin mode class ob activations running waits is may standing = (
 )
 
 pub cycle_may_begin : (mode : Mode) (activations : List Activation) → activations ≡ []
-    → is_stop mode ≡ false → IsStanding mode activations
+    → is_stop mode ≡ false → IsActivationStack mode activations
     → MayBegin mode (priority_class_in mode 1) 1 activations
 cycle_may_begin mode activations idle running standing = (
   refl,
@@ -137,7 +137,7 @@ error_stack mode error fresh a below class_is ob_is single stack = (
 )
 
 pub room_for_error : (mode : Mode) (a : Activation) (below : List Activation)
-    → is_synchronous a.ob ≡ false → IsStanding mode (a ∷ below) → length (a ∷ below) < 48
+    → is_synchronous a.ob ≡ false → IsActivationStack mode (a ∷ below) → length (a ∷ below) < 48
 room_for_error mode a below single standing =
     omega (
       arith,
@@ -147,7 +147,7 @@ room_for_error mode a below single standing =
 
 pub error_stands : (mode : Mode) (error : ℕ) (fresh a : Activation) (below : List Activation)
     → fresh.class ≡ a.class → fresh.ob ≡ ob_of_error error → is_synchronous a.ob ≡ false
-    → IsStanding mode (a ∷ below) → IsStanding mode (fresh ∷ a ∷ below)
+    → IsActivationStack mode (a ∷ below) → IsActivationStack mode (fresh ∷ a ∷ below)
 error_stands mode error fresh a below class_is ob_is single standing = record {
   stack = error_stack mode error fresh a below class_is ob_is single standing.stack;
   startup = not_empty mode fresh (a ∷ below);
@@ -180,7 +180,7 @@ stop_idle Startup (a ∷ below) is stack = absurd cc
 stop_idle (Stop cause at) (a ∷ below) is stack = absurd (no_stack cause at a below stack)
 
 -- in STARTUP OB 100 is the first one
-pub first_stands : (a : Activation) → a.class ≡ 27 → a.ob ≡ 100 → IsStanding Startup (a ∷ [])
+pub first_stands : (a : Activation) → a.class ≡ 27 → a.ob ≡ 100 → IsActivationStack Startup (a ∷ [])
 first_stands a class_is ob_is = record {
   stack =
       stack_more Startup 27 100 a [] class_is ob_is tt
@@ -190,17 +190,17 @@ first_stands a class_is ob_is = record {
 
 -- so after a start of which none stood before OB 100 stands, or none
 started_stands : (one : Option Activation) (s : State) → IsOf 27 100 one → s.activations ≡ []
-    → IsStanding (started_up one s).mode (started_up one s).activations
+    → IsActivationStack (started_up one s).mode (started_up one s).activations
 unfolding IsOf
 started_stands None s is idle =
-    subst (λ (acts : List Activation). IsStanding Run acts) (sym idle)
+    subst (λ (acts : List Activation). IsActivationStack Run acts) (sym idle)
     (record { stack = tt; startup = tt })
 started_stands (Some a) s is idle =
-    subst (λ (acts : List Activation). IsStanding Startup (a ∷ acts)) (sym idle)
+    subst (λ (acts : List Activation). IsActivationStack Startup (a ∷ acts)) (sym idle)
     (first_stands a is.0 is.1)
 
 pub start_stands : (profile : Profile) (code : Code) (s t : State) → s.activations ≡ []
-    → t ≡ started_up (startup_ob profile code) s → IsStanding t.mode t.activations
+    → t ≡ started_up (startup_ob profile code) s → IsActivationStack t.mode t.activations
 start_stands profile code s t idle is =
-    subst (λ (u : State). IsStanding u.mode u.activations) (sym is)
+    subst (λ (u : State). IsActivationStack u.mode u.activations) (sym is)
     (started_stands (startup_ob profile code) s (ob_is profile code 27 100 startup_info) idle)

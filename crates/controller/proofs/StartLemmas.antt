@@ -20,7 +20,7 @@ use Rattle.image_file.specs.Readers.{data_id, ids_of}
 use Rattle.image_file.proofs.ImageLemmas.{good_block_of, good_records, head_kind}
 use Rattle.plc_mem.specs.Blocks as owned
 use Rattle.machine.specs.Flat.{numbered_bytes}
-use Rattle.controller.specs.Starting.{is_data_block, numbers_in, read_block, numbers_of}
+use Rattle.controller.specs.Starting.{is_data_block_id, data_block_numbers_in, read_block, data_block_numbers}
 
 -- ---- numbers rise
 
@@ -66,13 +66,13 @@ kind_right kinds.Db h = absurd cc
 kind_right kinds.Sfc h = refl
 kind_right kinds.Udt h = refl
 
-block_kind : (s : ℕ × ℕ) (b : CodeBlock) → (code_block true s).good (record_of_block b) ≡ true → is_data_block b.id ≡ false
+block_kind : (s : ℕ × ℕ) (b : CodeBlock) → (code_block true s).good (record_of_block b) ≡ true → is_data_block_id b.id ≡ false
 block_kind s b good =
     kind_right b.id.kind (head_kind s (parts_of_block (record_of_block b)).head (good_block_of true s (record_of_block b) good).head_good)
 
 abbrev AreCode : List CodeBlock → Type 0
 AreCode [] = Unit {0}
-AreCode (b ∷ bs) = (is_data_block b.id ≡ false) × AreCode bs
+AreCode (b ∷ bs) = (is_data_block_id b.id ≡ false) × AreCode bs
 
 blocks_kind : (s : ℕ × ℕ) (n : ℕ) (bs : List CodeBlock) → good_many (code_block true) after_block s n (map record_of_block bs) ≡ true → AreCode bs
 blocks_kind s n [] h = tt
@@ -92,15 +92,15 @@ are_code p h = codes_are _ p.code_blocks (good_records true (records_of p) h.rig
 
 -- ---- the numbers among all blocks
 
-past_code : (bs : List CodeBlock) (ids : List BlockId) → AreCode bs → numbers_in (map (λ (b : CodeBlock). b.id) bs ++ ids) ≡ numbers_in ids
+past_code : (bs : List CodeBlock) (ids : List BlockId) → AreCode bs → data_block_numbers_in (map (λ (b : CodeBlock). b.id) bs ++ ids) ≡ data_block_numbers_in ids
 past_code [] ids are = refl
 past_code (b ∷ bs) ids are = rw are.0 (past_code bs ids are.1)
 
-of_data : (ds : List DataBlock) → numbers_in (map data_id ds) ≡ numbers_of (numbered_bytes ds)
+of_data : (ds : List DataBlock) → data_block_numbers_in (map data_id ds) ≡ data_block_numbers (numbered_bytes ds)
 of_data [] = refl
 of_data (d ∷ ds) = ap (λ (ns : List ℕ). d.number ∷ ns) (of_data ds)
 
-pub numbers_among : (p : Program) → Verifies p → numbers_in (ids_of p) ≡ numbers_of (numbered_bytes p.data_blocks)
+pub numbers_among : (p : Program) → Verifies p → data_block_numbers_in (ids_of p) ≡ data_block_numbers (numbered_bytes p.data_blocks)
 numbers_among p h = past_code p.code_blocks (map data_id p.data_blocks) (are_code p h) ∙ of_data p.data_blocks
 
 -- ---- reading by numbers
@@ -109,7 +109,7 @@ other_number : (d n : ℕ) → d < n → nat_eq d n ≡ false
 other_number d n h = grind (arith, nat_tests)
 
 read_past : (d : DataBlock) (ds es : List DataBlock) (before : ℕ) → d.number ≤ before → Rise before es
-    → map (read_block (d ∷ ds)) (numbers_of (numbered_bytes es)) ≡ map (read_block ds) (numbers_of (numbered_bytes es))
+    → map (read_block (d ∷ ds)) (data_block_numbers (numbered_bytes es)) ≡ map (read_block ds) (data_block_numbers (numbered_bytes es))
 read_past d ds [] before h rise = refl
 read_past d ds (e ∷ es) before h rise =
     let apart : nat_eq d.number e.number ≡ false = other_number d.number e.number (omega (arith, h, rise.0)) in
@@ -118,48 +118,48 @@ read_past d ds (e ∷ es) before h rise =
 here : (n : ℕ) → nat_eq n n ≡ true
 here n = grind (arith, nat_tests)
 
-read_rising : (before : ℕ) (ds : List DataBlock) → Rise before ds → map (read_block ds) (numbers_of (numbered_bytes ds)) ≡ numbered_bytes ds
+read_rising : (before : ℕ) (ds : List DataBlock) → Rise before ds → map (read_block ds) (data_block_numbers (numbered_bytes ds)) ≡ numbered_bytes ds
 read_rising before [] rise = refl
 read_rising before (d ∷ ds) rise =
     rw (here d.number)
     (ap (λ (rest : List (ℕ × List ℕ)). (d.number, d.bytes) ∷ rest) (read_past d ds ds d.number (omega arith) rise.1 ∙ read_rising d.number ds rise.1))
 
-pub read_all : (p : Program) → Verifies p → map (read_block p.data_blocks) (numbers_of (numbered_bytes p.data_blocks)) ≡ numbered_bytes p.data_blocks
+pub read_all : (p : Program) → Verifies p → map (read_block p.data_blocks) (data_block_numbers (numbered_bytes p.data_blocks)) ≡ numbered_bytes p.data_blocks
 read_all p h = read_rising 0 p.data_blocks (numbers_rise p h)
 
 -- ---- they differ
 
-none_again : (n before : ℕ) (ds : List DataBlock) → n ≤ before → Rise before ds → AllByRecursion (λ m. nat_eq n m ≡ false) (numbers_of (numbered_bytes ds))
+none_again : (n before : ℕ) (ds : List DataBlock) → n ≤ before → Rise before ds → AllByRecursion (λ m. nat_eq n m ≡ false) (data_block_numbers (numbered_bytes ds))
 none_again n before [] h rise = tt
 none_again n before (d ∷ ds) h rise =
     (other_number n d.number (omega (arith, h, rise.0)), none_again n d.number ds (omega (arith, h, rise.0)) rise.1)
 
-distinct_from : (before : ℕ) (ds : List DataBlock) → Rise before ds → IsDistinct nat_eq (numbers_of (numbered_bytes ds))
+distinct_from : (before : ℕ) (ds : List DataBlock) → Rise before ds → IsDistinct nat_eq (data_block_numbers (numbered_bytes ds))
 unfolding IsDistinct
 distinct_from before [] rise = tt
 distinct_from before (d ∷ ds) rise = (none_again d.number d.number ds (omega arith) rise.1, distinct_from d.number ds rise.1)
 
-pub numbers_differ : (p : Program) → Verifies p → IsDistinct nat_eq (numbers_of (numbered_bytes p.data_blocks))
+pub numbers_differ : (p : Program) → Verifies p → IsDistinct nat_eq (data_block_numbers (numbered_bytes p.data_blocks))
 numbers_differ p h = distinct_from 0 p.data_blocks (numbers_rise p h)
 
 -- ---- the blocks that were copied
 
-owned_numbers : (blocks : List (ℕ × Vec ℕ Global)) → numbers_of (owned.bytes_by_number blocks) ≡ owned.block_numbers blocks
+owned_numbers : (blocks : List (ℕ × Vec ℕ Global)) → data_block_numbers (owned.bytes_by_number blocks) ≡ owned.block_numbers blocks
 owned_numbers [] = refl
 owned_numbers (b ∷ bs) = ap (λ (ns : List ℕ). b.0 ∷ ns) (owned_numbers bs)
 
 -- what is read by these numbers is what the program has
 pub blocks_read : (p : Program) (numbers : List ℕ) (blocks : List (ℕ × Vec ℕ Global)) → Verifies p
-    → numbers ≡ numbers_of (numbered_bytes p.data_blocks)
+    → numbers ≡ data_block_numbers (numbered_bytes p.data_blocks)
     → owned.bytes_by_number blocks ≡ map (read_block p.data_blocks) numbers
     → owned.bytes_by_number blocks ≡ numbered_bytes p.data_blocks
 blocks_read p numbers blocks h are read =
     read ∙ ap (λ (ns : List ℕ). map (read_block p.data_blocks) ns) are ∙ read_all p h
 
 pub blocks_differ : (p : Program) (numbers : List ℕ) (blocks : List (ℕ × Vec ℕ Global)) → Verifies p
-    → numbers ≡ numbers_of (numbered_bytes p.data_blocks)
+    → numbers ≡ data_block_numbers (numbered_bytes p.data_blocks)
     → owned.bytes_by_number blocks ≡ map (read_block p.data_blocks) numbers
     → IsDistinct nat_eq (owned.block_numbers blocks)
 blocks_differ p numbers blocks h are read =
     let P : List ℕ → Type 0 = λ ns. IsDistinct nat_eq ns in
-    subst P (ap numbers_of (sym (blocks_read p numbers blocks h are read)) ∙ owned_numbers blocks) (numbers_differ p h)
+    subst P (ap data_block_numbers (sym (blocks_read p numbers blocks h are read)) ∙ owned_numbers blocks) (numbers_differ p h)

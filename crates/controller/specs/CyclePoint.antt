@@ -18,8 +18,8 @@ images_updated w = record w { memory = memory_refreshed w.memory }
 
 -- and the cycle counter and the mark of an exceeded cycle time are cleared; the next cycle isn't the
 -- first one any more
-abbrev pub cycle_passed : State → State
-cycle_passed s =
+abbrev pub cycle_finished : State → State
+cycle_finished s =
     record s {
       world = images_updated s.world;
       sched = cycle_begun s.sched;
@@ -33,4 +33,4 @@ cycle_info s = start_info (Cycle s.first_cycle) (priority_class_in s.mode 1)
 -- then OB 1 begins, if it is loaded
 unfoldable pub cycle_point : Code → State → State
 cycle_point code s =
-    begun_above (ob_in s.profile code (priority_class_in s.mode 1) 1 (cycle_info s)) (cycle_passed s)
+    begun_above (ob_in s.profile code (priority_class_in s.mode 1) 1 (cycle_info s)) (cycle_finished s)

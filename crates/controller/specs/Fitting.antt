@@ -17,7 +17,7 @@ use Rattle.var_access.specs.declared.What.{What}
 use Rattle.var_access.specs.Entry.{IsInRange}
 use Rattle.controller.specs.Ready.{IsReady}
 use Rattle.controller.specs.Replay.{happens, replay}
-use Rattle.controller.specs.Stack.{IsStanding}
+use Rattle.controller.specs.Stack.{IsActivationStack}
 use Rattle.controller.specs.Start.{start}
 use Rattle.controller.specs.State.{State}
 
@@ -38,7 +38,7 @@ pub record IsSchedule (s : Scheduler) : Type 0 where
 pub record IsFit (p : Program) (s : State) : Type 0 where
   pub memory : IsMemoryOf (code_of p) s.world.memory
   pub activations : AllFit p s.world.memory s.activations
-  pub standing : IsStanding s.mode s.activations
+  pub standing : IsActivationStack s.mode s.activations
   pub sched : IsSchedule s.sched
 
 -- what each entry of a history does is in the ranges; its worker isn't asked for

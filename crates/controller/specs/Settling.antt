@@ -32,6 +32,6 @@ best_started code (Some best) s =
 
 -- settling: the best request, with its class in the operating mode, is started where it may; none
 -- is in STOP
-unfoldable pub settled : Code → State → State
-settled code s =
+unfoldable pub after_settling : Code → State → State
+after_settling code s =
     if is_stop s.mode then s else best_started code (best_of s.mode s.sched.pending) s

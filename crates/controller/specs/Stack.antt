@@ -51,7 +51,7 @@ RunsInStartup Startup [] = ⊥
 RunsInStartup mode activations = Unit {0}
 
 -- the activations that stand at once: each on those below it, and in STARTUP at least one
-pub record IsStanding (mode : Mode) (activations : List Activation) : Type 0 where
+pub record IsActivationStack (mode : Mode) (activations : List Activation) : Type 0 where
   pub stack : IsStack mode activations
   pub startup : RunsInStartup mode activations
 

@@ -16,7 +16,7 @@ use Rattle.ob_sched.specs.StartInformation.{start_info}
 use Rattle.ob_sched.specs.declared.start_infos.StartInfo.{StartInfo}
 use Rattle.ob_sched.specs.declared.start_infos.StartEvent.TheVariants.{Startup as OfStartup}
 use Rattle.controller.specs.Beginning.{ob_block, ob_in, begun_above}
-use Rattle.controller.specs.State.{State, diagnosed}
+use Rattle.controller.specs.State.{State, diagnosis_recorded}
 use Rattle.controller.specs.Stepping.{run_starts}
 
 -- the organization blocks that there are
@@ -80,8 +80,8 @@ world_cleared profile w = record w {
 
 -- disabling, the clock, the cycle counter and its mark are cleared too, and the first cycle is to
 -- come again; the monitored block and the records of diagnostics stay
-abbrev pub cleared : State → State
-cleared s =
+abbrev pub restart_cleared : State → State
+restart_cleared s =
     record s {
       world = world_cleared s.profile s.world;
       sched = sched_restarted s.sched;
@@ -90,5 +90,5 @@ cleared s =
 
 -- a warm restart out of STOP, recorded by code 6: what isn't retained is cleared, and OB 100 or RUN
 -- begins
-unfoldable pub restarted : Code → State → State
-restarted code s = started_up (startup_ob s.profile code) (cleared (diagnosed 6 0 s))
+unfoldable pub warm_restarted : Code → State → State
+warm_restarted code s = started_up (startup_ob s.profile code) (restart_cleared (diagnosis_recorded 6 0 s))

@@ -32,8 +32,8 @@ is_stop Startup = false
 is_stop (Stop cause at) = true
 
 -- a record of a code and its detail is made by the entry that is the last so far
-abbrev pub diagnosed : (code info : ℕ) → State → State
-diagnosed code info s =
+abbrev pub diagnosis_recorded : (code info : ℕ) → State → State
+diagnosis_recorded code info s =
     record s {
       diagnostics = latest s.diagnostics (record { entry = s.entries; code = code; info = info });
     }
@@ -41,4 +41,4 @@ diagnosed code info s =
 -- records one after another
 abbrev pub each_diagnosed : List (ℕ × ℕ) → State → State
 each_diagnosed [] s = s
-each_diagnosed (one ∷ rest) s = each_diagnosed rest (diagnosed one.0 one.1 s)
+each_diagnosed (one ∷ rest) s = each_diagnosed rest (diagnosis_recorded one.0 one.1 s)
