@@ -7,7 +7,7 @@ use Rattle.plc_base.specs.declared.Spot.{Spot}
 use Rattle.frames.specs.declared.Activation.{Activation}
 use Rattle.flat_code.specs.Placed.{line_placed}
 use Rattle.flat_code.specs.Programs.{CodeBlock, Program}
-use Rattle.image_file.specs.Readers.{block_of, line_of}
+use Rattle.image_file.specs.Readers.{block_by_id, line_at_offset}
 use Rattle.machine.specs.Code.{Code, Fetched}
 use Rattle.machine.specs.Flat.{code_of, statement_at, run_at, most_ops, Run, fetched_of}
 use Rattle.machine.specs.Statement.{World, IsNotStuck, step_found, statement}
@@ -56,10 +56,10 @@ block_spot block at (Some b) there =
     line_spot b block at (line_placed 0 true b.code b.lines at) there
 
 pub spot_read : (p : Program) (block : BlockId) (at : ℕ) → HasStatement (code_of p) block at
-    → option_map (λ n. record { block = block; line = n }) (line_of block at p.code_blocks)
+    → option_map (λ n. record { block = block; line = n }) (line_at_offset block at p.code_blocks)
     ≡ statement_spot (code_of p) block at
 unfolding HasStatement
-spot_read p block at there = block_spot block at (block_of block p.code_blocks) there
+spot_read p block at there = block_spot block at (block_by_id block p.code_blocks) there
 
 -- the same where the activation can go
 pub can_go_there : (code : Code) (a : Activation) → CanGo code a

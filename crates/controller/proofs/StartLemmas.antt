@@ -16,7 +16,7 @@ use Rattle.flat_code.specs.Layout.{chain, good_many, is_fine}
 use Rattle.flat_code.specs.Loading.{Verifies}
 use Rattle.flat_code.specs.Programs.{CodeBlock, DataBlock, Program}
 use Rattle.flat_code.proofs.PartLemmas.{chain_parts, unless_fine}
-use Rattle.image_file.specs.Readers.{data_id, ids_of}
+use Rattle.image_file.specs.Readers.{data_block_id, block_ids}
 use Rattle.image_file.proofs.ImageLemmas.{good_block_of, good_records, head_kind}
 use Rattle.plc_mem.specs.Blocks as owned
 use Rattle.machine.specs.Flat.{numbered_bytes}
@@ -96,12 +96,12 @@ past_code : (bs : List CodeBlock) (ids : List BlockId) → AreCode bs → data_b
 past_code [] ids are = refl
 past_code (b ∷ bs) ids are = rw are.0 (past_code bs ids are.1)
 
-of_data : (ds : List DataBlock) → data_block_numbers_in (map data_id ds) ≡ data_block_numbers (numbered_bytes ds)
+of_data : (ds : List DataBlock) → data_block_numbers_in (map data_block_id ds) ≡ data_block_numbers (numbered_bytes ds)
 of_data [] = refl
 of_data (d ∷ ds) = ap (λ (ns : List ℕ). d.number ∷ ns) (of_data ds)
 
-pub numbers_among : (p : Program) → Verifies p → data_block_numbers_in (ids_of p) ≡ data_block_numbers (numbered_bytes p.data_blocks)
-numbers_among p h = past_code p.code_blocks (map data_id p.data_blocks) (are_code p h) ∙ of_data p.data_blocks
+pub numbers_among : (p : Program) → Verifies p → data_block_numbers_in (block_ids p) ≡ data_block_numbers (numbered_bytes p.data_blocks)
+numbers_among p h = past_code p.code_blocks (map data_block_id p.data_blocks) (are_code p h) ∙ of_data p.data_blocks
 
 -- ---- reading by numbers
 

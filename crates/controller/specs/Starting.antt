@@ -3,7 +3,7 @@ use Rattle.std.specs.Prelude.{ℕ, Bool, List, [], map, filter, unwrap_or}
 use Rattle.plc_base.specs.Kinds as of_kind
 use Rattle.plc_base.specs.declared.BlockId.{BlockId}
 use Rattle.flat_code.specs.Programs.{DataBlock}
-use Rattle.image_file.specs.Readers.{bytes_of}
+use Rattle.image_file.specs.Readers.{data_bytes_of}
 
 -- a block is a data block
 abbrev pub is_data_block_id : BlockId → Bool
@@ -15,7 +15,7 @@ data_block_numbers_in ids = map (λ (id : BlockId). id.number) (filter is_data_b
 
 -- the number of a data block with its bytes, or with no bytes where there is no such block
 abbrev pub read_block : List DataBlock → (number : ℕ) → ℕ × List ℕ
-read_block blocks number = (number, unwrap_or (bytes_of number blocks) [])
+read_block blocks number = (number, unwrap_or (data_bytes_of number blocks) [])
 
 -- the numbers of data blocks
 abbrev pub data_block_numbers : List (ℕ × List ℕ) → List ℕ

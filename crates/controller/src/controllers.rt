@@ -3,7 +3,7 @@ ghost use Rattle.std.specs.Prelude.{◌≡◌, ◌+◌, ◌-◌, ◌^◌, ◌<�
 ghost use Rattle.std.specs.Option.{option_copied, option_map};
 ghost use Rattle.std.specs.FinMap as finmap;
 ghost use Rattle.plc_mem.specs.Places.{IsMemory};
-ghost use Rattle.image_file.specs.Readers.{bytes_of};
+ghost use Rattle.image_file.specs.Readers.{data_bytes_of};
 ghost use Rattle.machine.specs.Flat.{code_of};
 ghost use Rattle.var_access.specs.Entry.{IsRequest, IsValid};
 ghost use Rattle.var_access.specs.Runs.{AreRuns, written_out};
@@ -241,7 +241,7 @@ impl Controller {
     pub fn db_bytes(&self, number: u16) -> Option<&[u8]>
         ensures value { option_copied result
             ≡ finmap.get (final_state self.now).world.memory.data_blocks number }
-        ensures loaded { is_some result ≡ is_some (bytes_of number self.now.program.data_blocks) }
+        ensures loaded { is_some result ≡ is_some (data_bytes_of number self.now.program.data_blocks) }
     {
         self.cpu.db_bytes(number)
     }

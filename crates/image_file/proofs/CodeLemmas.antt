@@ -7,7 +7,7 @@ use Rattle.flat_code.proofs.CodingLemmas.{IsBytes, Takes}
 use Rattle.flat_code.proofs.OpLemmas.{op_again, op_takes, long_enough}
 use Rattle.flat_code.specs.Layout.{Cursor, Read, ended, given}
 use Rattle.flat_code.specs.Codes.{cons_op, ops_next, ops_from, ends, are_ops, code_bytes, only, overlong, first_of, stop_at, read_ops, read_code, is_nowhere, code_of, size, last_place}
-use Rattle.image_file.specs.Walking.{ops_behind_front, HasRead}
+use Rattle.image_file.specs.Walking.{ops_behind_front, HasReadOps}
 use Rattle.image_file.proofs.LayoutLemmas.{at_place, Finds, Spells, IsLaidOut, given_finds}
 
 -- ---- runs of ops
@@ -181,7 +181,7 @@ pub bytes-append : (a b : List OpData) → code_bytes (a ++ b) ≡ code_bytes a 
 bytes-append [] b = refl
 bytes-append (op ∷ a) b = ap (λ (z : List ℕ). op_bytes op ++ z) (bytes-append a b) ∙ sym (append_assoc (op_bytes op) (code_bytes a) (code_bytes b))
 
-pub read_starts : (code : List ℕ) → HasRead code [] 0 0 false 0
+pub read_starts : (code : List ℕ) → HasReadOps code [] 0 0 false 0
 read_starts code = record { within = omega arith; all = refl; size = refl; last = refl; ended = refl; few = refl }
 
 -- the ops from a place on begin with the op there
@@ -198,7 +198,7 @@ abbrev count_after : OpData → ℕ → ℕ
 count_after op count = cond op.last 0 (suc count)
 
 pub read_goes : (code : List ℕ) (ops : List OpData) (at next last count after : ℕ) (ended end : Bool) (op : OpData) → IsBytes code → op_at (drop at code) ≡ Some (op, drop next code) → at < next → next ≤ length code
-    → eqb count 64 ≡ false → after ≡ count_after op count → end ≡ (eqb op.code 0x7B && op.last) → HasRead code ops at last ended count → HasRead code (ops ++ op ∷ []) next at end after
+    → eqb count 64 ≡ false → after ≡ count_after op count → end ≡ (eqb op.code 0x7B && op.last) → HasReadOps code ops at last ended count → HasReadOps code (ops ++ op ∷ []) next at end after
 unfolding size
 read_goes code ops at next last count after ended end op are found lt within not64 counted is_end h =
     let t = op_takes (drop at code) op (drop next code) (bytes_dropped at code are) found in
@@ -222,7 +222,7 @@ stop_overlong ops (b ∷ left) at e = ap (λ (o : Option ℕ). first_of o (Some 
 
 -- the 65th op of a statement
 pub read_65th : (code : List ℕ) (ops : List OpData) (at next last count : ℕ) (ended : Bool) (op : OpData) → IsBytes code → op_at (drop at code) ≡ Some (op, drop next code) → at < next → next ≤ length code
-    → eqb count 64 ≡ true → HasRead code ops at last ended count → stop_at true (ops_from (length code) code).0 (ops_from (length code) code).1 ≡ Some at
+    → eqb count 64 ≡ true → HasReadOps code ops at last ended count → stop_at true (ops_from (length code) code).0 (ops_from (length code) code).1 ≡ Some at
 read_65th code ops at next last count ended op are found lt within is64 h =
     let there = ops_there (length code) code at next op refl are found lt within in
     let here : overlong count at (ops_from (length code) (drop at code)).0 ≡ Some at = ap (λ (r : List OpData × List ℕ). overlong count at r.0) there ∙ rw is64 refl in
@@ -238,7 +238,7 @@ record Ended (code : List ℕ) (ops : List OpData) (at : ℕ) : Type 0 where
   left_is : drop at code ≡ (ops_from (length code) code).1
   few : overlong 0 0 ops ≡ None
 
-read_ended : (code : List ℕ) (ops : List OpData) (at last count : ℕ) (ended : Bool) → op_at (drop at code) ≡ None → HasRead code ops at last ended count → Ended code ops at
+read_ended : (code : List ℕ) (ops : List OpData) (at last count : ℕ) (ended : Bool) → op_at (drop at code) ≡ None → HasReadOps code ops at last ended count → Ended code ops at
 read_ended code ops at last count ended none h =
     let p = ops_stop code ops at (ops_from (length code) code) none h.all in
     let nothing : (ops_from (length code) (drop at code)).0 ≡ [] = ap (λ (r : List OpData × List ℕ). r.0) (nothing_more (length code) (drop at code) none) in
@@ -252,7 +252,7 @@ stop_for : (code : List ℕ) (ops : List OpData) (at : ℕ) → Ended code ops a
 stop_for code ops at e = rw (← e.ops_are, ← e.left_is) refl
 
 -- bytes that begin no op
-pub read_bad : (code : List ℕ) (ops : List OpData) (at last count : ℕ) (ended : Bool) → op_at (drop at code) ≡ None → at < length code → HasRead code ops at last ended count → Stops code (Some at)
+pub read_bad : (code : List ℕ) (ops : List OpData) (at last count : ℕ) (ended : Bool) → op_at (drop at code) ≡ None → at < length code → HasReadOps code ops at last ended count → Stops code (Some at)
 read_bad code ops at last count ended none lt h =
     let e = read_ended code ops at last count ended none h in
     sym (stop_for code ops at e ∙ left_stop ops (drop at code) at at e.few h.size (omega (arith, length-drop at code)))
@@ -260,7 +260,7 @@ read_bad code ops at last count ended none lt h =
 none_left : (code : List ℕ) (at : ℕ) → length code ≤ at → drop at code ≡ []
 none_left code at le = nil_from_length (drop at code) (omega (arith, length-drop at code))
 
-whole_stop : (code : List ℕ) (ops : List OpData) (at last count : ℕ) (ended : Bool) → op_at (drop at code) ≡ None → length code ≤ at → HasRead code ops at last ended count → stop_at true (ops_from (length code) code).0 (ops_from (length code) code).1 ≡ cond ended None (Some last)
+whole_stop : (code : List ℕ) (ops : List OpData) (at last count : ℕ) (ended : Bool) → op_at (drop at code) ≡ None → length code ≤ at → HasReadOps code ops at last ended count → stop_at true (ops_from (length code) code).0 (ops_from (length code) code).1 ≡ cond ended None (Some last)
 whole_stop code ops at last count ended none le h =
     let e = read_ended code ops at last count ended none h in
     stop_for code ops at e ∙ ap (stop_at true ops) (none_left code at le)
@@ -268,9 +268,9 @@ whole_stop code ops at last count ended none le h =
     ∙ rw (← h.ended, ← h.last) refl
 
 -- code whose last op isn't BE with the end mark
-pub read_open : (code : List ℕ) (ops : List OpData) (at last count : ℕ) (ended : Bool) → op_at (drop at code) ≡ None → length code ≤ at → ended ≡ false → HasRead code ops at last ended count → Stops code (Some last)
+pub read_open : (code : List ℕ) (ops : List OpData) (at last count : ℕ) (ended : Bool) → op_at (drop at code) ≡ None → length code ≤ at → ended ≡ false → HasReadOps code ops at last ended count → Stops code (Some last)
 read_open code ops at last count ended none le open_is h = sym (whole_stop code ops at last count ended none le h ∙ rw open_is refl)
 
-pub read_whole : (code : List ℕ) (ops : List OpData) (at last count : ℕ) (ended : Bool) → op_at (drop at code) ≡ None → length code ≤ at → ended ≡ true → HasRead code ops at last ended count → Stops code None × (ops ≡ (ops_from (length code) code).0)
+pub read_whole : (code : List ℕ) (ops : List OpData) (at last count : ℕ) (ended : Bool) → op_at (drop at code) ≡ None → length code ≤ at → ended ≡ true → HasReadOps code ops at last ended count → Stops code None × (ops ≡ (ops_from (length code) code).0)
 read_whole code ops at last count ended none le ended_is h =
     (sym (whole_stop code ops at last count ended none le h ∙ rw ended_is refl), (read_ended code ops at last count ended none h).ops_are)

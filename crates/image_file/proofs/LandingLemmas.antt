@@ -12,7 +12,7 @@ use Rattle.flat_code.specs.Placed.{Placed, placed, places, is_empty, bracket_cod
 use Rattle.flat_code.specs.Kinds.{kind_of}
 use Rattle.flat_code.specs.declared.kinds.JumpOperation.TheVariants as jump
 use Rattle.flat_code.specs.Blocks.{same_codes, are_other, target_fault, is_bad_list, operand_fault, leads}
-use Rattle.image_file.specs.Verified.{place_at, IsOp, Lands}
+use Rattle.image_file.specs.Verified.{placed_at, IsVerifiedOp, Lands}
 use Rattle.image_file.proofs.VerifiedLemmas.{chosen, none_if, empty_next, op_long, place_offset, op_none, around_in, brackets_right}
 
 spot_none : (from : ℕ) (begin : Bool) (brackets : List OpenBracket) (zones : List ℕ) (ops : List OpData) (at : ℕ) → at < from → spot_at (spots_from from begin brackets zones ops) at ≡ None
@@ -38,7 +38,7 @@ spot_past from begin brackets zones ops at s found = by (cases_lt at from)
 -- a statement of a block as the op that begins it
 record IsSpot (qs : List Placed) (at : ℕ) (s : Spot) : Type 0 where
   there : Placed
-  place : place_at at qs ≡ Some there
+  place : placed_at at qs ≡ Some there
   first : is_empty there.before ≡ true
   codes_are : few there.brackets ≡ s.codes
   zones_are : length there.zones ≡ s.zones
@@ -120,13 +120,13 @@ record IsRightJump (p : Program) (b : CodeBlock) (q : Placed) (kind target : ℕ
   list : is_bad_list q kind target ≡ false
   target_is : target_fault (few q.brackets) (length q.zones) (spot_at (spots b.code) target) ≡ None
 
-right_jump : (p : Program) (b : CodeBlock) (q : Placed) (kind target : ℕ) → IsOp p b q → q.op.operand ≡ operand.Jump kind target → IsRightJump p b q kind target
+right_jump : (p : Program) (b : CodeBlock) (q : Placed) (kind target : ℕ) → IsVerifiedOp p b q → q.op.operand ≡ operand.Jump kind target → IsRightJump p b q kind target
 right_jump p b q kind target h is =
     let none = subst (λ (z : Operand). operand_fault (around_in p b) (spots b.code) q z ≡ None) is (op_none p b q h).operand in
     let parts = none_if (is_bad_list q kind target) 6 (target_fault (few q.brackets) (length q.zones) (spot_at (spots b.code) target)) none in
     record { list = parts.0; target_is = parts.1 }
 
-pub jump_lands : (p : Program) (b : CodeBlock) (q : Placed) (kind target : ℕ) → IsOp p b q → q.op.operand ≡ operand.Jump kind target → Lands b q target
+pub jump_lands : (p : Program) (b : CodeBlock) (q : Placed) (kind target : ℕ) → IsVerifiedOp p b q → q.op.operand ≡ operand.Jump kind target → Lands b q target
 jump_lands p b q kind target h is =
     let few_here : few q.brackets ≡ Some (bracket_codes q.brackets) = rw (le-leb (length q.brackets) most_brackets (brackets_right p b q h).few) refl in
     let t = has_target (bracket_codes q.brackets) (length q.zones) (spot_at (spots b.code) target) (ap (λ (z : Option (List ℕ)). target_fault z (length q.zones) (spot_at (spots b.code) target)) (sym few_here) ∙ (right_jump p b q kind target h is).target_is) in
@@ -140,5 +140,5 @@ jump_lands p b q kind target h is =
       same_zones = t.same_zones ∙ sym s.zones_are;
     }
 
-pub list_leads : (p : Program) (b : CodeBlock) (q : Placed) (target : ℕ) → IsOp p b q → q.op.operand ≡ operand.Jump (kind_of jump.Jl) target → leads 255 target (q.at + size q.op) q.rest ≡ true
+pub list_leads : (p : Program) (b : CodeBlock) (q : Placed) (target : ℕ) → IsVerifiedOp p b q → q.op.operand ≡ operand.Jump (kind_of jump.Jl) target → leads 255 target (q.at + size q.op) q.rest ≡ true
 list_leads p b q target h is = not-false (leads 255 target (q.at + size q.op) q.rest) (right_jump p b q (kind_of jump.Jl) target h is).list

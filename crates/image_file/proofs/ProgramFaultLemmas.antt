@@ -17,8 +17,8 @@ use Rattle.flat_code.specs.Records.{BlockRecord}
 use Rattle.flat_code.proofs.PartLemmas.{GoodBlock}
 use Rattle.image_file.specs.declared.faults.LoadFault.{LoadFault}
 use Rattle.image_file.specs.declared.faults.VerifyFault.{VerifyFault}
-use Rattle.image_file.specs.Least.{with_faults, IsLeast}
-use Rattle.image_file.specs.Verifying.{line_faults, count_faults, faults_unless, faults_of_block, are_whole, lens_where, lens_judged, DecidesFor, IsFirstOf, AreClean, IsClean}
+use Rattle.image_file.specs.Least.{with_faults, IsLeastFault}
+use Rattle.image_file.specs.Verifying.{line_faults, count_faults, faults_unless, faults_of_block, are_whole, lens_where, lens_checked, DecidesFor, IsFirstOf, AreClean, IsClean}
 use Rattle.image_file.proofs.CodeLemmas.{bytes-append, ends_at, last_of}
 use Rattle.image_file.proofs.ImageLemmas.{good_block_of, GoodRecords, good_records}
 use Rattle.image_file.proofs.LeastLemmas.{kept_is_least}
@@ -104,7 +104,7 @@ pub record Passed (lens : Lens) (all : List BlockRecord) (bs rest : List CodeBlo
   pub later : (f : VerifyFault) → IsFirstOf lens all rest f → IsFirstOf lens all bs f
   pub clean : AreClean lens all rest → AreClean lens all bs
 
-decides : (b : CodeBlock) (f : LoadFault) (fs : List (ℕ × ℕ)) (Later : Type 0) → IsLeast f fs → DecidesFor b.id (record { block = b.id; at = f.at; code = f.code }) fs Later
+decides : (b : CodeBlock) (f : LoadFault) (fs : List (ℕ × ℕ)) (Later : Type 0) → IsLeastFault f fs → DecidesFor b.id (record { block = b.id; at = f.at; code = f.code }) fs Later
 decides b f [] Later least = absurd least.one
 decides b f (g ∷ gs) Later least = (refl, least)
 
@@ -231,17 +231,17 @@ right_by p lens all q clean =
 
 right : (p : Program) → IsProgram p → IsClean p → IsRight p
 unfolding body records
-right p h clean = right_by p (lens_judged p) (map record_of_block p.code_blocks) (good_records false (records_of p) h.good) clean
+right p h clean = right_by p (lens_checked p) (map record_of_block p.code_blocks) (good_records false (records_of p) h.good) clean
 
 ops_verified : (lens : List (ℕ × ℕ)) (all : List BlockRecord) (bs : List CodeBlock) → AreClean (Some lens) all bs → AreVerified lens all (map record_of_block bs)
 ops_verified lens all [] h = tt
 ops_verified lens all (b ∷ bs) h = ((clean_parts (around (Some lens) all (record_of_block b)) (record_of_block b) h.0).ops, ops_verified lens all bs h.1)
 
-pub lens_are : (p : Program) → are_whole (map record_of_block p.code_blocks) ≡ true → lens_judged p ≡ Some (lens_of p.data_blocks)
+pub lens_are : (p : Program) → are_whole (map record_of_block p.code_blocks) ≡ true → lens_checked p ≡ Some (lens_of p.data_blocks)
 lens_are p e = ap (λ (z : Bool). lens_where z p.data_blocks) e
 
 pub clean_verifies : (p : Program) → IsProgram p → IsClean p → Verifies p
 clean_verifies p h clean =
     let all = map record_of_block p.code_blocks in
-    let lens = lens_are p (clean_whole (lens_judged p) all p.code_blocks clean) in
+    let lens = lens_are p (clean_whole (lens_checked p) all p.code_blocks clean) in
     record { right = right p h clean; blocks = ops_verified (lens_of p.data_blocks) all p.code_blocks (subst (λ (z : Lens). AreClean z all p.code_blocks) lens clean) }

@@ -20,8 +20,8 @@ use Rattle.flat_code.specs.Image.{plain_u16, zero_u16, parameter_count, block_nu
 use Rattle.flat_code.specs.declared.image_fields.OpenBracket.{OpenBracket}
 use Rattle.flat_code.specs.Placed.{Placed, placed, places, opened, zones_behind, before_next}
 use Rattle.flat_code.proofs.PartLemmas.{all_of_blocks, chain_parts, dword_fits, good_head, unless_fine, word_fits}
-use Rattle.image_file.specs.Verified.{place_at, Begins, BlockIsRight}
-use Rattle.image_file.specs.Readers.{same_id, block_of}
+use Rattle.image_file.specs.Verified.{placed_at, BlockBegins, BlockIsRight}
+use Rattle.image_file.specs.Readers.{is_same_id, block_by_id}
 use Rattle.image_file.specs.Tables.{AreSmall, slot_of, HaveSlots}
 use Rattle.image_file.proofs.ImageLemmas.{good_records, good_block_of, head_kind}
 
@@ -185,17 +185,17 @@ pub program_right : (p : Program) → IsRight p → AreRight p.code_blocks
 unfolding body
 program_right p h = let q = good_records true (records_of p) h in all_of_blocks true IsRightCode right_code (length (map record_of_block p.code_blocks)) p.code_blocks q.codes_good
 
-pub right_at : (bs : List CodeBlock) (b : CodeBlock) (id : BlockId) → AreRight bs → block_of id bs ≡ Some b → IsRightCode b
+pub right_at : (bs : List CodeBlock) (b : CodeBlock) (id : BlockId) → AreRight bs → block_by_id id bs ≡ Some b → IsRightCode b
 right_at [] b id h found = absurd cc
-right_at (c ∷ bs) b id h found = by (same_id c.id id) found (λ e. right_at bs b id h.1 e)
+right_at (c ∷ bs) b id h found = by (is_same_id c.id id) found (λ e. right_at bs b id h.1 e)
   where
-    by : (t : Bool) → cond t (Some c) (block_of id bs) ≡ Some b → (block_of id bs ≡ Some b → IsRightCode b) → IsRightCode b
+    by : (t : Bool) → cond t (Some c) (block_by_id id bs) ≡ Some b → (block_by_id id bs ≡ Some b → IsRightCode b) → IsRightCode b
     by true e more = subst IsRightCode (same_Some c b e) h.0
     by false e more = more e
 
 -- ---- the ops and the beginning of a block
 
-pub op_right : (from : ℕ) (brackets : List OpenBracket) (zones : List ℕ) (before ops : List OpData) (at : ℕ) (q : Placed) → are_ops ops ≡ true → place_at at (placed from brackets zones before ops) ≡ Some q → is_op q.op.code q.op.operand ≡ true
+pub op_right : (from : ℕ) (brackets : List OpenBracket) (zones : List ℕ) (before ops : List OpData) (at : ℕ) (q : Placed) → are_ops ops ≡ true → placed_at at (placed from brackets zones before ops) ≡ Some q → is_op q.op.code q.op.operand ≡ true
 op_right from brackets zones before [] at q right found = absurd cc
 op_right from brackets zones before (o ∷ ops) at q right found =
     let parts = and_parts (is_op o.code o.operand) (are_ops ops) right in
@@ -205,17 +205,17 @@ op_right from brackets zones before (o ∷ ops) at q right found =
     here = record { at = from; brackets = brackets; zones = zones; before = before; op = o; rest = ops }
 
     behind : Option Placed
-    behind = place_at at (placed (from + size o) (opened from o.code brackets) (zones_behind from o.code zones) (before_next o before) ops)
+    behind = placed_at at (placed (from + size o) (opened from o.code brackets) (zones_behind from o.code zones) (before_next o before) ops)
 
     by : (t : Bool) → cond t (Some here) behind ≡ Some q → is_op o.code o.operand ≡ true → (behind ≡ Some q → is_op q.op.code q.op.operand ≡ true) → is_op q.op.code q.op.operand ≡ true
     by true e is more = subst (λ (z : Placed). is_op z.op.code z.op.operand ≡ true) (same_Some here q e) is
     by false e is more = more e
 
-pub code_begins : (b : CodeBlock) (ops : List OpData) → b.code ≡ ops → ends ops ≡ true → Begins b
+pub code_begins : (b : CodeBlock) (ops : List OpData) → b.code ≡ ops → ends ops ≡ true → BlockBegins b
 code_begins b [] is ended = absurd cc
 code_begins b (o ∷ ops) is ended =
     let first : Placed = record { at = 0; brackets = []; zones = []; before = []; op = o; rest = ops } in
-    let there : place_at 0 (places b.code) ≡ Some first = rw is refl in
+    let there : placed_at 0 (places b.code) ≡ Some first = rw is refl in
     record { first = first; place = there; offset = refl; statement = refl; closed = refl; no_zones = refl }
 
 pub block_right : (b : CodeBlock) → IsRightCode b → BlockIsRight b

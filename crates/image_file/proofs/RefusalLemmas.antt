@@ -20,10 +20,10 @@ use Rattle.image_file.specs.declared.faults.VerifyFault.{VerifyFault}
 use Rattle.image_file.specs.declared.refusing.LoadError.{LoadError}
 use Rattle.image_file.specs.declared.refusing.LoadError.TheVariants as error
 use Rattle.image_file.specs.Images.{GivesBack, IsImageOf}
-use Rattle.image_file.specs.Least.{with_faults, IsUpTo, IsLeast}
+use Rattle.image_file.specs.Least.{with_faults, IsUpTo, IsLeastFault}
 use Rattle.image_file.specs.Loaded.{LoadedProgram}
-use Rattle.image_file.specs.Refusing.{IsRefusedBy}
-use Rattle.image_file.specs.Verifying.{line_faults, count_faults, faults_of_block, are_whole, lens_judged, DecidesFor, IsFirstOf, IsFaultOf, AreClean, IsClean}
+use Rattle.image_file.specs.Refusing.{IsLoadError}
+use Rattle.image_file.specs.Verifying.{line_faults, count_faults, faults_of_block, are_whole, lens_checked, DecidesFor, IsFirstOf, IsFaultOf, AreClean, IsClean}
 use Rattle.flat_code.proofs.PartLemmas.{all_of_blocks}
 use Rattle.image_file.proofs.CodeLemmas.{is_none}
 use Rattle.image_file.proofs.ImageLemmas.{good_block_of, good_records, image_one}
@@ -112,9 +112,9 @@ clean_never lens all (b ∷ bs) f clean h = decides_not b.id f (faults_of_block 
 
 never : (p : Program) → Verifies p → (f : VerifyFault) → IsFaultOf p f → ⊥
 unfolding IsFaultOf
-never p v f h = clean_never (lens_judged p) (map record_of_block p.code_blocks) p.code_blocks f (verified_clean p v) h
+never p v f h = clean_never (lens_checked p) (map record_of_block p.code_blocks) p.code_blocks f (verified_clean p v) h
 
-least_of : (g : ℕ × ℕ) (gs : List (ℕ × ℕ)) (o : Option LoadFault) → with_faults None (g ∷ gs) ≡ o → (f : LoadFault) × IsLeast f (g ∷ gs)
+least_of : (g : ℕ × ℕ) (gs : List (ℕ × ℕ)) (o : Option LoadFault) → with_faults None (g ∷ gs) ≡ o → (f : LoadFault) × IsLeastFault f (g ∷ gs)
 least_of g gs None e = absurd (let none = none_left (g ∷ gs) e in cc)
 least_of g gs (Some f) e = (f, kept_is_least (g ∷ gs) f e)
 
@@ -127,13 +127,13 @@ clean_or_not : (lens : Lens) (all : List BlockRecord) (bs : List CodeBlock) → 
 clean_or_not lens all [] = inl tt
 clean_or_not lens all (b ∷ bs) = decide b.id (faults_of_block (around lens all (record_of_block b)) (record_of_block b)) (AreClean lens all bs) (λ f. IsFirstOf lens all bs f) (clean_or_not lens all bs)
 
-either : (p : Program) → IsProgram p → AreClean (lens_judged p) (map record_of_block p.code_blocks) p.code_blocks ⊎ ((f : VerifyFault) × IsFirstOf (lens_judged p) (map record_of_block p.code_blocks) p.code_blocks f) → Verifies p ⊎ ((f : VerifyFault) × IsFaultOf p f)
+either : (p : Program) → IsProgram p → AreClean (lens_checked p) (map record_of_block p.code_blocks) p.code_blocks ⊎ ((f : VerifyFault) × IsFirstOf (lens_checked p) (map record_of_block p.code_blocks) p.code_blocks f) → Verifies p ⊎ ((f : VerifyFault) × IsFaultOf p f)
 unfolding IsFaultOf
 either p h (inl clean) = inl (clean_verifies p h clean)
 either p h (inr fault) = inr fault
 
 pub verified_or_not : (p : Program) → IsProgram p → (Verifies p ⊎ ((f : VerifyFault) × IsFaultOf p f)) × (Verifies p → (f : VerifyFault) → IsFaultOf p f → ⊥)
-verified_or_not p h = (either p h (clean_or_not (lens_judged p) (map record_of_block p.code_blocks) p.code_blocks), never p)
+verified_or_not p h = (either p h (clean_or_not (lens_checked p) (map record_of_block p.code_blocks) p.code_blocks), never p)
 
 -- ---- one fault at most
 
@@ -162,18 +162,18 @@ first_one lens all (c ∷ cs) f g a b =
 
 pub fault_is_one : (p : Program) (f g : VerifyFault) → IsFaultOf p f → IsFaultOf p g → f ≡ g
 unfolding IsFaultOf
-fault_is_one p f g a b = first_one (lens_judged p) (map record_of_block p.code_blocks) p.code_blocks f g a b
+fault_is_one p f g a b = first_one (lens_checked p) (map record_of_block p.code_blocks) p.code_blocks f g a b
 
 -- ---- what was written is loaded
 
 pub given_back : (stamp : Stamp) (p : Program) (bytes : List ℕ) (result : Result LoadedProgram LoadError) → ((i : ℕ) → get_or bytes i 0 < 256) → IsProgram p → bytes ≡ image stamp p
-    → IfOk result (λ l. IsImageOf bytes l) → IfErr result (λ e. IsRefusedBy e (faults_of bytes)) → GivesBack p stamp result
+    → IfOk result (λ l. IsImageOf bytes l) → IfErr result (λ e. IsLoadError e (faults_of bytes)) → GivesBack p stamp result
 given_back stamp p bytes (Ok l) are program spelled ok err =
     let found = gives_image bytes ok.stamp l.program are ok.given in
     let same = image_one stamp ok.stamp p l.program program found.program (sym spelled ∙ found.spelled) in
     (sym same.1, ok.profile ∙ ap profile_of (sym same.0))
 given_back stamp p bytes (Err (error.Fault f)) are program spelled ok err = (
-  (λ verifies. (subst (IsLeast f) (image_gives bytes stamp p are (record { spelled = spelled; program = program; verifies = verifies })).clean err).one),
-  subst (λ z. IsLeast f (faults_of z)) spelled err,
+  (λ verifies. (subst (IsLeastFault f) (image_gives bytes stamp p are (record { spelled = spelled; program = program; verifies = verifies })).clean err).one),
+  subst (λ z. IsLeastFault f (faults_of z)) spelled err,
 )
 given_back stamp p bytes (Err error.NoMemory) are program spelled ok err = tt

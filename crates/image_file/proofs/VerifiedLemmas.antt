@@ -16,8 +16,8 @@ use Rattle.flat_code.specs.Image.{record_of_block, end_marks}
 use Rattle.flat_code.specs.Loading.{AreVerified, lens_of, around}
 use Rattle.flat_code.specs.Placed.{Placed, placed, places, op_placed, line_placed, begins, is_empty, most_brackets, most_zones, Spot, spots, opens, inner, opened, zones_behind, open_behind, zones_left, before_next}
 use Rattle.flat_code.specs.Blocks.{Around, operand_fault, call_fault, mark_fault, bracket_fault, zone_fault, at_offset, op_faults, faults_over, open_faults, open_zone_faults, block_faults, prepares, seven_if}
-use Rattle.image_file.specs.Readers.{same_id, block_of}
-use Rattle.image_file.specs.Verified.{place_at, IsOp, Next, BracketsAreRight, ZonesAreRight, StatementIsRight, HasLine}
+use Rattle.image_file.specs.Readers.{is_same_id, block_by_id}
+use Rattle.image_file.specs.Verified.{placed_at, IsVerifiedOp, HasNext, BracketsAreRight, ZonesAreRight, StatementIsRight, HasLine}
 
 -- ---- no fault of a block is none of its ops
 
@@ -58,11 +58,11 @@ no_fault a ss start q none =
       zone = none_here at (zone_fault q.op.code q.zones) w.1;
     }
 
-each : (a : Around) (ss : List Spot) (start : ℕ) (rest : List Placed) (at : ℕ) (q : Placed) → faults_over a ss start rest ≡ [] → place_at at rest ≡ Some q → op_faults a ss start q ≡ []
+each : (a : Around) (ss : List Spot) (start : ℕ) (rest : List Placed) (at : ℕ) (q : Placed) → faults_over a ss start rest ≡ [] → placed_at at rest ≡ Some q → op_faults a ss start q ≡ []
 each a ss start [] at q none found = absurd cc
 each a ss start (p ∷ rest) at q none found =
     let n = nil_parts (op_faults a ss start p) (faults_over a ss start rest) none in
-    chosen (eqb p.at at) p (place_at at rest) q found (op_faults a ss start q ≡ [])
+    chosen (eqb p.at at) p (placed_at at rest) q found (op_faults a ss start q ≡ [])
     (λ t e. subst (λ (z : Placed). op_faults a ss start z ≡ []) e n.0)
     (λ f e. each a ss start rest at q n.1 e)
 
@@ -70,10 +70,10 @@ each a ss start (p ∷ rest) at q none found =
 abbrev pub around_in : Program → CodeBlock → Around
 around_in p b = around (Some (lens_of p.data_blocks)) (map record_of_block p.code_blocks) (record_of_block b)
 
-verified_at : (lens : List (ℕ × ℕ)) (all : List BlockRecord) (bs : List CodeBlock) (b : CodeBlock) (id : _) → AreVerified lens all (map record_of_block bs) → block_of id bs ≡ Some b → block_faults (around (Some lens) all (record_of_block b)) 0 b.code ≡ []
+verified_at : (lens : List (ℕ × ℕ)) (all : List BlockRecord) (bs : List CodeBlock) (b : CodeBlock) (id : _) → AreVerified lens all (map record_of_block bs) → block_by_id id bs ≡ Some b → block_faults (around (Some lens) all (record_of_block b)) 0 b.code ≡ []
 verified_at lens all [] b id h found = absurd cc
 verified_at lens all (c ∷ bs) b id h found =
-    chosen (same_id c.id id) c (block_of id bs) b found (block_faults (around (Some lens) all (record_of_block b)) 0 b.code ≡ [])
+    chosen (is_same_id c.id id) c (block_by_id id bs) b found (block_faults (around (Some lens) all (record_of_block b)) 0 b.code ≡ [])
     (λ t e. subst (λ (z : CodeBlock). block_faults (around (Some lens) all (record_of_block z)) 0 z.code ≡ []) e h.0)
     (λ f e. verified_at lens all bs b id h.1 e)
 
@@ -98,15 +98,15 @@ none_in a ops e =
     let n = nil_parts (faults_over a (spots ops) 0 (places ops)) (open_faults 0 (open_behind 0 [] ops)) m.0 in
     record { over = n.0; ends = none_open 0 (open_behind 0 [] ops) n.1; zones_end = no_zone_open 0 (zones_left 0 [] ops) m.1 }
 
-none_of : (p : Program) (b : CodeBlock) (q : Placed) → IsOp p b q → NoneIn (around_in p b) b.code
+none_of : (p : Program) (b : CodeBlock) (q : Placed) → IsVerifiedOp p b q → NoneIn (around_in p b) b.code
 none_of p b q h = none_in (around_in p b) b.code (verified_at (lens_of p.data_blocks) (map record_of_block p.code_blocks) p.code_blocks b h.id h.verifies.blocks h.block)
 
-pub op_none : (p : Program) (b : CodeBlock) (q : Placed) → IsOp p b q → NoFault (around_in p b) (spots b.code) q
+pub op_none : (p : Program) (b : CodeBlock) (q : Placed) → IsVerifiedOp p b q → NoFault (around_in p b) (spots b.code) q
 op_none p b q h = no_fault (around_in p b) (spots b.code) 0 q (each (around_in p b) (spots b.code) 0 (places b.code) q.at q (none_of p b q h).over h.place)
 
 -- ---- the readers' op is the one in its place
 
-pub read_at : (from : ℕ) (brackets : List OpenBracket) (zones : List ℕ) (before ops : List OpData) (at : ℕ) (op : OpData) (next : ℕ) → op_placed from ops at ≡ Some (op, next) → (q : Placed) × (place_at at (placed from brackets zones before ops) ≡ Some q) × (q.at ≡ at) × (q.op ≡ op) × (next ≡ at + size op)
+pub read_at : (from : ℕ) (brackets : List OpenBracket) (zones : List ℕ) (before ops : List OpData) (at : ℕ) (op : OpData) (next : ℕ) → op_placed from ops at ≡ Some (op, next) → (q : Placed) × (placed_at at (placed from brackets zones before ops) ≡ Some q) × (q.at ≡ at) × (q.op ≡ op) × (next ≡ at + size op)
 read_at from brackets zones before [] at op next e = absurd cc
 read_at from brackets zones before (o ∷ ops) at op next e = by (eqb from at) refl e (λ h. read_at (from + size o) (opened from o.code brackets) (zones_behind from o.code zones) (before_next o before) ops at op next h)
   where
@@ -114,8 +114,8 @@ read_at from brackets zones before (o ∷ ops) at op next e = by (eqb from at) r
     here = record { at = from; brackets = brackets; zones = zones; before = before; op = o; rest = ops }
 
     by : (b : Bool) → eqb from at ≡ b → cond b (Some (o, from + size o)) (op_placed (from + size o) ops at) ≡ Some (op, next)
-        → (op_placed (from + size o) ops at ≡ Some (op, next) → (q : Placed) × (place_at at (placed (from + size o) (opened from o.code brackets) (zones_behind from o.code zones) (before_next o before) ops) ≡ Some q) × (q.at ≡ at) × (q.op ≡ op) × (next ≡ at + size op))
-        → (q : Placed) × (cond b (Some here) (place_at at (placed (from + size o) (opened from o.code brackets) (zones_behind from o.code zones) (before_next o before) ops)) ≡ Some q) × (q.at ≡ at) × (q.op ≡ op) × (next ≡ at + size op)
+        → (op_placed (from + size o) ops at ≡ Some (op, next) → (q : Placed) × (placed_at at (placed (from + size o) (opened from o.code brackets) (zones_behind from o.code zones) (before_next o before) ops) ≡ Some q) × (q.at ≡ at) × (q.op ≡ op) × (next ≡ at + size op))
+        → (q : Placed) × (cond b (Some here) (placed_at at (placed (from + size o) (opened from o.code brackets) (zones_behind from o.code zones) (before_next o before) ops)) ≡ Some q) × (q.at ≡ at) × (q.op ≡ op) × (next ≡ at + size op)
     by true t f more =
         let s = same_Some (o, from + size o) (op, next) f in
         let same : o ≡ op = ap (λ (z : OpData × ℕ). z.0) s in
@@ -131,14 +131,14 @@ unfolding size op_bytes
 op_long op = omega arith
 
 -- no op of code begins before it
-not_before : (from : ℕ) (brackets : List OpenBracket) (zones : List ℕ) (before ops : List OpData) (at : ℕ) → at < from → place_at at (placed from brackets zones before ops) ≡ None
+not_before : (from : ℕ) (brackets : List OpenBracket) (zones : List ℕ) (before ops : List OpData) (at : ℕ) → at < from → placed_at at (placed from brackets zones before ops) ≡ None
 not_before from brackets zones before [] at lt = refl
 not_before from brackets zones before (op ∷ ops) at lt =
     let other : eqb from at ≡ false = ne_eqb from at (λ e. omega (arith, e, lt)) in
     let p = op_long op in
     rw other (not_before (from + size op) (opened from op.code brackets) (zones_behind from op.code zones) (before_next op before) ops at (omega (arith, lt, p)))
 
-place_is : (from : ℕ) (brackets : List OpenBracket) (zones : List ℕ) (before ops : List OpData) (at : ℕ) (q : Placed) → place_at at (placed from brackets zones before ops) ≡ Some q → from ≤ at
+place_is : (from : ℕ) (brackets : List OpenBracket) (zones : List ℕ) (before ops : List OpData) (at : ℕ) (q : Placed) → placed_at at (placed from brackets zones before ops) ≡ Some q → from ≤ at
 place_is from brackets zones before ops at q found = by (cases_lt at from)
   where
     by : (at < from) ⊎ (from ≤ at) → from ≤ at
@@ -148,16 +148,16 @@ place_is from brackets zones before ops at q found = by (cases_lt at from)
 -- behind an op stands the next one of its list
 abbrev pub NextIn : List Placed → Placed → List OpData → Type 0
 NextIn ps q [] = Unit {0}
-NextIn ps q (op ∷ ops) = place_at (q.at + size q.op) ps ≡ Some (record { at = q.at + size q.op; brackets = opened q.at q.op.code q.brackets; zones = zones_behind q.at q.op.code q.zones; before = before_next q.op q.before; op = op; rest = ops })
+NextIn ps q (op ∷ ops) = placed_at (q.at + size q.op) ps ≡ Some (record { at = q.at + size q.op; brackets = opened q.at q.op.code q.brackets; zones = zones_behind q.at q.op.code q.zones; before = before_next q.op q.before; op = op; rest = ops })
 
-pub place_offset : (qs : List Placed) (at : ℕ) (q : Placed) → place_at at qs ≡ Some q → q.at ≡ at
+pub place_offset : (qs : List Placed) (at : ℕ) (q : Placed) → placed_at at qs ≡ Some q → q.at ≡ at
 place_offset [] at q found = absurd cc
 place_offset (p ∷ qs) at q found =
-    chosen (eqb p.at at) p (place_at at qs) q found (q.at ≡ at)
+    chosen (eqb p.at at) p (placed_at at qs) q found (q.at ≡ at)
     (λ t e. sym (ap (λ (z : Placed). z.at) e) ∙ eqb-true p.at at t)
     (λ f e. place_offset qs at q e)
 
-next_in : (from : ℕ) (brackets : List OpenBracket) (zones : List ℕ) (before ops : List OpData) (at : ℕ) (q : Placed) → place_at at (placed from brackets zones before ops) ≡ Some q → NextIn (placed from brackets zones before ops) q q.rest
+next_in : (from : ℕ) (brackets : List OpenBracket) (zones : List ℕ) (before ops : List OpData) (at : ℕ) (q : Placed) → placed_at at (placed from brackets zones before ops) ≡ Some q → NextIn (placed from brackets zones before ops) q q.rest
 next_in from brackets zones before [] at q found = absurd cc
 next_in from brackets zones before (o ∷ ops) at q found =
     chosen (eqb from at) here behind q found (NextIn (placed from brackets zones before (o ∷ ops)) q q.rest)
@@ -168,7 +168,7 @@ next_in from brackets zones before (o ∷ ops) at q found =
     here = record { at = from; brackets = brackets; zones = zones; before = before; op = o; rest = ops }
 
     behind : Option Placed
-    behind = place_at at (placed (from + size o) (opened from o.code brackets) (zones_behind from o.code zones) (before_next o before) ops)
+    behind = placed_at at (placed (from + size o) (opened from o.code brackets) (zones_behind from o.code zones) (before_next o before) ops)
 
     first : (rest : List OpData) → NextIn (placed from brackets zones before (o ∷ rest)) (record { at = from; brackets = brackets; zones = zones; before = before; op = o; rest = rest }) rest
     first [] = tt
@@ -184,7 +184,7 @@ next_in from brackets zones before (o ∷ ops) at q found =
         let other : eqb from (q.at + size q.op) ≡ false = ne_eqb from (q.at + size q.op) (λ e. omega (arith, e, le, is, p)) in
         rw other h
 
-pub goes_on : (ops : List OpData) (q : Placed) → place_at q.at (places ops) ≡ Some q → NextIn (places ops) q q.rest
+pub goes_on : (ops : List OpData) (q : Placed) → placed_at q.at (places ops) ≡ Some q → NextIn (places ops) q q.rest
 goes_on ops q found = next_in 0 [] [] [] ops q.at q found
 
 -- ---- the last op
@@ -195,14 +195,14 @@ record Same (from : ℕ) (brackets : List OpenBracket) (zones : List ℕ) (ops :
   left_same : zones_left from zones ops ≡ zones_left (q.at + size q.op) (zones_behind q.at q.op.code q.zones) q.rest
   ends_same : ends ops ≡ ends (q.op ∷ q.rest)
 
-same_behind : (from : ℕ) (brackets : List OpenBracket) (zones : List ℕ) (before ops : List OpData) (at : ℕ) (q : Placed) → place_at at (placed from brackets zones before ops) ≡ Some q → Same from brackets zones ops q
+same_behind : (from : ℕ) (brackets : List OpenBracket) (zones : List ℕ) (before ops : List OpData) (at : ℕ) (q : Placed) → placed_at at (placed from brackets zones before ops) ≡ Some q → Same from brackets zones ops q
 same_behind from brackets zones before [] at q found = absurd cc
 same_behind from brackets zones before (o ∷ []) at q found =
     chosen (eqb from at) (record { at = from; brackets = brackets; zones = zones; before = before; op = o; rest = [] }) None q found (Same from brackets zones (o ∷ []) q)
     (λ t e. subst (λ (z : Placed). Same from brackets zones (o ∷ []) z) e (record { open_same = refl; left_same = refl; ends_same = refl }))
     (λ f e. absurd cc)
 same_behind from brackets zones before (o ∷ n ∷ ops) at q found =
-    chosen (eqb from at) (record { at = from; brackets = brackets; zones = zones; before = before; op = o; rest = n ∷ ops }) (place_at at (placed (from + size o) (opened from o.code brackets) (zones_behind from o.code zones) (before_next o before) (n ∷ ops))) q found (Same from brackets zones (o ∷ n ∷ ops) q)
+    chosen (eqb from at) (record { at = from; brackets = brackets; zones = zones; before = before; op = o; rest = n ∷ ops }) (placed_at at (placed (from + size o) (opened from o.code brackets) (zones_behind from o.code zones) (before_next o before) (n ∷ ops))) q found (Same from brackets zones (o ∷ n ∷ ops) q)
     (λ t e. subst (λ (z : Placed). Same from brackets zones (o ∷ n ∷ ops) z) e (record { open_same = refl; left_same = refl; ends_same = refl }))
     (λ f e. let more = same_behind (from + size o) (opened from o.code brackets) (zones_behind from o.code zones) (before_next o before) (n ∷ ops) at q e in record { open_same = more.open_same; left_same = more.left_same; ends_same = more.ends_same })
 
@@ -212,7 +212,7 @@ last_brackets at code brackets is none = rw is at none
 last_zones : (at code : ℕ) (zones : List ℕ) → code ≡ code_of (operation.End end.Be) → zones_behind at code zones ≡ [] → zones ≡ []
 last_zones at code zones is none = rw is at none
 
-pub next_of_op : (p : Program) (b : CodeBlock) (q : Placed) → ends b.code ≡ true → IsOp p b q → (rest : List OpData) → q.rest ≡ rest → Next b q rest
+pub next_of_op : (p : Program) (b : CodeBlock) (q : Placed) → ends b.code ≡ true → IsVerifiedOp p b q → (rest : List OpData) → q.rest ≡ rest → HasNext b q rest
 next_of_op p b q ended h [] is =
     let same = same_behind 0 [] [] [] b.code q.at q h.place in
     let last : ends (q.op ∷ []) ≡ true = ap (λ (z : List OpData). ends (q.op ∷ z)) (sym is) ∙ sym same.ends_same ∙ ended in
@@ -256,12 +256,12 @@ few_opened at code brackets none most = by (opens code) refl
     by true e = let room = room_for code brackets none e in let l = length-append brackets (record { at = at; code = code } ∷ []) in omega (arith, room, l)
     by false e = by_close (eqb code (code_of operation.Unnest))
 
-few_at : (a : Around) (ss : List Spot) (from : ℕ) (brackets : List OpenBracket) (zones : List ℕ) (before ops : List OpData) (at : ℕ) (q : Placed) → faults_over a ss 0 (placed from brackets zones before ops) ≡ [] → length brackets ≤ most_brackets → place_at at (placed from brackets zones before ops) ≡ Some q → length q.brackets ≤ most_brackets
+few_at : (a : Around) (ss : List Spot) (from : ℕ) (brackets : List OpenBracket) (zones : List ℕ) (before ops : List OpData) (at : ℕ) (q : Placed) → faults_over a ss 0 (placed from brackets zones before ops) ≡ [] → length brackets ≤ most_brackets → placed_at at (placed from brackets zones before ops) ≡ Some q → length q.brackets ≤ most_brackets
 few_at a ss from brackets zones before [] at q none most found = absurd cc
 few_at a ss from brackets zones before (o ∷ ops) at q none most found =
     let here : Placed = record { at = from; brackets = brackets; zones = zones; before = before; op = o; rest = ops } in
     let n = nil_parts (op_faults a ss 0 here) (faults_over a ss 0 (placed (from + size o) (opened from o.code brackets) (zones_behind from o.code zones) (before_next o before) ops)) none in
-    chosen (eqb from at) here (place_at at (placed (from + size o) (opened from o.code brackets) (zones_behind from o.code zones) (before_next o before) ops)) q found (length q.brackets ≤ most_brackets)
+    chosen (eqb from at) here (placed_at at (placed (from + size o) (opened from o.code brackets) (zones_behind from o.code zones) (before_next o before) ops)) q found (length q.brackets ≤ most_brackets)
     (λ t e. subst (λ (z : Placed). length z.brackets ≤ most_brackets) e most)
     (λ f e. few_at a ss (from + size o) (opened from o.code brackets) (zones_behind from o.code zones) (before_next o before) ops at q n.1 (few_opened from o.code brackets (no_fault a ss 0 here n.0).bracket most) e)
 
@@ -269,7 +269,7 @@ there_by : (code : ℕ) (brackets : List OpenBracket) → bracket_fault code bra
 there_by code [] none is = let e : ◌≡◌ {A = Option ℕ} (Some 8) None = rw is at none in absurd cc
 there_by code (b ∷ bs) none is = omega arith
 
-pub brackets_right : (p : Program) (b : CodeBlock) (q : Placed) → IsOp p b q → BracketsAreRight q
+pub brackets_right : (p : Program) (b : CodeBlock) (q : Placed) → IsVerifiedOp p b q → BracketsAreRight q
 brackets_right p b q h =
     let none = op_none p b q h in
     record {
@@ -289,12 +289,12 @@ few_zones_behind at code zones none most = by (eqb code (code_of (operation.Rela
     by true e = let room = room_below most_zones (length zones) (rw e at none) in let l = length-append zones (at ∷ []) in omega (arith, room, l)
     by false e = by_close (eqb code (code_of (operation.Relay relay.Close)))
 
-few_zones_at : (a : Around) (ss : List Spot) (from : ℕ) (brackets : List OpenBracket) (zones : List ℕ) (before ops : List OpData) (at : ℕ) (q : Placed) → faults_over a ss 0 (placed from brackets zones before ops) ≡ [] → length zones ≤ most_zones → place_at at (placed from brackets zones before ops) ≡ Some q → length q.zones ≤ most_zones
+few_zones_at : (a : Around) (ss : List Spot) (from : ℕ) (brackets : List OpenBracket) (zones : List ℕ) (before ops : List OpData) (at : ℕ) (q : Placed) → faults_over a ss 0 (placed from brackets zones before ops) ≡ [] → length zones ≤ most_zones → placed_at at (placed from brackets zones before ops) ≡ Some q → length q.zones ≤ most_zones
 few_zones_at a ss from brackets zones before [] at q none most found = absurd cc
 few_zones_at a ss from brackets zones before (o ∷ ops) at q none most found =
     let here : Placed = record { at = from; brackets = brackets; zones = zones; before = before; op = o; rest = ops } in
     let n = nil_parts (op_faults a ss 0 here) (faults_over a ss 0 (placed (from + size o) (opened from o.code brackets) (zones_behind from o.code zones) (before_next o before) ops)) none in
-    chosen (eqb from at) here (place_at at (placed (from + size o) (opened from o.code brackets) (zones_behind from o.code zones) (before_next o before) ops)) q found (length q.zones ≤ most_zones)
+    chosen (eqb from at) here (placed_at at (placed (from + size o) (opened from o.code brackets) (zones_behind from o.code zones) (before_next o before) ops)) q found (length q.zones ≤ most_zones)
     (λ t e. subst (λ (z : Placed). length z.zones ≤ most_zones) e most)
     (λ f e. few_zones_at a ss (from + size o) (opened from o.code brackets) (zones_behind from o.code zones) (before_next o before) ops at q n.1 (few_zones_behind from o.code zones (no_fault a ss 0 here n.0).zone most) e)
 
@@ -305,7 +305,7 @@ zone_there : (code : ℕ) (zones : List ℕ) → zone_fault code zones ≡ None 
 zone_there code [] none is = let e : ◌≡◌ {A = Option ℕ} (Some 8) None = rw is at none in absurd cc
 zone_there code (at ∷ zones) none is = omega arith
 
-pub zones_right : (p : Program) (b : CodeBlock) (q : Placed) → IsOp p b q → ZonesAreRight q
+pub zones_right : (p : Program) (b : CodeBlock) (q : Placed) → IsVerifiedOp p b q → ZonesAreRight q
 zones_right p b q h =
     let none = op_none p b q h in
     record {
@@ -327,14 +327,14 @@ pub none_if : (b : Bool) (from : ℕ) (more : Option ℕ) → cond b (Some from)
 none_if true from more e = absurd cc
 none_if false from more e = (refl, e)
 
-few_before : (from : ℕ) (brackets : List OpenBracket) (zones : List ℕ) (before ops : List OpData) (at : ℕ) (q : Placed) → overlong (length before) from ops ≡ None → length before ≤ 64 → place_at at (placed from brackets zones before ops) ≡ Some q → length q.before < 64
+few_before : (from : ℕ) (brackets : List OpenBracket) (zones : List ℕ) (before ops : List OpData) (at : ℕ) (q : Placed) → overlong (length before) from ops ≡ None → length before ≤ 64 → placed_at at (placed from brackets zones before ops) ≡ Some q → length q.before < 64
 few_before from brackets zones before [] at q none most found = absurd cc
 few_before from brackets zones before (o ∷ ops) at q none most found =
     let n = none_if (eqb (length before) 64) from (overlong (cond o.last 0 (suc (length before))) (from + size o) ops) none in
     let lt : length before < 64 = let ne = eqb-false (length before) 64 n.0 in grind (arith, ne, most) in
     let next = few_next o before in
     let more : overlong (length (before_next o before)) (from + size o) ops ≡ None = ap (λ (k : ℕ). overlong k (from + size o) ops) next ∙ n.1 in
-    chosen (eqb from at) (record { at = from; brackets = brackets; zones = zones; before = before; op = o; rest = ops }) (place_at at (placed (from + size o) (opened from o.code brackets) (zones_behind from o.code zones) (before_next o before) ops)) q found (length q.before < 64)
+    chosen (eqb from at) (record { at = from; brackets = brackets; zones = zones; before = before; op = o; rest = ops }) (placed_at at (placed (from + size o) (opened from o.code brackets) (zones_behind from o.code zones) (before_next o before) ops)) q found (length q.before < 64)
     (λ t e. subst (λ (z : Placed). length z.before < 64) e lt)
     (λ f e. few_before (from + size o) (opened from o.code brackets) (zones_behind from o.code zones) (before_next o before) ops at q more (most_next o.last next lt) e)
   where
@@ -351,7 +351,7 @@ ended_by code last none = by (prepares code) last none
     by false true e = refl
     by false false e = absurd cc
 
-pub statement_right : (p : Program) (b : CodeBlock) (q : Placed) → overlong 0 0 b.code ≡ None → IsOp p b q → StatementIsRight q
+pub statement_right : (p : Program) (b : CodeBlock) (q : Placed) → overlong 0 0 b.code ≡ None → IsVerifiedOp p b q → StatementIsRight q
 statement_right p b q none h = record {
   few = few_before 0 [] [] [] b.code q.at q none (omega arith) h.place;
   ended = ended_by q.op.code q.op.last (op_none p b q h).mark;
@@ -393,18 +393,18 @@ line_here from begin o ops lines at ended most t is =
 line_later : (from : ℕ) (begin : Bool) (o : OpData) (ops : List OpData) (lines : List ℕ) (at : ℕ) → eqb from at ≡ false → Lined (from + size o) o.last ops (cond o.last (drop 1 lines) lines) at → Lined from begin (o ∷ ops) lines at
 line_later from begin o ops lines at f l = (l.0, rw f l.1)
 
-line_there : (from : ℕ) (brackets : List OpenBracket) (zones : List ℕ) (before ops : List OpData) (lines : List ℕ) (at : ℕ) (q : Placed) → ends ops ≡ true → end_marks ops ≤ length lines → place_at at (placed from brackets zones before ops) ≡ Some q → is_empty q.before ≡ true → Lined from (is_empty before) ops lines at
+line_there : (from : ℕ) (brackets : List OpenBracket) (zones : List ℕ) (before ops : List OpData) (lines : List ℕ) (at : ℕ) (q : Placed) → ends ops ≡ true → end_marks ops ≤ length lines → placed_at at (placed from brackets zones before ops) ≡ Some q → is_empty q.before ≡ true → Lined from (is_empty before) ops lines at
 line_there from brackets zones before [] lines at q ended most found first = absurd cc
 line_there from brackets zones before (o ∷ []) lines at q ended most found first =
     chosen (eqb from at) (record { at = from; brackets = brackets; zones = zones; before = before; op = o; rest = [] }) None q found (Lined from (is_empty before) (o ∷ []) lines at)
     (λ t e. line_here from (is_empty before) o [] lines at ended most t (ap (λ (z : Placed). is_empty z.before) e ∙ first))
     (λ f e. absurd cc)
 line_there from brackets zones before (o ∷ n ∷ ops) lines at q ended most found first =
-    chosen (eqb from at) (record { at = from; brackets = brackets; zones = zones; before = before; op = o; rest = n ∷ ops }) (place_at at (placed (from + size o) (opened from o.code brackets) (zones_behind from o.code zones) (before_next o before) (n ∷ ops))) q found (Lined from (is_empty before) (o ∷ n ∷ ops) lines at)
+    chosen (eqb from at) (record { at = from; brackets = brackets; zones = zones; before = before; op = o; rest = n ∷ ops }) (placed_at at (placed (from + size o) (opened from o.code brackets) (zones_behind from o.code zones) (before_next o before) (n ∷ ops))) q found (Lined from (is_empty before) (o ∷ n ∷ ops) lines at)
     (λ t e. line_here from (is_empty before) o (n ∷ ops) lines at ended most t (ap (λ (z : Placed). is_empty z.before) e ∙ first))
     (λ f e. line_later from (is_empty before) o (n ∷ ops) lines at f
     (subst (λ (z : Bool). Lined (from + size o) z (n ∷ ops) (cond o.last (drop 1 lines) lines) at) (empty_next o before)
     (line_there (from + size o) (opened from o.code brackets) (zones_behind from o.code zones) (before_next o before) (n ∷ ops) (cond o.last (drop 1 lines) lines) at q ended (line_room o.last (end_marks (n ∷ ops)) lines most) e first)))
 
-pub has_line : (p : Program) (b : CodeBlock) (q : Placed) → ends b.code ≡ true → end_marks b.code ≡ length b.lines → IsOp p b q → begins q ≡ true → HasLine b q.at
+pub has_line : (p : Program) (b : CodeBlock) (q : Placed) → ends b.code ≡ true → end_marks b.code ≡ length b.lines → IsVerifiedOp p b q → begins q ≡ true → HasLine b q.at
 has_line p b q ended marks h first = let l = line_there 0 [] [] [] b.code b.lines q.at q ended (omega (arith, marks)) h.place first in record { line = l.0; is = l.1 }

@@ -5,7 +5,7 @@ use Rattle.plc_base.specs.declared.profiles.Profile.{Profile}
 use Rattle.flat_code.specs.Image.{IsProgram}
 use Rattle.flat_code.specs.Loading.{Verifies}
 use Rattle.flat_code.specs.Programs.{Program}
-use Rattle.image_file.specs.Readers.{ids_of}
+use Rattle.image_file.specs.Readers.{block_ids}
 use Rattle.image_file.specs.Tables.{HaveSlots, FindsBlocks}
 
 -- a loaded program stands for the program that its image holds, and the profile with which it is run
@@ -17,6 +17,6 @@ pub record LoadedProgram : Type 0 where
 pub record IsLoaded (program : Program) (ids : List BlockId) (table : List ℕ) : Type 0 where
   pub is_program : IsProgram program
   pub verifies : Verifies program
-  pub blocks : ids ≡ ids_of program
+  pub blocks : ids ≡ block_ids program
   pub slots : HaveSlots program.code_blocks
   pub finds : FindsBlocks program.code_blocks table

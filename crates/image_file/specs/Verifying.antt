@@ -13,7 +13,7 @@ use Rattle.flat_code.specs.Records.{BlockRecord}
 use Rattle.image_file.specs.declared.refusing.VerifyError.{VerifyError}
 use Rattle.image_file.specs.declared.refusing.VerifyError.TheVariants as error
 use Rattle.image_file.specs.declared.faults.VerifyFault.{VerifyFault}
-use Rattle.image_file.specs.Least.{IsLeast}
+use Rattle.image_file.specs.Least.{IsLeastFault}
 
 -- 9, at 0: a line that is 0 or falls, behind another line (0 for none)
 abbrev pub line_faults : ℕ → List ℕ → List (ℕ × ℕ)
@@ -47,8 +47,8 @@ lens_where true datas = Some (lens_of datas)
 lens_where false datas = None
 
 -- the same for a program: its calls are checked where no code of it has a fault 5
-abbrev pub lens_judged : Program → Option (List (ℕ × ℕ))
-lens_judged p = lens_where (are_whole (map record_of_block p.code_blocks)) p.data_blocks
+abbrev pub lens_checked : Program → Option (List (ℕ × ℕ))
+lens_checked p = lens_where (are_whole (map record_of_block p.code_blocks)) p.data_blocks
 
 -- the faults of a block among all blocks
 abbrev pub faults_among :
@@ -60,7 +60,7 @@ faults_among lens all b =
 abbrev pub DecidesFor : BlockId → VerifyFault → List (ℕ × ℕ) → Type 0 → Type 0
 DecidesFor id f [] Later = Later
 DecidesFor id f (g ∷ gs) Later =
-    (f.block ≡ id) × IsLeast (record { at = f.at; code = f.code }) (g ∷ gs)
+    (f.block ≡ id) × IsLeastFault (record { at = f.at; code = f.code }) (g ∷ gs)
 
 -- a fault is that of the first of these blocks that has one; where none has one, no fault is
 abbrev pub IsFirstOf :
@@ -70,7 +70,7 @@ IsFirstOf lens all (b ∷ bs) f = DecidesFor b.id f (faults_among lens all b) (I
 
 -- the fault of a program: that of the first block that has one
 unfoldable pub IsFaultOf : Program → VerifyFault → Type 0
-IsFaultOf p f = IsFirstOf (lens_judged p) (map record_of_block p.code_blocks) p.code_blocks f
+IsFaultOf p f = IsFirstOf (lens_checked p) (map record_of_block p.code_blocks) p.code_blocks f
 
 -- no block of a program has a fault
 abbrev pub AreClean : Option (List (ℕ × ℕ)) → List BlockRecord → List CodeBlock → Type 0
@@ -79,7 +79,7 @@ AreClean lens all (b ∷ bs) = (faults_among lens all b ≡ []) × AreClean lens
 
 -- a program of which no block has a fault
 abbrev pub IsClean : Program → Type 0
-IsClean p = AreClean (lens_judged p) (map record_of_block p.code_blocks) p.code_blocks
+IsClean p = AreClean (lens_checked p) (map record_of_block p.code_blocks) p.code_blocks
 
 -- why a program is refused; nothing is said where memory is wanting
 abbrev pub IsUnverified : VerifyError → Program → Type 0

@@ -9,7 +9,7 @@ ops_behind_front front n bytes at = (front ++ (ops_from n (drop at bytes)).0, (o
 
 -- ops were read up to a place: the offset of the last of them, whether it ends the block, and how many
 -- the statement has so far
-pub record HasRead (code : List ℕ) (ops : List OpData) (at before : ℕ) (end : Bool) (count : ℕ) : Type 0 where
+pub record HasReadOps (code : List ℕ) (ops : List OpData) (at before : ℕ) (end : Bool) (count : ℕ) : Type 0 where
   pub within : at ≤ length code
   pub all : ops_behind_front ops (length code) code at ≡ ops_from (length code) code
   pub size : length (code_bytes ops) ≡ at

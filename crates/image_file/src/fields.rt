@@ -1,7 +1,7 @@
 //! The fields of an image, each read and checked.
 ghost use Rattle.std.specs.Prelude.{true, ◌≡◌, ◌+◌, ◌<◌, ◌^◌, length, min, OnOk};
 ghost use Rattle.flat_code.specs.Image.{plain_u16, plain_u32, zero_u8, zero_u16, width_field, section_field, parameter_byte, parameter_bit, kind_field, parameter_count, block_number, local_bytes, instance_bytes, line_field, data_number, instance_field, data_len, name_len, name_area, name_bit, data_count, magic_field, version_field, profile_field};
-ghost use Rattle.image_file.specs.Running.{seen, run, place_of, log_of};
+ghost use Rattle.image_file.specs.Running.{reader_run, run_layout, reader_cursor, log_of};
 
 use crate::reader::Reader;
 use crate::stops::Ended;
@@ -11,8 +11,8 @@ impl Reader<'_> {
     #[tactic(auto, unfolding(flat_code::specs::Image::plain_u16))]
     pub(crate) fn plain_u16(&mut self) -> Result<u16, Ended>
         requires { self.old.at + length self.old.rest.now < 2 ^ 32 }
-        ensures read { seen (λ n. n) result self.new
-            ≡ run plain_u16 (place_of self.old) (log_of self.old) }
+        ensures read { reader_run (λ n. n) result self.new
+            ≡ run_layout plain_u16 (reader_cursor self.old) (log_of self.old) }
         ensures all { self.new.at + length self.new.rest.now
             ≡ self.old.at + length self.old.rest.now }
         ensures step { OnOk result (self.new.at ≡ self.old.at + 2) }
@@ -24,8 +24,8 @@ impl Reader<'_> {
     #[tactic(auto, unfolding(flat_code::specs::Image::plain_u32))]
     pub(crate) fn plain_u32(&mut self) -> Result<u32, Ended>
         requires { self.old.at + min 4 (length self.old.rest.now) < 2 ^ 32 }
-        ensures read { seen (λ n. n) result self.new
-            ≡ run plain_u32 (place_of self.old) (log_of self.old) }
+        ensures read { reader_run (λ n. n) result self.new
+            ≡ run_layout plain_u32 (reader_cursor self.old) (log_of self.old) }
         ensures all { self.new.at + length self.new.rest.now
             ≡ self.old.at + length self.old.rest.now }
         ensures step { OnOk result (self.new.at ≡ self.old.at + 4) }
@@ -34,11 +34,11 @@ impl Reader<'_> {
         Ok(number)
     }
 
-    #[tactic(auto, unfolding(crate::specs::Running::run, crate::specs::Running::logged, crate::specs::Least::with_faults, flat_code::specs::Image::zero_u8))]
+    #[tactic(auto, unfolding(crate::specs::Running::run_layout, crate::specs::Running::log_after, crate::specs::Least::with_faults, flat_code::specs::Image::zero_u8))]
     pub(crate) fn reserved_u8(&mut self) -> Result<u8, Ended>
         requires { self.old.at + length self.old.rest.now < 2 ^ 32 }
-        ensures read { seen (λ n. n) result self.new
-            ≡ run zero_u8 (place_of self.old) (log_of self.old) }
+        ensures read { reader_run (λ n. n) result self.new
+            ≡ run_layout zero_u8 (reader_cursor self.old) (log_of self.old) }
         ensures all { self.new.at + length self.new.rest.now
             ≡ self.old.at + length self.old.rest.now }
         ensures step { OnOk result (self.new.at ≡ self.old.at + 1) }
@@ -54,11 +54,11 @@ impl Reader<'_> {
         Ok(number)
     }
 
-    #[tactic(auto, unfolding(crate::specs::Running::run, crate::specs::Running::logged, crate::specs::Least::with_faults, flat_code::specs::Image::zero_u16))]
+    #[tactic(auto, unfolding(crate::specs::Running::run_layout, crate::specs::Running::log_after, crate::specs::Least::with_faults, flat_code::specs::Image::zero_u16))]
     pub(crate) fn reserved_u16(&mut self) -> Result<u16, Ended>
         requires { self.old.at + min 4 (length self.old.rest.now) < 2 ^ 32 }
-        ensures read { seen (λ n. n) result self.new
-            ≡ run zero_u16 (place_of self.old) (log_of self.old) }
+        ensures read { reader_run (λ n. n) result self.new
+            ≡ run_layout zero_u16 (reader_cursor self.old) (log_of self.old) }
         ensures all { self.new.at + length self.new.rest.now
             ≡ self.old.at + length self.old.rest.now }
         ensures step { OnOk result (self.new.at ≡ self.old.at + 2) }
@@ -69,11 +69,11 @@ impl Reader<'_> {
         Ok(number)
     }
 
-    #[tactic(auto, unfolding(crate::specs::Running::run, crate::specs::Running::logged, crate::specs::Least::with_faults, flat_code::specs::Image::width_field))]
+    #[tactic(auto, unfolding(crate::specs::Running::run_layout, crate::specs::Running::log_after, crate::specs::Least::with_faults, flat_code::specs::Image::width_field))]
     pub(crate) fn width(&mut self) -> Result<u8, Ended>
         requires { self.old.at + length self.old.rest.now < 2 ^ 32 }
-        ensures read { seen (λ n. n) result self.new
-            ≡ run width_field (place_of self.old) (log_of self.old) }
+        ensures read { reader_run (λ n. n) result self.new
+            ≡ run_layout width_field (reader_cursor self.old) (log_of self.old) }
         ensures all { self.new.at + length self.new.rest.now
             ≡ self.old.at + length self.old.rest.now }
         ensures step { OnOk result (self.new.at ≡ self.old.at + 1) }
@@ -84,11 +84,11 @@ impl Reader<'_> {
         Ok(number)
     }
 
-    #[tactic(auto, unfolding(crate::specs::Running::run, crate::specs::Running::logged, crate::specs::Least::with_faults, flat_code::specs::Image::section_field))]
+    #[tactic(auto, unfolding(crate::specs::Running::run_layout, crate::specs::Running::log_after, crate::specs::Least::with_faults, flat_code::specs::Image::section_field))]
     pub(crate) fn section(&mut self) -> Result<u8, Ended>
         requires { self.old.at + length self.old.rest.now < 2 ^ 32 }
-        ensures read { seen (λ n. n) result self.new
-            ≡ run section_field (place_of self.old) (log_of self.old) }
+        ensures read { reader_run (λ n. n) result self.new
+            ≡ run_layout section_field (reader_cursor self.old) (log_of self.old) }
         ensures all { self.new.at + length self.new.rest.now
             ≡ self.old.at + length self.old.rest.now }
         ensures step { OnOk result (self.new.at ≡ self.old.at + 1) }
@@ -99,7 +99,7 @@ impl Reader<'_> {
         Ok(number)
     }
 
-    #[tactic(auto, unfolding(crate::specs::Running::run, crate::specs::Running::logged, crate::specs::Least::with_faults, flat_code::specs::Image::parameter_byte))]
+    #[tactic(auto, unfolding(crate::specs::Running::run_layout, crate::specs::Running::log_after, crate::specs::Least::with_faults, flat_code::specs::Image::parameter_byte))]
     pub(crate) fn parameter_byte(
         &mut self,
         kind: u8,
@@ -107,8 +107,8 @@ impl Reader<'_> {
         width: u8,
     ) -> Result<u16, Ended>
         requires { self.old.at + length self.old.rest.now < 2 ^ 32 }
-        ensures read { seen (λ n. n) result self.new
-            ≡ run (parameter_byte kind instance width) (place_of self.old) (log_of self.old) }
+        ensures read { reader_run (λ n. n) result self.new
+            ≡ run_layout (parameter_byte kind instance width) (reader_cursor self.old) (log_of self.old) }
         ensures all { self.new.at + length self.new.rest.now
             ≡ self.old.at + length self.old.rest.now }
         ensures step { OnOk result (self.new.at ≡ self.old.at + 2) }
@@ -127,11 +127,11 @@ impl Reader<'_> {
         Ok(number)
     }
 
-    #[tactic(auto, unfolding(crate::specs::Running::run, crate::specs::Running::logged, crate::specs::Least::with_faults, flat_code::specs::Image::parameter_bit))]
+    #[tactic(auto, unfolding(crate::specs::Running::run_layout, crate::specs::Running::log_after, crate::specs::Least::with_faults, flat_code::specs::Image::parameter_bit))]
     pub(crate) fn parameter_bit(&mut self, kind: u8) -> Result<u8, Ended>
         requires { self.old.at + length self.old.rest.now < 2 ^ 32 }
-        ensures read { seen (λ n. n) result self.new
-            ≡ run (parameter_bit kind) (place_of self.old) (log_of self.old) }
+        ensures read { reader_run (λ n. n) result self.new
+            ≡ run_layout (parameter_bit kind) (reader_cursor self.old) (log_of self.old) }
         ensures all { self.new.at + length self.new.rest.now
             ≡ self.old.at + length self.old.rest.now }
         ensures step { OnOk result (self.new.at ≡ self.old.at + 1) }
@@ -142,11 +142,11 @@ impl Reader<'_> {
         Ok(number)
     }
 
-    #[tactic(auto, unfolding(crate::specs::Running::run, crate::specs::Running::logged, crate::specs::Least::with_faults, flat_code::specs::Image::kind_field))]
+    #[tactic(auto, unfolding(crate::specs::Running::run_layout, crate::specs::Running::log_after, crate::specs::Least::with_faults, flat_code::specs::Image::kind_field))]
     pub(crate) fn kind(&mut self, before: u8) -> Result<u8, Ended>
         requires { self.old.at + length self.old.rest.now < 2 ^ 32 }
-        ensures read { seen (λ n. n) result self.new
-            ≡ run (kind_field before) (place_of self.old) (log_of self.old) }
+        ensures read { reader_run (λ n. n) result self.new
+            ≡ run_layout (kind_field before) (reader_cursor self.old) (log_of self.old) }
         ensures all { self.new.at + length self.new.rest.now
             ≡ self.old.at + length self.old.rest.now }
         ensures step { OnOk result (self.new.at ≡ self.old.at + 1) }
@@ -163,11 +163,11 @@ impl Reader<'_> {
         Ok(number)
     }
 
-    #[tactic(auto, unfolding(crate::specs::Running::run, crate::specs::Running::logged, crate::specs::Least::with_faults, flat_code::specs::Image::parameter_count))]
+    #[tactic(auto, unfolding(crate::specs::Running::run_layout, crate::specs::Running::log_after, crate::specs::Least::with_faults, flat_code::specs::Image::parameter_count))]
     pub(crate) fn parameter_count(&mut self, kind: u8) -> Result<u8, Ended>
         requires { self.old.at + length self.old.rest.now < 2 ^ 32 }
-        ensures read { seen (λ n. n) result self.new
-            ≡ run (parameter_count kind) (place_of self.old) (log_of self.old) }
+        ensures read { reader_run (λ n. n) result self.new
+            ≡ run_layout (parameter_count kind) (reader_cursor self.old) (log_of self.old) }
         ensures all { self.new.at + length self.new.rest.now
             ≡ self.old.at + length self.old.rest.now }
         ensures step { OnOk result (self.new.at ≡ self.old.at + 1) }
@@ -184,7 +184,7 @@ impl Reader<'_> {
         Ok(number)
     }
 
-    #[tactic(auto, unfolding(crate::specs::Running::run, crate::specs::Running::logged, crate::specs::Least::with_faults, flat_code::specs::Image::block_number))]
+    #[tactic(auto, unfolding(crate::specs::Running::run_layout, crate::specs::Running::log_after, crate::specs::Least::with_faults, flat_code::specs::Image::block_number))]
     pub(crate) fn block_number(
         &mut self,
         kind_before: u8,
@@ -192,8 +192,8 @@ impl Reader<'_> {
         kind: u8,
     ) -> Result<u16, Ended>
         requires { self.old.at + length self.old.rest.now < 2 ^ 32 }
-        ensures read { seen (λ n. n) result self.new
-            ≡ run (block_number kind_before before kind) (place_of self.old) (log_of self.old) }
+        ensures read { reader_run (λ n. n) result self.new
+            ≡ run_layout (block_number kind_before before kind) (reader_cursor self.old) (log_of self.old) }
         ensures all { self.new.at + length self.new.rest.now
             ≡ self.old.at + length self.old.rest.now }
         ensures step { OnOk result (self.new.at ≡ self.old.at + 2) }
@@ -212,11 +212,11 @@ impl Reader<'_> {
         Ok(number)
     }
 
-    #[tactic(auto, unfolding(crate::specs::Running::run, crate::specs::Running::logged, crate::specs::Least::with_faults, flat_code::specs::Image::local_bytes))]
+    #[tactic(auto, unfolding(crate::specs::Running::run_layout, crate::specs::Running::log_after, crate::specs::Least::with_faults, flat_code::specs::Image::local_bytes))]
     pub(crate) fn local_bytes(&mut self, kind: u8) -> Result<u16, Ended>
         requires { self.old.at + length self.old.rest.now < 2 ^ 32 }
-        ensures read { seen (λ n. n) result self.new
-            ≡ run (local_bytes kind) (place_of self.old) (log_of self.old) }
+        ensures read { reader_run (λ n. n) result self.new
+            ≡ run_layout (local_bytes kind) (reader_cursor self.old) (log_of self.old) }
         ensures all { self.new.at + length self.new.rest.now
             ≡ self.old.at + length self.old.rest.now }
         ensures step { OnOk result (self.new.at ≡ self.old.at + 2) }
@@ -233,11 +233,11 @@ impl Reader<'_> {
         Ok(number)
     }
 
-    #[tactic(auto, unfolding(crate::specs::Running::run, crate::specs::Running::logged, crate::specs::Least::with_faults, flat_code::specs::Image::instance_bytes))]
+    #[tactic(auto, unfolding(crate::specs::Running::run_layout, crate::specs::Running::log_after, crate::specs::Least::with_faults, flat_code::specs::Image::instance_bytes))]
     pub(crate) fn instance_bytes(&mut self, kind: u8) -> Result<u16, Ended>
         requires { self.old.at + length self.old.rest.now < 2 ^ 32 }
-        ensures read { seen (λ n. n) result self.new
-            ≡ run (instance_bytes kind) (place_of self.old) (log_of self.old) }
+        ensures read { reader_run (λ n. n) result self.new
+            ≡ run_layout (instance_bytes kind) (reader_cursor self.old) (log_of self.old) }
         ensures all { self.new.at + length self.new.rest.now
             ≡ self.old.at + length self.old.rest.now }
         ensures step { OnOk result (self.new.at ≡ self.old.at + 2) }
@@ -254,11 +254,11 @@ impl Reader<'_> {
         Ok(number)
     }
 
-    #[tactic(auto, unfolding(crate::specs::Running::run, crate::specs::Running::logged, crate::specs::Least::with_faults, flat_code::specs::Image::line_field))]
+    #[tactic(auto, unfolding(crate::specs::Running::run_layout, crate::specs::Running::log_after, crate::specs::Least::with_faults, flat_code::specs::Image::line_field))]
     pub(crate) fn line(&mut self, before: u32) -> Result<u32, Ended>
         requires { self.old.at + length self.old.rest.now < 2 ^ 32 }
-        ensures read { seen (λ n. n) result self.new
-            ≡ run (line_field true before) (place_of self.old) (log_of self.old) }
+        ensures read { reader_run (λ n. n) result self.new
+            ≡ run_layout (line_field true before) (reader_cursor self.old) (log_of self.old) }
         ensures all { self.new.at + length self.new.rest.now
             ≡ self.old.at + length self.old.rest.now }
     {
@@ -274,11 +274,11 @@ impl Reader<'_> {
         Ok(number)
     }
 
-    #[tactic(auto, unfolding(crate::specs::Running::run, crate::specs::Running::logged, crate::specs::Least::with_faults, flat_code::specs::Image::data_number))]
+    #[tactic(auto, unfolding(crate::specs::Running::run_layout, crate::specs::Running::log_after, crate::specs::Least::with_faults, flat_code::specs::Image::data_number))]
     pub(crate) fn data_number(&mut self, before: u16) -> Result<u16, Ended>
         requires { self.old.at + length self.old.rest.now < 2 ^ 32 }
-        ensures read { seen (λ n. n) result self.new
-            ≡ run (data_number before) (place_of self.old) (log_of self.old) }
+        ensures read { reader_run (λ n. n) result self.new
+            ≡ run_layout (data_number before) (reader_cursor self.old) (log_of self.old) }
         ensures all { self.new.at + length self.new.rest.now
             ≡ self.old.at + length self.old.rest.now }
     {
@@ -288,11 +288,11 @@ impl Reader<'_> {
         Ok(number)
     }
 
-    #[tactic(auto, unfolding(crate::specs::Running::run, crate::specs::Running::logged, crate::specs::Least::with_faults, flat_code::specs::Image::instance_field))]
+    #[tactic(auto, unfolding(crate::specs::Running::run_layout, crate::specs::Running::log_after, crate::specs::Least::with_faults, flat_code::specs::Image::instance_field))]
     pub(crate) fn instance_of(&mut self) -> Result<u16, Ended>
         requires { self.old.at + length self.old.rest.now < 2 ^ 32 }
-        ensures read { seen (λ n. n) result self.new
-            ≡ run instance_field (place_of self.old) (log_of self.old) }
+        ensures read { reader_run (λ n. n) result self.new
+            ≡ run_layout instance_field (reader_cursor self.old) (log_of self.old) }
         ensures all { self.new.at + length self.new.rest.now
             ≡ self.old.at + length self.old.rest.now }
     {
@@ -302,11 +302,11 @@ impl Reader<'_> {
         Ok(number)
     }
 
-    #[tactic(auto, unfolding(crate::specs::Running::run, crate::specs::Running::logged, crate::specs::Least::with_faults, flat_code::specs::Image::data_len))]
+    #[tactic(auto, unfolding(crate::specs::Running::run_layout, crate::specs::Running::log_after, crate::specs::Least::with_faults, flat_code::specs::Image::data_len))]
     pub(crate) fn data_len(&mut self, before: u32) -> Result<u16, Ended>
         requires { self.old.at + length self.old.rest.now < 2 ^ 32 }
-        ensures read { seen (λ n. n) result self.new
-            ≡ run (data_len before) (place_of self.old) (log_of self.old) }
+        ensures read { reader_run (λ n. n) result self.new
+            ≡ run_layout (data_len before) (reader_cursor self.old) (log_of self.old) }
         ensures all { self.new.at + length self.new.rest.now
             ≡ self.old.at + length self.old.rest.now }
     {
@@ -322,11 +322,11 @@ impl Reader<'_> {
         Ok(number)
     }
 
-    #[tactic(auto, unfolding(crate::specs::Running::run, crate::specs::Running::logged, crate::specs::Least::with_faults, flat_code::specs::Image::name_len))]
+    #[tactic(auto, unfolding(crate::specs::Running::run_layout, crate::specs::Running::log_after, crate::specs::Least::with_faults, flat_code::specs::Image::name_len))]
     pub(crate) fn name_len(&mut self) -> Result<u8, Ended>
         requires { self.old.at + length self.old.rest.now < 2 ^ 32 }
-        ensures read { seen (λ n. n) result self.new
-            ≡ run name_len (place_of self.old) (log_of self.old) }
+        ensures read { reader_run (λ n. n) result self.new
+            ≡ run_layout name_len (reader_cursor self.old) (log_of self.old) }
         ensures all { self.new.at + length self.new.rest.now
             ≡ self.old.at + length self.old.rest.now }
     {
@@ -336,11 +336,11 @@ impl Reader<'_> {
         Ok(number)
     }
 
-    #[tactic(auto, unfolding(crate::specs::Running::run, crate::specs::Running::logged, crate::specs::Least::with_faults, flat_code::specs::Image::name_area))]
+    #[tactic(auto, unfolding(crate::specs::Running::run_layout, crate::specs::Running::log_after, crate::specs::Least::with_faults, flat_code::specs::Image::name_area))]
     pub(crate) fn name_area(&mut self) -> Result<u8, Ended>
         requires { self.old.at + length self.old.rest.now < 2 ^ 32 }
-        ensures read { seen (λ n. n) result self.new
-            ≡ run name_area (place_of self.old) (log_of self.old) }
+        ensures read { reader_run (λ n. n) result self.new
+            ≡ run_layout name_area (reader_cursor self.old) (log_of self.old) }
         ensures all { self.new.at + length self.new.rest.now
             ≡ self.old.at + length self.old.rest.now }
     {
@@ -350,11 +350,11 @@ impl Reader<'_> {
         Ok(number)
     }
 
-    #[tactic(auto, unfolding(crate::specs::Running::run, crate::specs::Running::logged, crate::specs::Least::with_faults, flat_code::specs::Image::name_bit))]
+    #[tactic(auto, unfolding(crate::specs::Running::run_layout, crate::specs::Running::log_after, crate::specs::Least::with_faults, flat_code::specs::Image::name_bit))]
     pub(crate) fn name_bit(&mut self, width: u8) -> Result<u8, Ended>
         requires { self.old.at + length self.old.rest.now < 2 ^ 32 }
-        ensures read { seen (λ n. n) result self.new
-            ≡ run (name_bit width) (place_of self.old) (log_of self.old) }
+        ensures read { reader_run (λ n. n) result self.new
+            ≡ run_layout (name_bit width) (reader_cursor self.old) (log_of self.old) }
         ensures all { self.new.at + length self.new.rest.now
             ≡ self.old.at + length self.old.rest.now }
     {
@@ -364,11 +364,11 @@ impl Reader<'_> {
         Ok(number)
     }
 
-    #[tactic(auto, unfolding(crate::specs::Running::run, crate::specs::Running::logged, crate::specs::Least::with_faults, flat_code::specs::Image::data_count))]
+    #[tactic(auto, unfolding(crate::specs::Running::run_layout, crate::specs::Running::log_after, crate::specs::Least::with_faults, flat_code::specs::Image::data_count))]
     pub(crate) fn data_count(&mut self) -> Result<u16, Ended>
         requires { self.old.at + length self.old.rest.now < 2 ^ 32 }
-        ensures read { seen (λ n. n) result self.new
-            ≡ run data_count (place_of self.old) (log_of self.old) }
+        ensures read { reader_run (λ n. n) result self.new
+            ≡ run_layout data_count (reader_cursor self.old) (log_of self.old) }
         ensures all { self.new.at + length self.new.rest.now
             ≡ self.old.at + length self.old.rest.now }
     {
@@ -378,11 +378,11 @@ impl Reader<'_> {
         Ok(number)
     }
 
-    #[tactic(auto, unfolding(crate::specs::Running::run, crate::specs::Running::logged, crate::specs::Least::with_faults, flat_code::specs::Image::magic_field))]
+    #[tactic(auto, unfolding(crate::specs::Running::run_layout, crate::specs::Running::log_after, crate::specs::Least::with_faults, flat_code::specs::Image::magic_field))]
     pub(crate) fn magic(&mut self) -> Result<u32, Ended>
         requires { self.old.at + min 4 (length self.old.rest.now) < 2 ^ 32 }
-        ensures read { seen (λ n. n) result self.new
-            ≡ run magic_field (place_of self.old) (log_of self.old) }
+        ensures read { reader_run (λ n. n) result self.new
+            ≡ run_layout magic_field (reader_cursor self.old) (log_of self.old) }
         ensures all { self.new.at + length self.new.rest.now
             ≡ self.old.at + length self.old.rest.now }
         ensures step { OnOk result (self.new.at ≡ self.old.at + 4) }
@@ -393,11 +393,11 @@ impl Reader<'_> {
         Ok(number)
     }
 
-    #[tactic(auto, unfolding(crate::specs::Running::run, crate::specs::Running::logged, crate::specs::Least::with_faults, flat_code::specs::Image::version_field))]
+    #[tactic(auto, unfolding(crate::specs::Running::run_layout, crate::specs::Running::log_after, crate::specs::Least::with_faults, flat_code::specs::Image::version_field))]
     pub(crate) fn version(&mut self) -> Result<u16, Ended>
         requires { self.old.at + min 4 (length self.old.rest.now) < 2 ^ 32 }
-        ensures read { seen (λ n. n) result self.new
-            ≡ run version_field (place_of self.old) (log_of self.old) }
+        ensures read { reader_run (λ n. n) result self.new
+            ≡ run_layout version_field (reader_cursor self.old) (log_of self.old) }
         ensures all { self.new.at + length self.new.rest.now
             ≡ self.old.at + length self.old.rest.now }
         ensures step { OnOk result (self.new.at ≡ self.old.at + 2) }
@@ -408,11 +408,11 @@ impl Reader<'_> {
         Ok(number)
     }
 
-    #[tactic(auto, unfolding(crate::specs::Running::run, crate::specs::Running::logged, crate::specs::Least::with_faults, flat_code::specs::Image::profile_field))]
+    #[tactic(auto, unfolding(crate::specs::Running::run_layout, crate::specs::Running::log_after, crate::specs::Least::with_faults, flat_code::specs::Image::profile_field))]
     pub(crate) fn profile(&mut self, version: u16) -> Result<u16, Ended>
         requires { self.old.at + min 4 (length self.old.rest.now) < 2 ^ 32 }
-        ensures read { seen (λ n. n) result self.new
-            ≡ run (profile_field version) (place_of self.old) (log_of self.old) }
+        ensures read { reader_run (λ n. n) result self.new
+            ≡ run_layout (profile_field version) (reader_cursor self.old) (log_of self.old) }
         ensures all { self.new.at + length self.new.rest.now
             ≡ self.old.at + length self.old.rest.now }
         ensures step { OnOk result (self.new.at ≡ self.old.at + 2) }

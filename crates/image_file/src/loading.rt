@@ -9,8 +9,8 @@ ghost use Rattle.flat_code.specs.declared.stamps.Stamp.TheVariants as stamps;
 ghost use Rattle.image_file.specs.Images.{GivesBack, IsImageOf};
 ghost use Rattle.image_file.specs.Judging.{around_of};
 ghost use Rattle.image_file.specs.Least.{with_faults};
-ghost use Rattle.image_file.specs.Refusing.{IsRefusedBy};
-ghost use Rattle.image_file.specs.Running.{started, found_values, judged_read, ran_read, log_of, program_read, HoldsAll, IsJudged, SeesFound};
+ghost use Rattle.image_file.specs.Refusing.{IsLoadError};
+ghost use Rattle.image_file.specs.Running.{started_block, found_values, checked_faults, run_of_read, log_of, program_read, HoldsAll, IsCheckResult, SeesFound};
 ghost use Rattle.image_file.specs.Typing.{AreFew};
 
 use crate::faults::LoadFault;
@@ -41,7 +41,7 @@ fn signature(alloc: Global, block: &BlockRead) -> Result<SignatureRead, NoMemory
 }
 
 fn signatures(alloc: Global, blocks: &[Started]) -> Result<Signatures, NoMemory>
-    ensures { IfOk result (λ s. s ≡ map signature_of (blocks_of (map started blocks.now))) }
+    ensures { IfOk result (λ s. s ≡ map signature_of (blocks_of (map started_block blocks.now))) }
 {
     let mut signatures = Vec::new(alloc);
     for started in blocks {
@@ -101,10 +101,10 @@ fn judge_blocks(
     blocks: &[Started],
     least: Option<LoadFault>,
 ) -> Result<Option<LoadFault>, NoMemory>
-    requires { signatures.now ≡ map signature_of (blocks_of (map started blocks.now)) }
+    requires { signatures.now ≡ map signature_of (blocks_of (map started_block blocks.now)) }
     ensures { IfOk result (λ l. l
         ≡ with_faults least (judged_blocks lens.now (blocks_of
-        (map started blocks.now)) (map started blocks.now))) }
+        (map started_block blocks.now)) (map started_block blocks.now))) }
 {
     let mut least = least;
     for started in blocks {
@@ -159,7 +159,7 @@ pub(crate) enum Judged {
 /// The version and profile and the names, or none where reading ended at a fault.
 fn found_by(alloc: Global, reader: &mut Reader) -> Result<Option<FoundRead>, NoMemory>
     requires { reader.old.at ≡ 0 }
-    ensures { IfOk result (λ f. SeesFound (option_map found_values f) reader.new (ran_read
+    ensures { IfOk result (λ f. SeesFound (option_map found_values f) reader.new (run_of_read
         (read_image reader.old.rest.now) (log_of reader.old))) }
 {
     match reader.image(alloc) {
@@ -172,7 +172,7 @@ fn found_by(alloc: Global, reader: &mut Reader) -> Result<Option<FoundRead>, NoM
 /// The least of the faults so far and those of the ops of the blocks that were read.
 fn least_fault(alloc: Global, reader: &Reader) -> Result<Option<LoadFault>, NoMemory>
     ensures { IfOk result
-        (λ l. l ≡ with_faults reader.now.least (judged_read (log_of reader.now))) }
+        (λ l. l ≡ with_faults reader.now.least (checked_faults (log_of reader.now))) }
 {
     let blocks = reader.blocks.as_slice();
     let signatures = signatures(alloc, blocks)?;
@@ -212,7 +212,7 @@ fn outcome_of(
 
 /// Reads bytes as an image and checks them.
 fn judge(alloc: Global, bytes: &[u8]) -> Result<Judged, NoMemory>
-    ensures { IfOk result (λ j. IsJudged bytes.now j) }
+    ensures { IfOk result (λ j. IsCheckResult bytes.now j) }
 {
     let mut reader = Reader {
         rest: bytes,
@@ -229,7 +229,7 @@ fn judge(alloc: Global, bytes: &[u8]) -> Result<Judged, NoMemory>
 /// The program of an image without fault.
 fn loaded(alloc: Global, image: ImageRead) -> Result<Loaded, NoMemory>
     requires program { IsProgram (program_read image) }
-    requires few { AreFew (blocks_of (map started image.blocks.items)) }
+    requires few { AreFew (blocks_of (map started_block image.blocks.items)) }
     requires verifies { Verifies (program_read image) }
     ensures program { IfOk result (λ l. l.program ≡ program_read image) }
     ensures profile { IfOk result (λ l. l.profile ≡ profile_of image.stamp) }
@@ -248,7 +248,7 @@ fn loaded(alloc: Global, image: ImageRead) -> Result<Loaded, NoMemory>
 /// code; `NoMemory`.
 pub fn load(alloc: Global, bytes: &[u8]) -> Result<Loaded, LoadError>
     ensures gives { IfOk result (λ l. IsImageOf bytes.now l) }
-    ensures refused { IfErr result (λ e. IsRefusedBy e (faults_of bytes.now)) }
+    ensures refused { IfErr result (λ e. IsLoadError e (faults_of bytes.now)) }
 {
     match judge(alloc, bytes)? {
         Judged::Faulty { fault } => Err(LoadError::Fault { fault }),

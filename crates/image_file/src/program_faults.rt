@@ -8,8 +8,8 @@ ghost use Rattle.flat_code.specs.Image.{record_of_block, record_of_param};
 ghost use Rattle.flat_code.specs.Loading.{around, Verifies};
 ghost use Rattle.image_file.specs.Judging.{around_of};
 ghost use Rattle.image_file.specs.Least.{with_faults};
-ghost use Rattle.image_file.specs.Verifying.{are_whole, count_faults, faults_of_block, lens_judged, lens_where, line_faults, AreClean, IsFaultOf, IsFirstOf, IsUnverified};
-ghost use Rattle.image_file.specs.Writing.{BlockFits};
+ghost use Rattle.image_file.specs.Verifying.{are_whole, count_faults, faults_of_block, lens_checked, lens_where, line_faults, AreClean, IsFaultOf, IsFirstOf, IsUnverified};
+ghost use Rattle.image_file.specs.Writing.{BlockFitsFields};
 
 use crate::blocks::end_mark_count;
 use crate::codes::{count_behind, is_end};
@@ -72,7 +72,7 @@ fn code_fault(ops: &[Op]) -> Option<u32>
 
 /// Whether no code has a fault 5.
 fn are_whole(blocks: &[CodeBlock]) -> bool
-    requires { All BlockFits blocks.now }
+    requires { All BlockFitsFields blocks.now }
     ensures { result ≡ are_whole (map record_of_block blocks.now) }
 {
     for block in blocks {
@@ -147,7 +147,7 @@ fn judge_lines(lines: &[u32], least: Option<LoadFault>) -> Option<LoadFault>
 
 /// The fault 9 of the statement count, if it has one.
 fn judge_count(block: &CodeBlock) -> Option<LoadFault>
-    requires { BlockFits block.now }
+    requires { BlockFitsFields block.now }
     ensures { result ≡ with_faults None (count_faults (record_of_block block.now)) }
 {
     let field = Field::StatementCount {
@@ -164,7 +164,7 @@ fn judge_code_block(
     around: &Surroundings,
     block: &CodeBlock,
 ) -> Result<Option<LoadFault>, NoMemory>
-    requires { BlockFits block.now }
+    requires { BlockFitsFields block.now }
     ensures { IfOk result (λ l. l
         ≡ with_faults None (faults_of_block (around_of around.now) (record_of_block block.now))) }
 {
@@ -184,7 +184,7 @@ fn block_fault(
     lens: Option<&DataLens>,
     block: &CodeBlock,
 ) -> Result<Option<LoadFault>, NoMemory>
-    requires { BlockFits block.now }
+    requires { BlockFitsFields block.now }
     ensures { IfOk result (λ l. l ≡ with_faults None (faults_of_block (record {
       kind = (record_of_block block.now).kind;
       local_len = block.now.local_len;
@@ -222,7 +222,7 @@ fn first_among(
     lens: Option<&DataLens>,
     blocks: &[CodeBlock],
 ) -> Result<Option<VerifyFault>, NoMemory>
-    requires fit { All BlockFits blocks.now }
+    requires fit { All BlockFitsFields blocks.now }
     requires all { signatures.now ≡ map signature_of (map record_of_block blocks.now) }
     ensures fault { IfOk result (λ f. IfSome f
         (IsFirstOf (option_map (λ d. d.now) lens.entry)

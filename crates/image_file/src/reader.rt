@@ -5,7 +5,7 @@ ghost use Rattle.flat_code.specs.Faults.{fault_of};
 ghost use Rattle.flat_code.specs.Image.{plain, contents, bytes};
 ghost use Rattle.flat_code.specs.Layout.{field, noted};
 ghost use Rattle.image_file.specs.Least.{with_fault, with_faults};
-ghost use Rattle.image_file.specs.Running.{seen, run, place_of, log_of, logged};
+ghost use Rattle.image_file.specs.Running.{reader_run, run_layout, reader_cursor, log_of, log_after};
 
 use crate::faults::LoadFault;
 use crate::records::Started;
@@ -51,9 +51,9 @@ impl<'a> Reader<'a> {
     }
 
     /// Notes the fault of a field at an offset, if it has one.
-    #[tactic(auto, unfolding(crate::specs::Least::with_faults, crate::specs::Running::logged))]
+    #[tactic(auto, unfolding(crate::specs::Least::with_faults, crate::specs::Running::log_after))]
     pub(crate) fn judge(&mut self, at: u32, field: Field)
-        ensures log { log_of self.new ≡ logged (log_of self.old) (noted at (fault_of field)) }
+        ensures log { log_of self.new ≡ log_after (log_of self.old) (noted at (fault_of field)) }
         ensures at { self.new.at ≡ self.old.at }
         ensures rest { self.new.rest.now ≡ self.old.rest.now }
     {
@@ -63,11 +63,11 @@ impl<'a> Reader<'a> {
         }
     }
 
-    #[tactic(auto, unfolding(crate::specs::Running::run, crate::specs::Running::logged, crate::specs::Least::with_faults))]
+    #[tactic(auto, unfolding(crate::specs::Running::run_layout, crate::specs::Running::log_after, crate::specs::Least::with_faults))]
     pub(crate) fn u8(&mut self) -> Result<u8, Ended>
         requires { self.old.at + length self.old.rest.now < 2 ^ 32 }
-        ensures read { seen (λ n. n) result self.new
-            ≡ run (field a_byte plain) (place_of self.old) (log_of self.old) }
+        ensures read { reader_run (λ n. n) result self.new
+            ≡ run_layout (field a_byte plain) (reader_cursor self.old) (log_of self.old) }
         ensures all { self.new.at + length self.new.rest.now
             ≡ self.old.at + length self.old.rest.now }
         ensures step { OnOk result (self.new.at ≡ self.old.at + 1) }
@@ -85,11 +85,11 @@ impl<'a> Reader<'a> {
         }
     }
 
-    #[tactic(auto, unfolding(crate::specs::Running::run, crate::specs::Running::logged, crate::specs::Least::with_faults))]
+    #[tactic(auto, unfolding(crate::specs::Running::run_layout, crate::specs::Running::log_after, crate::specs::Least::with_faults))]
     pub(crate) fn u16(&mut self) -> Result<u16, Ended>
         requires { self.old.at + min 4 (length self.old.rest.now) < 2 ^ 32 }
-        ensures read { seen (λ n. n) result self.new
-            ≡ run (field a_word plain) (place_of self.old) (log_of self.old) }
+        ensures read { reader_run (λ n. n) result self.new
+            ≡ run_layout (field a_word plain) (reader_cursor self.old) (log_of self.old) }
         ensures all { self.new.at + length self.new.rest.now
             ≡ self.old.at + length self.old.rest.now }
         ensures step { OnOk result (self.new.at ≡ self.old.at + 2) }
@@ -108,11 +108,11 @@ impl<'a> Reader<'a> {
         }
     }
 
-    #[tactic(auto, unfolding(crate::specs::Running::run, crate::specs::Running::logged, crate::specs::Least::with_faults))]
+    #[tactic(auto, unfolding(crate::specs::Running::run_layout, crate::specs::Running::log_after, crate::specs::Least::with_faults))]
     pub(crate) fn u32(&mut self) -> Result<u32, Ended>
         requires { self.old.at + min 4 (length self.old.rest.now) < 2 ^ 32 }
-        ensures read { seen (λ n. n) result self.new
-            ≡ run (field a_dword plain) (place_of self.old) (log_of self.old) }
+        ensures read { reader_run (λ n. n) result self.new
+            ≡ run_layout (field a_dword plain) (reader_cursor self.old) (log_of self.old) }
         ensures all { self.new.at + length self.new.rest.now
             ≡ self.old.at + length self.old.rest.now }
         ensures step { OnOk result (self.new.at ≡ self.old.at + 4) }
@@ -132,11 +132,11 @@ impl<'a> Reader<'a> {
     }
 
     /// The next bytes, as many as are wanted.
-    #[tactic(auto, unfolding(crate::specs::Running::run, crate::specs::Running::logged, crate::specs::Least::with_faults))]
+    #[tactic(auto, unfolding(crate::specs::Running::run_layout, crate::specs::Running::log_after, crate::specs::Least::with_faults))]
     pub(crate) fn bytes(&mut self, count: u16) -> Result<&'a [u8], Ended>
         requires { self.old.at + length self.old.rest.now < 2 ^ 32 }
-        ensures read { seen (λ s. s.now) result self.new
-            ≡ run (field (bytes count) (λ bs. None)) (place_of self.old) (log_of self.old) }
+        ensures read { reader_run (λ s. s.now) result self.new
+            ≡ run_layout (field (bytes count) (λ bs. None)) (reader_cursor self.old) (log_of self.old) }
         ensures all { self.new.at + length self.new.rest.now
             ≡ self.old.at + length self.old.rest.now }
         ensures len { IfOk result (λ s. length s.now ≡ count) }

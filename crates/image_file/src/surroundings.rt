@@ -3,7 +3,7 @@ ghost use Rattle.std.specs.Prelude.{◌≡◌, map, slice_get, IfOk};
 ghost use Rattle.std.specs.Option.{option_map};
 ghost use Rattle.flat_code.specs.Blocks.{block_with, callee};
 ghost use Rattle.image_file.specs.Judging.{callee_values};
-ghost use Rattle.image_file.specs.Tables.{call_key, callee_of, found_callee};
+ghost use Rattle.image_file.specs.Tables.{call_key, signature_callee, found_callee};
 
 use crate::numbers::{FUNCTION, FUNCTION_BLOCK, SYSTEM_FUNCTION};
 use crate::tables::{place_at, table_of};
@@ -197,7 +197,7 @@ fn found_callee<'a>(
 /// The block at a place of a list.
 fn callee_at(blocks: &[SignatureRead], place: usize) -> Option<(u8, u16, &[ParameterRecord])>
     ensures { option_map callee_values result
-        ≡ option_map callee_of (slice_get blocks.now place) }
+        ≡ option_map signature_callee (slice_get blocks.now place) }
 {
     let block = blocks.get(place)?;
     Some((block.kind, block.instance_len, block.params.as_slice()))

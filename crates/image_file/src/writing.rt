@@ -5,7 +5,7 @@ ghost use Rattle.flat_code.specs.Image.{head_of_block, head as head_layout, coun
 ghost use Rattle.flat_code.specs.Layout.{spell_many};
 ghost use Rattle.flat_code.specs.declared.stamps.Stamp.TheVariants as stamps;
 ghost use Rattle.image_file.specs.Running.{head_values};
-ghost use Rattle.image_file.specs.Writing.{BlockFits, DataFits, NameFits, ProgramFits};
+ghost use Rattle.image_file.specs.Writing.{BlockFitsFields, DataFitsFields, NameFitsField, ProgramFitsFields};
 
 use crate::records::HeadRead;
 use flat_code::{
@@ -78,7 +78,7 @@ fn put_lines(out: &mut Vec<u8>, lines: &[u32]) -> Result<(), NoMemory>
 
 /// The head of a code block.
 fn head_of(block: &CodeBlock) -> HeadRead
-    requires { BlockFits block.now }
+    requires { BlockFitsFields block.now }
     ensures { head_values result ≡ head_of_block (record_of_block block.now) }
 {
     HeadRead {
@@ -125,7 +125,7 @@ fn put_head(out: &mut Vec<u8>, head: &HeadRead) -> Result<(), NoMemory>
 }
 
 fn put_code_block(out: &mut Vec<u8>, block: &CodeBlock) -> Result<(), NoMemory>
-    requires { BlockFits block.now }
+    requires { BlockFitsFields block.now }
     ensures { OnOk result (out.new.items
         ≡ out.old.items ++ (code_block false (0, 0)).spell (record_of_block block.now)) }
 {
@@ -137,7 +137,7 @@ fn put_code_block(out: &mut Vec<u8>, block: &CodeBlock) -> Result<(), NoMemory>
 }
 
 fn put_code_blocks(out: &mut Vec<u8>, blocks: &[CodeBlock]) -> Result<(), NoMemory>
-    requires { All BlockFits blocks.now }
+    requires { All BlockFitsFields blocks.now }
     ensures { OnOk result (out.new.items
         ≡ out.old.items ++ spell_many
         (code_block false) after_block (0, 0) (map record_of_block blocks.now)) }
@@ -150,7 +150,7 @@ fn put_code_blocks(out: &mut Vec<u8>, blocks: &[CodeBlock]) -> Result<(), NoMemo
 
 #[tactic(auto, unfolding(flat_code::specs::Image::data_block, flat_code::specs::Image::data_rows, flat_code::specs::Image::data_number, flat_code::specs::Image::instance_field, flat_code::specs::Image::data_len, flat_code::specs::Image::zero_u16, flat_code::specs::Image::contents))]
 fn put_data_block(out: &mut Vec<u8>, block: &DataBlock) -> Result<(), NoMemory>
-    requires { DataFits block.now }
+    requires { DataFitsFields block.now }
     ensures { OnOk result (out.new.items
         ≡ out.old.items ++ (data_block (0, 0)).spell block.now) }
 {
@@ -162,7 +162,7 @@ fn put_data_block(out: &mut Vec<u8>, block: &DataBlock) -> Result<(), NoMemory>
 }
 
 fn put_data_blocks(out: &mut Vec<u8>, blocks: &[DataBlock]) -> Result<(), NoMemory>
-    requires { All DataFits blocks.now }
+    requires { All DataFitsFields blocks.now }
     ensures { OnOk result (out.new.items
         ≡ out.old.items ++ spell_many data_block after_data (0, 0) blocks.now) }
 {
@@ -174,7 +174,7 @@ fn put_data_blocks(out: &mut Vec<u8>, blocks: &[DataBlock]) -> Result<(), NoMemo
 
 #[tactic(auto, unfolding(flat_code::specs::Image::name_record, flat_code::specs::Image::name_rows, flat_code::specs::Image::name_len, flat_code::specs::Image::name_bytes, flat_code::specs::Image::name_area, flat_code::specs::Image::width_field, flat_code::specs::Image::plain_u16, flat_code::specs::Image::name_bit))]
 fn put_name(out: &mut Vec<u8>, entry: &NameEntry) -> Result<(), NoMemory>
-    requires { NameFits entry.now }
+    requires { NameFitsField entry.now }
     ensures { OnOk result (out.new.items
         ≡ out.old.items ++ (name_record []).spell (name_of_entry entry.now)) }
 {
@@ -191,7 +191,7 @@ fn put_name(out: &mut Vec<u8>, entry: &NameEntry) -> Result<(), NoMemory>
 }
 
 fn put_names(out: &mut Vec<u8>, entries: &[NameEntry]) -> Result<(), NoMemory>
-    requires { All NameFits entries.now }
+    requires { All NameFitsField entries.now }
     ensures { OnOk result (out.new.items
         ≡ out.old.items ++ spell_many
         name_record after_name [] (map name_of_entry entries.now)) }
@@ -205,7 +205,7 @@ fn put_names(out: &mut Vec<u8>, entries: &[NameEntry]) -> Result<(), NoMemory>
 /// How many records of each kind there are.
 #[tactic(auto, unfolding(flat_code::specs::Image::counts, flat_code::specs::Image::count_rows, flat_code::specs::Image::plain_u16, flat_code::specs::Image::data_count, flat_code::specs::Image::zero_u16))]
 fn put_counts(out: &mut Vec<u8>, program: &Program) -> Result<(), NoMemory>
-    requires { ProgramFits program.now }
+    requires { ProgramFitsFields program.now }
     ensures { OnOk result (out.new.items
         ≡ out.old.items ++ counts.spell (counts_of (records_of program.now))) }
 {

@@ -20,7 +20,7 @@ use Rattle.frames.specs.declared.bindings.Binding.TheVariants as binding
 use Rattle.flat_code.specs.declared.programs.Param.{Param}
 use Rattle.flat_code.specs.Loading.{Verifies}
 use Rattle.flat_code.specs.Programs.{CodeBlock, Program}
-use Rattle.image_file.specs.Readers.{block_of}
+use Rattle.image_file.specs.Readers.{block_by_id}
 use Rattle.machine.specs.Code.{Head}
 use Rattle.machine.specs.Fitting.{AreBound, IsMemoryOf, SameSizes}
 use Rattle.machine.specs.Flat.{code_of, head_of}
@@ -41,8 +41,8 @@ use Rattle.machine.proofs.Standing.{nothing_open, entry_stood, opens_there, stat
 -- ---- an organization block begins
 
 block_found :
-    (p : Program) (block : BlockId) (h : Head) (o : Option CodeBlock) → block_of block p.code_blocks ≡ o
-    → option_map head_of o ≡ Some h → (b : CodeBlock) × (block_of block p.code_blocks ≡ Some b) × (head_of b ≡ h)
+    (p : Program) (block : BlockId) (h : Head) (o : Option CodeBlock) → block_by_id block p.code_blocks ≡ o
+    → option_map head_of o ≡ Some h → (b : CodeBlock) × (block_by_id block p.code_blocks ≡ Some b) × (head_of b ≡ h)
 block_found p block h (Some b) is found = (b, is, let e : head_of b ≡ h = cc in e)
 block_found p block h None is found = absurd cc
 
@@ -57,7 +57,7 @@ pub ob_begins :
 ob_begins l profile p m class ob h verifies memory found =
     let block : BlockId = record { kind = kinds.Ob; number = ob } in
     let f = first_frame ob h.local_len in
-    let one = block_found p block h (block_of block p.code_blocks) refl found in
+    let one = block_found p block h (block_by_id block p.code_blocks) refl found in
     let b = one.0 in
     let entry = entry_stood l p block b verifies one.1 in
     let right = (l.blocks p b block verifies one.1).organization (kind_found p.code_blocks block b one.1) in
@@ -84,7 +84,7 @@ pub local_room :
     → (code_of p).head (record { kind = kinds.Ob; number = ob }) ≡ Some h → h.local_len ≤ 1024
 local_room l p ob h verifies found =
     let block : BlockId = record { kind = kinds.Ob; number = ob } in
-    let one = block_found p block h (block_of block p.code_blocks) refl found in
+    let one = block_found p block h (block_by_id block p.code_blocks) refl found in
     let few = (l.blocks p one.0 block verifies one.1).room in
     let same : one.0.local_len ≡ h.local_len = ap (λ (x : Head). x.local_len) one.2 in
     omega (arith, few, same)
@@ -97,7 +97,7 @@ pub start_written :
 start_written l profile p class ob byte value h verifies found less =
     let block : BlockId = record { kind = kinds.Ob; number = ob } in
     let f = first_frame ob h.local_len in
-    let one = block_found p block h (block_of block p.code_blocks) refl found in
+    let one = block_found p block h (block_by_id block p.code_blocks) refl found in
     let b = one.0 in
     let right = (l.blocks p b block verifies one.1).organization (kind_found p.code_blocks block b one.1) in
     let long : 20 ≤ h.local_len = let e : b.local_len ≡ h.local_len = ap (λ (x : Head). x.local_len) one.2 in let r = right.1 in omega (arith, e, r) in

@@ -17,7 +17,7 @@ use Rattle.flat_code.specs.declared.programs.Param.{Param}
 use Rattle.flat_code.specs.Instr.{Passing}
 use Rattle.flat_code.specs.Loading.{Verifies}
 use Rattle.flat_code.specs.Programs.{CodeBlock, Program}
-use Rattle.image_file.specs.Readers.{block_of}
+use Rattle.image_file.specs.Readers.{block_by_id}
 use Rattle.machine.specs.Bindings.{bindings_of}
 use Rattle.machine.specs.Code.{Head}
 use Rattle.machine.specs.Entering.{Stops, call, called_with, caller_at, di_of, entered_if, fresh as fresh_frame, going_on, supplied}
@@ -98,7 +98,7 @@ instance_open kinds.Sfc h m (Some number) is = absurd is
 instance_open kinds.Udt h m (Some number) is = absurd is
 
 pub head_there :
-    (p : Program) (block : BlockId) (b : CodeBlock) → block_of block p.code_blocks ≡ Some b
+    (p : Program) (block : BlockId) (b : CodeBlock) → block_by_id block p.code_blocks ≡ Some b
     → (code_of p).head block ≡ Some (head_of b)
 head_there p block b found = rw found refl
 
@@ -114,7 +114,7 @@ caller a next = record a.running.frame { at = next }
 
 entered_fits :
     (l : ImageLaws) (p : Program) (m : Areas) (a : Activation) (next : ℕ) (block : BlockId) (b : CodeBlock) (o : Option ℕ)
-    (bs : List Binding) → Caller p m a next → block_of block p.code_blocks ≡ Some b
+    (bs : List Binding) → Caller p m a next → block_by_id block p.code_blocks ≡ Some b
     → AreBound block.kind b.params (caller a next ∷ a.below) m bs → HasInstance block.kind (head_of b) m o
     → FitsProgram p m (block_entered (fresh_frame (callee_of block o (head_of b)) bs a.running.frame) (caller_at next a))
 entered_fits l p m a next block b o bs h found bound instance =
@@ -168,7 +168,7 @@ stops_told p a w next LocalFull = inr refl
 
 called_lasts :
     (l : ImageLaws) (p : Program) (a : Activation) (w : World) (next : ℕ) (block : BlockId) (b : CodeBlock) (o : Option ℕ)
-    (r : Result (List Binding) ℕ) → Caller p w.memory a next → block_of block p.code_blocks ≡ Some b → IfTold r
+    (r : Result (List Binding) ℕ) → Caller p w.memory a next → block_by_id block p.code_blocks ≡ Some b → IfTold r
     → IfDone (AreBound block.kind b.params (caller a next ∷ a.below) w.memory) r → HasInstance block.kind (head_of b) w.memory o
     → Lasts p w (after_call (called_with r (callee_of block o (head_of b)) next a w.memory) next a w)
 called_lasts l p a w next block b o (Err code) h found told bound instance =
@@ -198,7 +198,7 @@ block_bound ps frames m xs (Err e) h = tt
 
 -- what the caller's frame has bound fits its own block
 pub own_bound :
-    (p : Program) (m : Areas) (a : Activation) (b : CodeBlock) → block_of a.running.frame.block p.code_blocks ≡ Some b
+    (p : Program) (m : Areas) (a : Activation) (b : CodeBlock) → block_by_id a.running.frame.block p.code_blocks ≡ Some b
     → FitsProgram p m a → AreBound a.running.frame.block.kind b.params a.below m a.running.frame.bindings
 own_bound p m a b found h =
     let was = stands_of (code_of p) (open_codes p) m a h.fits in
@@ -206,7 +206,7 @@ own_bound p m a b found h =
 
 pub caller_binds :
     (p : Program) (m : Areas) (a : Activation) (own : CodeBlock) (ps : List Param) (next : ℕ) (xs : List Passing)
-    → block_of a.running.frame.block p.code_blocks ≡ Some own → FitsProgram p m a
+    → block_by_id a.running.frame.block p.code_blocks ≡ Some own → FitsProgram p m a
     → PassingsFit a.running.frame.block.kind own.params ps xs
     → IfDone (Bindings ps (caller a next ∷ a.below) m xs) (bindings_of ps xs (local_of a.running) m)
 caller_binds p m a own ps next xs found h fits =
@@ -217,15 +217,15 @@ caller_binds p m a own ps next xs found h fits =
 
 pub caller_told :
     (p : Program) (m : Areas) (a : Activation) (own : CodeBlock) (ps : List Param) (xs : List Passing)
-    → block_of a.running.frame.block p.code_blocks ≡ Some own → FitsProgram p m a
+    → block_by_id a.running.frame.block p.code_blocks ≡ Some own → FitsProgram p m a
     → PassingsFit a.running.frame.block.kind own.params ps xs → IfTold (bindings_of ps xs (local_of a.running) m)
 caller_told p m a own ps xs found h fits =
     call_told a.running.frame.block.kind own.params ps a.below (local_of a.running) m xs (own_bound p m a own found h) fits
 
 pub function_lasts :
     (l : ImageLaws) (p : Program) (a : Activation) (w : World) (next number : ℕ) (own b : CodeBlock) (xs : List Passing)
-    → Caller p w.memory a next → block_of a.running.frame.block p.code_blocks ≡ Some own
-    → block_of (record { kind = kinds.Fc; number = number }) p.code_blocks ≡ Some b
+    → Caller p w.memory a next → block_by_id a.running.frame.block p.code_blocks ≡ Some own
+    → block_by_id (record { kind = kinds.Fc; number = number }) p.code_blocks ≡ Some b
     → PassingsFit a.running.frame.block.kind own.params b.params xs
     → ((i : ℕ) (q : Param) → slice_get b.params i ≡ Some q → is_among i xs ≡ true)
     → Lasts p w (block_called (Some (head_of b)) (record { kind = kinds.Fc; number = number }) None xs next a w)
@@ -238,8 +238,8 @@ function_lasts l p a w next number own b xs h own_is found fits each =
 
 pub function_block_lasts :
     (l : ImageLaws) (p : Program) (a : Activation) (w : World) (next number : ℕ) (own b : CodeBlock) (o : Option ℕ) (xs : List Passing)
-    → Caller p w.memory a next → block_of a.running.frame.block p.code_blocks ≡ Some own
-    → block_of (record { kind = kinds.Fb; number = number }) p.code_blocks ≡ Some b
+    → Caller p w.memory a next → block_by_id a.running.frame.block p.code_blocks ≡ Some own
+    → block_by_id (record { kind = kinds.Fb; number = number }) p.code_blocks ≡ Some b
     → PassingsFit a.running.frame.block.kind own.params b.params xs → HasInstance kinds.Fb (head_of b) w.memory o
     → Lasts p w (block_called (Some (head_of b)) (record { kind = kinds.Fb; number = number }) o xs next a w)
 unfolding call

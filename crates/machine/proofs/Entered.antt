@@ -29,7 +29,7 @@ use Rattle.flat_code.specs.Ops.{OpData, is_op}
 use Rattle.flat_code.specs.Placed.{Placed, last_op}
 use Rattle.flat_code.specs.Programs.{CodeBlock, DataBlock, Program}
 use Rattle.flat_code.specs.Table.{admits, takes_of}
-use Rattle.image_file.specs.Verified.{IsOp, HasParam, FitsPassed, FitsPrepared, signatures}
+use Rattle.image_file.specs.Verified.{IsVerifiedOp, HasParam, FitsPassed, FitsPrepared, block_signatures}
 use Rattle.machine.specs.Flat.{passings_of, with_passing, numbered_bytes}
 use Rattle.machine.specs.Fitting.{SameSizes, IsLong, len_in}
 use Rattle.machine.specs.ImageLaws.{ImageLaws}
@@ -170,8 +170,8 @@ literal_of code index value actual right is =
 
 op_passing :
     (l : ImageLaws) (p : Program) (b : CodeBlock) (ps : List Param) (kind number instance : ℕ) (called : Callee) (last : OpData)
-    (q : Placed) (index : ℕ) (actual : Passed) → AreParams ps called.2 → callee (signatures p) kind number ≡ Some called
-    → last.operand ≡ operand.Called kind number instance → IsOp p b q → last_op q ≡ last
+    (q : Placed) (index : ℕ) (actual : Passed) → AreParams ps called.2 → callee (block_signatures p) kind number ≡ Some called
+    → last.operand ≡ operand.Called kind number instance → IsVerifiedOp p b q → last_op q ≡ last
     → q.op.operand ≡ operand.Pass index actual
     → (x : Param) × (slice_get ps index ≡ Some x) × FitsActual b.id.kind b.params x actual
 op_passing l p b ps kind number instance called last q index actual params there calls h ends is =
@@ -183,7 +183,7 @@ op_passing l p b ps kind number instance called last q index actual params there
 
 pub passings_fit :
     (l : ImageLaws) (p : Program) (b : CodeBlock) (ps : List Param) (kind number instance : ℕ) (called : Callee) (last : OpData)
-    (ops : List OpData) → AreParams ps called.2 → callee (signatures p) kind number ≡ Some called
+    (ops : List OpData) → AreParams ps called.2 → callee (block_signatures p) kind number ≡ Some called
     → last.operand ≡ operand.Called kind number instance → AllBefore p b last ops
     → PassingsFit b.id.kind b.params ps (passings_of ops)
 passings_fit l p b ps kind number instance called last [] params there calls all = tt

@@ -49,8 +49,8 @@ use Rattle.flat_code.specs.Programs.{CodeBlock, Program}
 use Rattle.flat_code.specs.Records.{section_in}
 use Rattle.flat_code.specs.Table.{admits, is_jump, takes_of, takes_of_operation}
 use Rattle.flat_code.specs.Operations.{operation_of}
-use Rattle.image_file.specs.Readers.{same_id, block_of}
-use Rattle.image_file.specs.Verified.{FitsCall, FitsOperand, FitsPrepared, signatures}
+use Rattle.image_file.specs.Readers.{is_same_id, block_by_id}
+use Rattle.image_file.specs.Verified.{FitsCall, FitsOperand, FitsPrepared, block_signatures}
 use Rattle.machine.specs.DataBlocks.{is_loaded}
 use Rattle.machine.specs.Effect.{on_local, effect, with_db, effect_with}
 use Rattle.machine.specs.Entering.{going_on}
@@ -409,11 +409,11 @@ kinds_same kinds.Udt kinds.Fb e = absurd (omega (arith, e))
 kinds_same kinds.Udt kinds.Db e = absurd (omega (arith, e))
 kinds_same kinds.Udt kinds.Sfc e = absurd (omega (arith, e))
 
-pub kind_found : (bs : List CodeBlock) (id : BlockId) (b : CodeBlock) → block_of id bs ≡ Some b → b.id.kind ≡ id.kind
+pub kind_found : (bs : List CodeBlock) (id : BlockId) (b : CodeBlock) → block_by_id id bs ≡ Some b → b.id.kind ≡ id.kind
 kind_found [] id b found = absurd cc
-kind_found (c ∷ bs) id b found = by (same_id c.id id) refl found (λ e. kind_found bs id b e)
+kind_found (c ∷ bs) id b found = by (is_same_id c.id id) refl found (λ e. kind_found bs id b e)
   where
-    by : (t : Bool) → same_id c.id id ≡ t → cond t (Some c) (block_of id bs) ≡ Some b → (block_of id bs ≡ Some b → b.id.kind ≡ id.kind) → b.id.kind ≡ id.kind
+    by : (t : Bool) → is_same_id c.id id ≡ t → cond t (Some c) (block_by_id id bs) ≡ Some b → (block_by_id id bs ≡ Some b → b.id.kind ≡ id.kind) → b.id.kind ≡ id.kind
     by true same e more =
         let parts = and_parts (eqb (kind_order c.id.kind) (kind_order id.kind)) (eqb c.id.number id.number) same in
         ap (λ (z : CodeBlock). z.id.kind) (sym (same_Some c b e)) ∙ kinds_same c.id.kind id.kind (eqb-true (kind_order c.id.kind) (kind_order id.kind) parts.0)
@@ -532,7 +532,7 @@ function_found : (o : Option (List ParameterRecord)) (called : Callee) → optio
 function_found (Some rs) called e = (rs, refl, sym (same_Some (5, 0, rs) called e))
 function_found None called e = absurd cc
 
-is_function : (p : Program) (number : ℕ) (called : Callee) → callee (signatures p) 5 number ≡ Some called → IsFunction number called
+is_function : (p : Program) (number : ℕ) (called : Callee) → callee (block_signatures p) 5 number ≡ Some called → IsFunction number called
 unfolding callee
 is_function p number called e = let r = function_found (system_params number) called e in record { records = r.0; is = r.1; same = r.2 }
 

@@ -26,8 +26,8 @@ use Rattle.flat_code.specs.declared.operands.Operand.TheVariants as operand
 use Rattle.flat_code.specs.declared.operations.CallOperation.{CallOperation}
 use Rattle.flat_code.specs.declared.operations.Operation.{Operation}
 use Rattle.flat_code.specs.declared.operations.Operation.TheVariants as operation
-use Rattle.image_file.specs.Readers.{block_of}
-use Rattle.image_file.specs.Verified.{place_at, IsOp, IsRead, OpsArePlaced, OpsAreOfTable, FitsCall, CallsFit, IsCalled, CalledAreThere, signatures}
+use Rattle.image_file.specs.Readers.{block_by_id}
+use Rattle.image_file.specs.Verified.{placed_at, IsVerifiedOp, IsReaderOp, OpsArePlaced, OpsAreOfTable, FitsCall, CallsFit, IsCalledBlock, CalledAreThere, block_signatures}
 use Rattle.machine.specs.Code.{Code, Head}
 use Rattle.machine.specs.Fitting.{OpenCodes, FrameFits, FramesFit, FitsBlock, Fits}
 use Rattle.flat_code.specs.Forms.{is_callable, kind_of_code, payload_fits}
@@ -85,29 +85,29 @@ There p number kind = is_callee (code_of p) (record { kind = kind; number = numb
 
 head_there :
     (p : Program) (number : ℕ) (found kind : BlockKind) (b : CodeBlock) → found ≡ kind
-    → block_of (record { kind = found; number = number }) p.code_blocks ≡ Some b
-    → is_some (option_map head_of (block_of (record { kind = kind; number = number }) p.code_blocks)) ≡ true
+    → block_by_id (record { kind = found; number = number }) p.code_blocks ≡ Some b
+    → is_some (option_map head_of (block_by_id (record { kind = kind; number = number }) p.code_blocks)) ≡ true
 head_there p number found kind b e h = rw (sym e) (rw h refl)
 
 fc_there :
     (p : Program) (kind number : ℕ) (called : Callee) → CalledAreThere → kind ≡ 2
-    → callee (signatures p) kind number ≡ Some called → There p number kinds.Fc
+    → callee (block_signatures p) kind number ≡ Some called → There p number kinds.Fc
 fc_there p kind number called law e h =
-    let is : IsCalled p kind number called = law p kind number called (inl e) h
+    let is : IsCalledBlock p kind number called = law p kind number called (inl e) h
     in let same : kind_of_number kind ≡ kinds.Fc = rw e refl
     in head_there p number (kind_of_number kind) kinds.Fc is.block same is.there
 
 fb_there :
     (p : Program) (kind number : ℕ) (called : Callee) → CalledAreThere → kind ≡ 3
-    → callee (signatures p) kind number ≡ Some called → There p number kinds.Fb
+    → callee (block_signatures p) kind number ≡ Some called → There p number kinds.Fb
 fb_there p kind number called law e h =
-    let is : IsCalled p kind number called = law p kind number called (inr e) h
+    let is : IsCalledBlock p kind number called = law p kind number called (inr e) h
     in let same : kind_of_number kind ≡ kinds.Fb = rw e refl
     in head_there p number (kind_of_number kind) kinds.Fb is.block same is.there
 
 sfc_there :
     (p : Program) (kind number : ℕ) (called : Callee) → kind ≡ 5
-    → callee (signatures p) kind number ≡ Some called → There p number kinds.Sfc
+    → callee (block_signatures p) kind number ≡ Some called → There p number kinds.Sfc
 unfolding callee
 sfc_there p kind number called e h =
     some_below (system_params number) (λ params. (5, 0, params)) (map param_of) called (rw e at h)
@@ -128,7 +128,7 @@ callable_kind kind h = grind (arith, nat_tests, h)
 
 called_there :
     (p : Program) (kind number : ℕ) (called : Callee) (k : BlockKind) → IsCallable kind → CalledAreThere
-    → callee (signatures p) kind number ≡ Some called → kind_of_code kind ≡ Some k → There p number k
+    → callee (block_signatures p) kind number ≡ Some called → kind_of_code kind ≡ Some k → There p number k
 called_there p kind number called k (inl e) law h is =
     rw (sym (same_Some kinds.Fc k (sym (ap kind_of_code e) ∙ is))) (fc_there p kind number called law e h)
 called_there p kind number called k (inr (inl e)) law h is =
@@ -143,12 +143,12 @@ CallsThere p b o =
 
 last_calls :
     (p : Program) (own : BlockId) (b : CodeBlock) (from next : ℕ) (op : OpData) → Verifies p → OpsArePlaced → OpsAreOfTable → CallsFit
-    → CalledAreThere → block_of own p.code_blocks ≡ Some b → op_placed 0 b.code from ≡ Some (op, next)
+    → CalledAreThere → block_by_id own p.code_blocks ≡ Some b → op_placed 0 b.code from ≡ Some (op, next)
     → CallsThere p b op.operand
 last_calls p own b from next op verifies placed_law table_law calls_law called_law block placed kind number instance k o is =
-    let read : IsRead b.code from op next = placed_law b.code from op next placed
-    in let there : place_at read.here.at (places b.code) ≡ Some read.here = ap (λ z. place_at z (places b.code)) read.offset ∙ read.place
-    in let isop : IsOp p b read.here = record { verifies = verifies; id = own; block = block; place = there }
+    let read : IsReaderOp b.code from op next = placed_law b.code from op next placed
+    in let there : placed_at read.here.at (places b.code) ≡ Some read.here = ap (λ z. placed_at z (places b.code)) read.offset ∙ read.place
+    in let isop : IsVerifiedOp p b read.here = record { verifies = verifies; id = own; block = block; place = there }
     in let fit : FitsCall p read.here kind number instance =
     calls_law p b read.here kind number instance isop (ap (λ (z : OpData). z.operand) read.op_is ∙ o)
     in let right : is_op read.here.op.code (operand.Called kind number instance) ≡ true =
@@ -254,7 +254,7 @@ with_line p b own (Some line) (Some r) calls head there =
 
 at_block :
     (p : Program) (own : BlockId) (at : ℕ) (found : Option CodeBlock) → Verifies p → OpsArePlaced → OpsAreOfTable → CallsFit
-    → CalledAreThere → block_of own p.code_blocks ≡ found
+    → CalledAreThere → block_by_id own p.code_blocks ≡ found
     → is_some (option_map head_of found) ≡ true
     → is_some (option_and_then (λ b. statement_at b at) found) ≡ true
     → is_complete (code_of p) (option_and_then (λ b. statement_at b at) found) own ≡ true
@@ -281,7 +281,7 @@ frame_goes p brackets m a w verifies placed_law table_law calls_law called_law f
     let own : BlockId = a.running.frame.block
     in let at : ℕ = a.running.frame.at
     in fetched_goes (code_of p) ((code_of p).fetch own at) a w
-    (at_block p own at (block_of own p.code_blocks) verifies placed_law table_law calls_law called_law refl
+    (at_block p own at (block_by_id own p.code_blocks) verifies placed_law table_law calls_law called_law refl
     (block_there ((code_of p).head own) a.running.frame a.below m fits.block) fits.statement)
 
 innermost_fits :

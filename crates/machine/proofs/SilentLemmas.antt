@@ -12,7 +12,7 @@ use Rattle.frames.specs.declared.FrameFault.{FrameFault}
 use Rattle.flat_code.specs.Instr.{Instr, Does, Jumps, JumpsByList, Calls, Returns, Passing}
 use Rattle.flat_code.specs.Programs.{CodeBlock, Program}
 use Rattle.flat_code.specs.declared.programs.Param.{Param}
-use Rattle.image_file.specs.Readers.{block_of}
+use Rattle.image_file.specs.Readers.{block_by_id}
 use Rattle.machine.specs.declared.outcomes.Outcome.{Outcome}
 use Rattle.machine.specs.declared.outcomes.Outcome.TheVariants as outcome
 use Rattle.machine.specs.Code.{Code, Fetched, Head}
@@ -203,19 +203,19 @@ performed_silently c f a b w v answer passed other quiet there h same =
 
 statement_is :
     (p : Program) (b : CodeBlock) (f : Fetched) (a : Activation) (w : World)
-    → block_of a.running.frame.block p.code_blocks ≡ Some b → statement_at b a.running.frame.at ≡ Some f
+    → block_by_id a.running.frame.block p.code_blocks ≡ Some b → statement_at b a.running.frame.at ≡ Some f
     → statement (code_of p) a w ≡ step_of (code_of p) f.instr f.next a w
 unfolding statement
 statement_is p b f a w is found = rw (is, found) refl
 
 statement_in :
-    (p : Program) (b : CodeBlock) (a : Activation) (w : World) → block_of a.running.frame.block p.code_blocks ≡ Some b
+    (p : Program) (b : CodeBlock) (a : Activation) (w : World) → block_by_id a.running.frame.block p.code_blocks ≡ Some b
     → statement (code_of p) a w ≡ step_found (code_of p) (statement_at b a.running.frame.at) a w
 unfolding statement
 statement_in p b a w is = rw is refl
 
 pub there_of :
-    (p : Program) (b : CodeBlock) (a : Activation) (w : World) → block_of a.running.frame.block p.code_blocks ≡ Some b
+    (p : Program) (b : CodeBlock) (a : Activation) (w : World) → block_by_id a.running.frame.block p.code_blocks ≡ Some b
     → IsReady p a → is_some (statement_at b a.running.frame.at) ≡ true
 there_of p b a w is ready =
     goes_there (code_of p) (statement_at b a.running.frame.at) a w (subst IsNotStuck (statement_in p b a w is) (ready.there w))
@@ -223,7 +223,7 @@ there_of p b a w is ready =
 -- so it has what it needs
 pub performs_there :
     (p : Program) (b : CodeBlock) (f : Fetched) (a : Activation) (w : World)
-    → block_of a.running.frame.block p.code_blocks ≡ Some b → statement_at b a.running.frame.at ≡ Some f → IsReady p a
+    → block_by_id a.running.frame.block p.code_blocks ≡ Some b → statement_at b a.running.frame.at ≡ Some f → IsReady p a
     → IsNotStuck (step_of (code_of p) f.instr f.next a w)
 performs_there p b f a w is found ready =
     subst IsNotStuck (statement_is p b f a w is found) (ready.there w)
@@ -232,7 +232,7 @@ performs_there p b f a w is found ready =
 pub found_passes :
     (p : Program) (b : CodeBlock) (a : Activation) (w : World) (walk there : Walk) → there ≡ walk
     → Some walk ≡ option_map (walk_with None) (run_at most_ops b.code a.running.frame.at)
-    → block_of a.running.frame.block p.code_blocks ≡ Some b → IsReady p a
+    → block_by_id a.running.frame.block p.code_blocks ≡ Some b → IsReady p a
     → statement_at b a.running.frame.at ≡ Some (fetched_at b a.running.frame.at there)
 found_passes p b a w walk there same h is ready =
     found_there b a.running.frame.at walk there same (there_of p b a w is ready) h
@@ -240,7 +240,7 @@ found_passes p b a w walk there same h is ready =
 -- and what came of its instruction came of it
 pub statement_passed :
     (p : Program) (b : CodeBlock) (f : Fetched) (a c : Activation) (w v : World) (answer : Bool)
-    → block_of a.running.frame.block p.code_blocks ≡ Some b → statement_at b a.running.frame.at ≡ Some f
+    → block_by_id a.running.frame.block p.code_blocks ≡ Some b → statement_at b a.running.frame.at ≡ Some f
     → GoesOrStays (step_of (code_of p) f.instr f.next a w) (is_silent f.instr a) a c w v answer
     → GoesOrStays (statement (code_of p) a w) (is_next is_silent (code_of p) a) a c w v answer
 unfolding statement
@@ -291,5 +291,5 @@ stops_at code kind a b w v false is goes = rw (goes.0, goes.1) goes.2
 
 pub stops_nowhere :
     (p : Program) (kind : Instr → Activation → Bool) (a : Activation) (w : World)
-    → block_of a.running.frame.block p.code_blocks ≡ None → goes_as kind (code_of p) a w ≡ false
+    → block_by_id a.running.frame.block p.code_blocks ≡ None → goes_as kind (code_of p) a w ≡ false
 stops_nowhere p kind a w none = rw none refl

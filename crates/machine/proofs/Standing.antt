@@ -17,8 +17,8 @@ use Rattle.flat_code.specs.declared.operands.Operand.TheVariants as operand
 use Rattle.flat_code.specs.Placed.{Placed, placed, places, op_placed, line_placed, begins, is_empty, opened, zones_behind, before_next, ending, last_op}
 use Rattle.flat_code.specs.Programs.{CodeBlock, Program}
 use Rattle.flat_code.specs.Operations.{operation_of}
-use Rattle.image_file.specs.Readers.{block_of}
-use Rattle.image_file.specs.Verified.{place_at, IsOp, Next}
+use Rattle.image_file.specs.Readers.{block_by_id}
+use Rattle.image_file.specs.Verified.{placed_at, IsVerifiedOp, HasNext}
 use Rattle.machine.specs.Flat.{Run, run_at, with_op, most_ops, fetched_of, statement_at, code_of}
 use Rattle.machine.specs.ImageLaws.{ImageLaws}
 use Rattle.machine.specs.Fitting.{OpenAt}
@@ -28,7 +28,7 @@ use Rattle.machine.proofs.OpenBehind.{same_open, prepared_same, prepared_zones, 
 
 -- ---- ops in their places
 
-pub op_here : (from : ℕ) (brackets : List OpenBracket) (zones : List ℕ) (before ops : List OpData) (at : ℕ) (q : Placed) → place_at at (placed from brackets zones before ops) ≡ Some q → op_placed from ops at ≡ Some (q.op, q.at + size q.op)
+pub op_here : (from : ℕ) (brackets : List OpenBracket) (zones : List ℕ) (before ops : List OpData) (at : ℕ) (q : Placed) → placed_at at (placed from brackets zones before ops) ≡ Some q → op_placed from ops at ≡ Some (q.op, q.at + size q.op)
 op_here from brackets zones before [] at q found = absurd cc
 op_here from brackets zones before (o ∷ ops) at q found =
     by (eqb from at) found
@@ -38,26 +38,26 @@ op_here from brackets zones before (o ∷ ops) at q found =
     here = record { at = from; brackets = brackets; zones = zones; before = before; op = o; rest = ops }
 
     behind : Option Placed
-    behind = place_at at (placed (from + size o) (opened from o.code brackets) (zones_behind from o.code zones) (before_next o before) ops)
+    behind = placed_at at (placed (from + size o) (opened from o.code brackets) (zones_behind from o.code zones) (before_next o before) ops)
 
     by : (t : Bool) → cond t (Some here) behind ≡ Some q → (behind ≡ Some q → op_placed (from + size o) ops at ≡ Some (q.op, q.at + size q.op)) → cond t (Some (o, from + size o)) (op_placed (from + size o) ops at) ≡ Some (q.op, q.at + size q.op)
     by true e more = ap (λ (z : Placed). Some (z.op, z.at + size z.op)) (same_Some here q e)
     by false e more = more e
 
-pub next_op : (l : ImageLaws) (p : Program) (b : CodeBlock) (q : Placed) (op : OpData) (rest : List OpData) → IsOp p b q → q.rest ≡ op ∷ rest → IsOp p b (behind_op q op rest)
+pub next_op : (l : ImageLaws) (p : Program) (b : CodeBlock) (q : Placed) (op : OpData) (rest : List OpData) → IsVerifiedOp p b q → q.rest ≡ op ∷ rest → IsVerifiedOp p b (behind_op q op rest)
 next_op l p b q op rest h is = record {
   verifies = h.verifies;
   id = h.id;
   block = h.block;
-  place = subst (λ (z : List OpData). Next b q z) is (l.goes_on p b q h);
+  place = subst (λ (z : List OpData). HasNext b q z) is (l.goes_on p b q h);
 }
 
-pub last_ends : (l : ImageLaws) (p : Program) (b : CodeBlock) (q : Placed) → IsOp p b q → q.rest ≡ [] → (q.op.code ≡ op_code (operation.End ends.Be)) × (q.op.last ≡ true)
-last_ends l p b q h is = let e = subst (λ (z : List OpData). Next b q z) is (l.goes_on p b q h) in (e.0, e.1)
+pub last_ends : (l : ImageLaws) (p : Program) (b : CodeBlock) (q : Placed) → IsVerifiedOp p b q → q.rest ≡ [] → (q.op.code ≡ op_code (operation.End ends.Be)) × (q.op.last ≡ true)
+last_ends l p b q h is = let e = subst (λ (z : List OpData). HasNext b q z) is (l.goes_on p b q h) in (e.0, e.1)
 
 -- ---- the run of a statement is there
 
-run_there : (l : ImageLaws) (p : Program) (b : CodeBlock) (most : ℕ) (q : Placed) → IsOp p b q → most + length q.before ≡ 64 → IsSome (run_at most b.code q.at)
+run_there : (l : ImageLaws) (p : Program) (b : CodeBlock) (most : ℕ) (q : Placed) → IsVerifiedOp p b q → most + length q.before ≡ 64 → IsSome (run_at most b.code q.at)
 unfolding run_at
 run_there l p b zero q h e = let few = (l.statements p b q h).few in absurd (omega (arith, e, few))
 run_there l p b (suc most) q h e =
@@ -88,11 +88,11 @@ run_there l p b (suc most) q h e =
 abbrev pub AllBefore : Program → CodeBlock → (last : OpData) → List OpData → Type 0
 AllBefore p b last [] = Unit {0}
 AllBefore p b last (op ∷ ops) =
-    ((q : Placed) × IsOp p b q × (q.op ≡ op) × (last_op q ≡ last)) × AllBefore p b last ops
+    ((q : Placed) × IsVerifiedOp p b q × (q.op ≡ op) × (last_op q ≡ last)) × AllBefore p b last ops
 
 pub record Ran (p : Program) (b : CodeBlock) (q : Placed) (r : Run) : Type 0 where
   pub last : Placed
-  pub op : IsOp p b last
+  pub op : IsVerifiedOp p b last
   pub same : last.op ≡ r.last
   pub next : r.next ≡ last.at + size last.op
   pub ended : last.op.last ≡ true
@@ -109,7 +109,7 @@ pub ends_here : (op : OpData) (rest : List OpData) → op.last ≡ true → endi
 ends_here op [] is = refl
 ends_here op (n ∷ rest) is = rw is refl
 
-pub run_is : (l : ImageLaws) (p : Program) (b : CodeBlock) (most : ℕ) (q : Placed) (r : Run) → IsOp p b q → run_at most b.code q.at ≡ Some r → Ran p b q r
+pub run_is : (l : ImageLaws) (p : Program) (b : CodeBlock) (most : ℕ) (q : Placed) (r : Run) → IsVerifiedOp p b q → run_at most b.code q.at ≡ Some r → Ran p b q r
 unfolding run_at
 run_is l p b zero q r h e = absurd cc
 run_is l p b (suc most) q r h e =
@@ -176,8 +176,8 @@ run_is l p b (suc most) q r h e =
 pub record Stood (p : Program) (block : BlockId) (at : ℕ) (held : OpenAt) : Type 0 where
   pub b : CodeBlock
   pub q : Placed
-  pub found : block_of block p.code_blocks ≡ Some b
-  pub op : IsOp p b q
+  pub found : block_by_id block p.code_blocks ≡ Some b
+  pub op : IsVerifiedOp p b q
   pub offset : q.at ≡ at
   pub begun : begins q ≡ true
   pub same : open_at q ≡ held
@@ -225,23 +225,23 @@ pub opens_there :
     (p : Program) (block : BlockId) (at : ℕ) (held : OpenAt) → Stood p block at held
     → open_codes p block at ≡ Some held
 opens_there p block at held s =
-    let place : place_at at (places s.b.code) ≡ Some s.q = ap (λ (k : ℕ). place_at k (places s.b.code)) (sym s.offset) ∙ s.op.place in
+    let place : placed_at at (places s.b.code) ≡ Some s.q = ap (λ (k : ℕ). placed_at k (places s.b.code)) (sym s.offset) ∙ s.op.place in
     rw (s.found, place, s.begun) (ap (λ (z : OpenAt). Some z) s.same)
 
-place_offset : (qs : List Placed) (at : ℕ) (q : Placed) → place_at at qs ≡ Some q → q.at ≡ at
+place_offset : (qs : List Placed) (at : ℕ) (q : Placed) → placed_at at qs ≡ Some q → q.at ≡ at
 place_offset [] at q found = absurd cc
 place_offset (p ∷ qs) at q found = by (eqb p.at at) refl found (λ e. place_offset qs at q e)
   where
-    by : (t : Bool) → eqb p.at at ≡ t → cond t (Some p) (place_at at qs) ≡ Some q → (place_at at qs ≡ Some q → q.at ≡ at) → q.at ≡ at
+    by : (t : Bool) → eqb p.at at ≡ t → cond t (Some p) (placed_at at qs) ≡ Some q → (placed_at at qs ≡ Some q → q.at ≡ at) → q.at ≡ at
     by true is e more = sym (ap (λ (z : Placed). z.at) (same_Some p q e)) ∙ eqb-true p.at at is
     by false is e more = more e
 
 pub stood_there :
     (p : Program) (block : BlockId) (at : ℕ) (held : OpenAt) → Verifies p → open_codes p block at ≡ Some held
     → Stood p block at held
-stood_there p block at held verifies h = by_block (block_of block p.code_blocks) refl h
+stood_there p block at held verifies h = by_block (block_by_id block p.code_blocks) refl h
   where
-    begun : (b : CodeBlock) (q : Placed) (t : Bool) → block_of block p.code_blocks ≡ Some b → place_at at (places b.code) ≡ Some q → begins q ≡ t
+    begun : (b : CodeBlock) (q : Placed) (t : Bool) → block_by_id block p.code_blocks ≡ Some b → placed_at at (places b.code) ≡ Some q → begins q ≡ t
         → cond t (Some (open_at q)) None ≡ Some held → Stood p block at held
     begun b q true found place is e =
         let offset = place_offset (places b.code) at q place in
@@ -253,7 +253,7 @@ stood_there p block at held verifies h = by_block (block_of block p.code_blocks)
             verifies = verifies;
             id = block;
             block = found;
-            place = ap (λ (k : ℕ). place_at k (places b.code)) offset ∙ place;
+            place = ap (λ (k : ℕ). placed_at k (places b.code)) offset ∙ place;
           };
           offset = offset;
           begun = is;
@@ -261,13 +261,13 @@ stood_there p block at held verifies h = by_block (block_of block p.code_blocks)
         }
     begun b q false found place is e = absurd cc
 
-    by_place : (b : CodeBlock) (o : Option Placed) → block_of block p.code_blocks ≡ Some b → place_at at (places b.code) ≡ o → open_before o ≡ Some held → Stood p block at held
+    by_place : (b : CodeBlock) (o : Option Placed) → block_by_id block p.code_blocks ≡ Some b → placed_at at (places b.code) ≡ o → open_before o ≡ Some held → Stood p block at held
     by_place b None found place e = absurd cc
     by_place b (Some q) found place e = begun b q (begins q) found place refl e
 
-    by_block : (o : Option CodeBlock) → block_of block p.code_blocks ≡ o → option_and_then (λ b. open_in b at) o ≡ Some held → Stood p block at held
+    by_block : (o : Option CodeBlock) → block_by_id block p.code_blocks ≡ o → option_and_then (λ b. open_in b at) o ≡ Some held → Stood p block at held
     by_block None found e = absurd cc
-    by_block (Some b) found e = by_place b (place_at at (places b.code)) found refl e
+    by_block (Some b) found e = by_place b (placed_at at (places b.code)) found refl e
 
 -- ---- where a statement leads
 
@@ -303,7 +303,7 @@ target_stood l p block at held s kind target is =
         verifies = s.ran.op.verifies;
         id = s.ran.op.id;
         block = s.ran.op.block;
-        place = ap (λ (k : ℕ). place_at k (places s.stood.b.code)) lands.offset ∙ lands.place;
+        place = ap (λ (k : ℕ). placed_at k (places s.stood.b.code)) lands.offset ∙ lands.place;
       };
       offset = lands.offset;
       begun = lands.statement;
@@ -317,7 +317,7 @@ abbrev pub nothing_open : OpenAt
 nothing_open = record { codes = []; zones = 0 }
 
 pub entry_stood :
-    (l : ImageLaws) (p : Program) (block : BlockId) (b : CodeBlock) → Verifies p → block_of block p.code_blocks ≡ Some b
+    (l : ImageLaws) (p : Program) (block : BlockId) (b : CodeBlock) → Verifies p → block_by_id block p.code_blocks ≡ Some b
     → Stood p block 0 nothing_open
 entry_stood l p block b verifies found =
     let begun = (l.blocks p b block verifies found).begins in
@@ -329,7 +329,7 @@ entry_stood l p block b verifies found =
         verifies = verifies;
         id = block;
         block = found;
-        place = ap (λ (k : ℕ). place_at k (places b.code)) begun.offset ∙ begun.place;
+        place = ap (λ (k : ℕ). placed_at k (places b.code)) begun.offset ∙ begun.place;
       };
       offset = begun.offset;
       begun = begun.statement;

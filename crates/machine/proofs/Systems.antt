@@ -28,7 +28,7 @@ use Rattle.frames.specs.declared.frame.Frame.{Frame}
 use Rattle.flat_code.specs.declared.programs.Param.{Param}
 use Rattle.flat_code.specs.Instr.{Passing}
 use Rattle.flat_code.specs.Programs.{CodeBlock, Program}
-use Rattle.image_file.specs.Readers.{block_of}
+use Rattle.image_file.specs.Readers.{block_by_id}
 use Rattle.machine.specs.declared.places.Location.{Location}
 use Rattle.machine.specs.Bindings.{bindings_of}
 use Rattle.machine.specs.Entering.{at_block, going_on}
@@ -235,7 +235,7 @@ system_lasts l p a w next number ps (Ok bs) h known told bound =
 
 pub function_called_lasts :
     (l : ImageLaws) (p : Program) (a : Activation) (w : World) (next number : ℕ) (own : CodeBlock) (ps : List Param) (xs : List Passing)
-    → Caller p w.memory a next → system_function number ≡ Some ps → block_of a.running.frame.block p.code_blocks ≡ Some own
+    → Caller p w.memory a next → system_function number ≡ Some ps → block_by_id a.running.frame.block p.code_blocks ≡ Some own
     → PassingsFit a.running.frame.block.kind own.params ps xs
     → ((i : ℕ) (q : Param) → slice_get ps i ≡ Some q → is_among i xs ≡ true)
     → Lasts p w (system_called (Some ps) number xs next a w)

@@ -17,7 +17,7 @@ use Rattle.flat_code.specs.declared.operands.Operand.TheVariants as operand
 use Rattle.flat_code.specs.declared.operations.CallOperation.{CallOperation}
 use Rattle.flat_code.specs.declared.operations.Operation.{Operation}
 use Rattle.flat_code.specs.declared.operations.Operation.TheVariants as operation
-use Rattle.image_file.specs.Readers.{block_of}
+use Rattle.image_file.specs.Readers.{block_by_id}
 use Rattle.machine.specs.Code.{Code, Fetched, Head}
 
 -- the ops of a statement: those that prepare, the last one, and the offset behind it
@@ -148,7 +148,7 @@ numbered_bytes (d ∷ rest) = (d.number, d.bytes) ∷ numbered_bytes rest
 -- the code of a program
 abbrev pub code_of : Program → Code
 code_of p = record {
-  fetch = λ block at. option_and_then (λ b. statement_at b at) (block_of block p.code_blocks);
-  head = λ block. option_map head_of (block_of block p.code_blocks);
+  fetch = λ block at. option_and_then (λ b. statement_at b at) (block_by_id block p.code_blocks);
+  head = λ block. option_map head_of (block_by_id block p.code_blocks);
   blocks = numbered_bytes p.data_blocks;
 }

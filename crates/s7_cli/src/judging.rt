@@ -3,7 +3,7 @@ ghost use Rattle.var_access.specs.Entry.{IsValid};
 ghost use Rattle.flat_code.specs.Image.{image as image_of};
 ghost use Rattle.flat_code.specs.Loading.{faults_of};
 ghost use Rattle.flat_code.specs.declared.stamps.Stamp.TheVariants.{Two};
-ghost use Rattle.image_file.specs.Refusing.{IsRefusedBy};
+ghost use Rattle.image_file.specs.Refusing.{IsLoadError};
 ghost use Rattle.plc_base.specs.declared.Profile.TheVariants.{Large};
 ghost use Rattle.sem_kept.specs.Agreement.{names_read_in};
 ghost use Rattle.event_text.specs.Texts.{history_of};
@@ -98,7 +98,7 @@ pub fn judge(
 /// The program of an image, with its profile.
 pub(crate) fn loaded(alloc: Global, image: &[u8]) -> Result<Loaded, LoadError>
     ensures loads { IfOk result (λ l. LoadsAs image.now (Ok l)) }
-    ensures refused { IfErr result (λ e. IsRefusedBy e (faults_of image.now)) }
+    ensures refused { IfErr result (λ e. IsLoadError e (faults_of image.now)) }
 {
     image_file::laws::gives_exactly_images();
     load(alloc, image)

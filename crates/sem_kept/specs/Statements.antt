@@ -4,7 +4,7 @@ use Rattle.std.specs.List.{slice_get, AllByRecursion}
 use Rattle.std.specs.Option.{option_map, option_and_then}
 use Rattle.plc_base.specs.declared.blocks.BlockId.{BlockId}
 use Rattle.flat_code.specs.Programs.{DataBlock, NameEntry, Program}
-use Rattle.image_file.specs.Readers.{same_id}
+use Rattle.image_file.specs.Readers.{is_same_id}
 use Rattle.machine.specs.Code.{Code, Fetched, Head}
 use Rattle.machine.specs.Flat.{numbered_bytes, code_of}
 use Rattle.machine.specs.Moved.{Follows}
@@ -14,7 +14,7 @@ use Rattle.sem_kept.specs.Back.{AreCompiled}
 -- the first block of a kind and number
 abbrev pub stated_at : BlockId → List StatedBlock → Option StatedBlock
 stated_at id [] = None
-stated_at id (b ∷ bs) = if same_id b.id id then Some b else stated_at id bs
+stated_at id (b ∷ bs) = if is_same_id b.id id then Some b else stated_at id bs
 
 -- the statement of a number, with the next one behind it
 abbrev pub numbered : (n : ℕ) → Stated → Fetched

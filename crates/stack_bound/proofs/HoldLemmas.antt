@@ -8,7 +8,7 @@ use Rattle.flat_code.specs.Instr.{Calls, Passing}
 use Rattle.flat_code.specs.Loading.{Verifies}
 use Rattle.flat_code.specs.Programs.{CodeBlock, Program}
 use Rattle.flat_code.specs.declared.operations.CallOperation.{CallOperation}
-use Rattle.image_file.specs.Readers.{block_of}
+use Rattle.image_file.specs.Readers.{block_by_id}
 use Rattle.machine.specs.Code.{Fetched, Head}
 use Rattle.machine.specs.Flat.{code_of, head_of, statement_at}
 use Rattle.controller.specs.Beginning.{ob_block}
@@ -32,24 +32,24 @@ first_room z (Some b) within = (omega (arith, within.0), omega (arith, within.1)
 
 pub certified : (z : Profile) (p : Program) (c : List Bound) → Holds z p c → Certifies z (code_of p) c
 certified z p c holds = record {
-  obs = λ ob there. ob_by ob (block_of (ob_block ob) p.code_blocks) refl there;
-  own = λ block h found. own_by block h (block_of block p.code_blocks) refl found;
+  obs = λ ob there. ob_by ob (block_by_id (ob_block ob) p.code_blocks) refl there;
+  own = λ block h found. own_by block h (block_by_id block p.code_blocks) refl found;
   calls = λ block at f how called instance passings h d fetched is user found there.
-      calls_by block at f how called instance passings h d (block_of block p.code_blocks) refl
-      (block_of called p.code_blocks) refl fetched is found there;
+      calls_by block at f how called instance passings h d (block_by_id block p.code_blocks) refl
+      (block_by_id called p.code_blocks) refl fetched is found there;
 }
   where
-    ob_by : (ob : ℕ) (found : Option CodeBlock) → block_of (ob_block ob) p.code_blocks ≡ found
+    ob_by : (ob : ℕ) (found : Option CodeBlock) → block_by_id (ob_block ob) p.code_blocks ≡ found
         → IsSome (option_map head_of found) → RoomFor z (bound_of (ob_block ob) c) []
     ob_by ob None is there = absurd cc
     ob_by ob (Some b) is there =
         let same : b.id ≡ ob_block ob = found_id (ob_block ob) p.code_blocks b is in
         subst (λ (id : BlockId). RoomFor z (bound_of id c) []) same
-        (first_room z (bound_of b.id c) (holds.obs b (subst (λ (id : BlockId). block_of id p.code_blocks ≡ Some b) (sym same) is)
+        (first_room z (bound_of b.id c) (holds.obs b (subst (λ (id : BlockId). block_by_id id p.code_blocks ≡ Some b) (sym same) is)
         (ap (λ (id : BlockId). id.kind) same)))
 
     own_by : (block : BlockId) (h : Head) (found : Option CodeBlock)
-        → block_of block p.code_blocks ≡ found → option_map head_of found ≡ Some h
+        → block_by_id block p.code_blocks ≡ found → option_map head_of found ≡ Some h
         → CountsItself h.local_len (bound_of block c)
     own_by block h None is same = absurd cc
     own_by block h (Some b) is same =
@@ -58,8 +58,8 @@ certified z p c holds = record {
 
     calls_by : (block : BlockId) (at : ℕ) (f : Fetched) (how : CallOperation) (called : BlockId)
         (instance : Option ℕ) (passings : List Passing) (h d : Head)
-        (found : Option CodeBlock) → block_of block p.code_blocks ≡ found
-        → (there : Option CodeBlock) → block_of called p.code_blocks ≡ there
+        (found : Option CodeBlock) → block_by_id block p.code_blocks ≡ found
+        → (there : Option CodeBlock) → block_by_id called p.code_blocks ≡ there
         → option_and_then (λ b. statement_at b at) found ≡ Some f
         → f.instr ≡ Calls how called instance passings
         → option_map head_of found ≡ Some h → option_map head_of there ≡ Some d

@@ -17,7 +17,7 @@ use Rattle.plc_mem.specs.Areas.{Areas}
 use Rattle.plc_mem.specs.Fresh.{initial_memory}
 use Rattle.flat_code.specs.Programs.{DataBlock, Program}
 use Rattle.flat_code.specs.Loading.{Verifies}
-use Rattle.image_file.specs.Readers.{bytes_of}
+use Rattle.image_file.specs.Readers.{data_bytes_of}
 use Rattle.machine.specs.Fitting.{IsMemoryOf}
 use Rattle.machine.specs.Flat.{code_of, numbered_bytes}
 use Rattle.controller.specs.Starting.{data_block_numbers}
@@ -203,7 +203,7 @@ same_test n m = unsigned_tied n m ∙ turned n m
     turned : (a b : ℕ) → nat_eq a b ≡ nat_eq b a
     turned a b = grind (arith, nat_tests)
 
-found_by_number : (n : ℕ) (ds : List DataBlock) → find nat_cmp n (numbered_bytes ds) ≡ bytes_of n ds
+found_by_number : (n : ℕ) (ds : List DataBlock) → find nat_cmp n (numbered_bytes ds) ≡ data_bytes_of n ds
 found_by_number n [] = refl
 found_by_number n (d ∷ ds) = rw (same_test n d.number) (ap (λ (o : Option (List ℕ)). cond (nat_eq d.number n) (Some d.bytes) o) (found_by_number n ds))
 
@@ -213,12 +213,12 @@ some_by_length (Some x) (Some y) h = refl
 some_by_length None (Some y) h = absurd cc
 some_by_length (Some x) None h = absurd cc
 
-fresh_block : (profile : Profile) (p : Program) (n : ℕ) → finmap.get (initial_memory profile (numbered_bytes p.data_blocks)).data_blocks n ≡ bytes_of n p.data_blocks
+fresh_block : (profile : Profile) (p : Program) (n : ℕ) → finmap.get (initial_memory profile (numbered_bytes p.data_blocks)).data_blocks n ≡ data_bytes_of n p.data_blocks
 unfolding initial_memory
 fresh_block profile p n = get-from_entries nat_cmp_total (numbered_bytes p.data_blocks) n ∙ found_by_number n p.data_blocks
 
 pub loaded_there : (p : Program) (m : Areas) (n : ℕ) → IsMemoryOf (code_of p) m
-    → is_some (finmap.get m.data_blocks n) ≡ is_some (bytes_of n p.data_blocks)
+    → is_some (finmap.get m.data_blocks n) ≡ is_some (data_bytes_of n p.data_blocks)
 loaded_there p m n is =
     some_by_length (finmap.get m.data_blocks n) (finmap.get (initial_memory is.profile (numbered_bytes p.data_blocks)).data_blocks n) (is.sizes.data_blocks n)
     ∙ ap (λ (o : Option (List ℕ)). is_some o) (fresh_block is.profile p n)

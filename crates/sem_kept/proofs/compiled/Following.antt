@@ -3,7 +3,7 @@ use Rattle.std.proofs.Common.{◌≡◌, ℕ, Bool, true, false, if◌then◌els
 use Rattle.std.specs.List.{AllByRecursion}
 use Rattle.plc_base.specs.declared.blocks.BlockId.{BlockId}
 use Rattle.flat_code.specs.Laws.{OperationsHaveTheirCodes, JumpsHaveTheirKinds}
-use Rattle.image_file.specs.Readers.{block_of, same_id}
+use Rattle.image_file.specs.Readers.{block_by_id, is_same_id}
 use Rattle.machine.specs.Flat.{statement_at, head_of}
 use Rattle.machine.specs.Moved.{moved_fetched}
 use Rattle.stl_codegen.specs.Compiled.{Stated, StatedBlock, ops_in, offset_from, offset_of, compiled}
@@ -12,12 +12,12 @@ use Rattle.sem_kept.specs.Back.{aimed_statement}
 use Rattle.sem_kept.specs.Statements.{stated_at, numbered, statement_of, stated_head, position_in, position, IsCompilable, ProgramsFollow}
 use Rattle.sem_kept.proofs.compiled.Reading.{is_read_back}
 
-found_compiled : (id : BlockId) (bs : List StatedBlock) → block_of id (map compiled bs) ≡ option_map compiled (stated_at id bs)
+found_compiled : (id : BlockId) (bs : List StatedBlock) → block_by_id id (map compiled bs) ≡ option_map compiled (stated_at id bs)
 found_compiled id [] = refl
-found_compiled id (b ∷ bs) = by (same_id b.id id) (found_compiled id bs)
+found_compiled id (b ∷ bs) = by (is_same_id b.id id) (found_compiled id bs)
   where
-    by : (same : Bool) → block_of id (map compiled bs) ≡ option_map compiled (stated_at id bs)
-        → (if same then Some (compiled b) else block_of id (map compiled bs)) ≡ option_map compiled (if same then Some b else stated_at id bs)
+    by : (same : Bool) → block_by_id id (map compiled bs) ≡ option_map compiled (stated_at id bs)
+        → (if same then Some (compiled b) else block_by_id id (map compiled bs)) ≡ option_map compiled (if same then Some b else stated_at id bs)
     by true more = refl
     by false more = more
 
@@ -30,7 +30,7 @@ IsCompilableFound (Some b) = IsCompilable b
 
 compilable_at : (id : BlockId) (bs : List StatedBlock) → AllByRecursion IsCompilable bs → IsCompilableFound (stated_at id bs)
 compilable_at id [] h = tt
-compilable_at id (b ∷ bs) h = by (same_id b.id id) (compilable_at id bs h.1)
+compilable_at id (b ∷ bs) h = by (is_same_id b.id id) (compilable_at id bs h.1)
   where
     by : (same : Bool) → IsCompilableFound (stated_at id bs) → IsCompilableFound (if same then Some b else stated_at id bs)
     by true more = h.0

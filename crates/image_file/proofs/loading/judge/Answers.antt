@@ -4,12 +4,12 @@ use Rattle.flat_code.specs.declared.stamps.Stamp.{Stamp}
 use Rattle.flat_code.specs.Records.{NameRecord}
 use Rattle.image_file.specs.declared.records.Started.{Started}
 use Rattle.image_file.specs.declared.reader.Reader.{Reader}
-use Rattle.image_file.specs.Running.{started, ran_read, SeesFound}
+use Rattle.image_file.specs.Running.{started_block, run_of_read, SeesFound}
 use Rattle.image_file.proofs.LoadLemmas.{found_of, least_of, image_there, datas_there, judged_by}
 use Rattle.image_file.proofs.loading.judge.Goals as goal
 
-from_start : (found : Option (Stamp × List NameRecord)) (r : Reader) (text : List ℕ) (bs : List Started) → bs ≡ [] → SeesFound found r (ran_read (read_image text) (record { least = None; blocks = map started bs; datas = None })) → SeesFound found r (ran_read (read_image text) (record { least = None; blocks = []; datas = None }))
-from_start found r text bs none h = subst (λ (z : List Started). SeesFound found r (ran_read (read_image text) (record { least = None; blocks = map started z; datas = None }))) none h
+from_start : (found : Option (Stamp × List NameRecord)) (r : Reader) (text : List ℕ) (bs : List Started) → bs ≡ [] → SeesFound found r (run_of_read (read_image text) (record { least = None; blocks = map started_block bs; datas = None })) → SeesFound found r (run_of_read (read_image text) (record { least = None; blocks = []; datas = None }))
+from_start found r text bs none h = subst (λ (z : List Started). SeesFound found r (run_of_read (read_image text) (record { least = None; blocks = map started_block z; datas = None }))) none h
 
 pub outcome_of-requires-clause-found : goal.outcome_of-requires-clause-found
 outcome_of-requires-clause-found c =

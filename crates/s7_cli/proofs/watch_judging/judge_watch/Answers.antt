@@ -2,7 +2,7 @@ use Rattle.std.proofs.Common.{◌∙◌, ap, ap₂, sym, subst, Err, Ok, List, �
 use Rattle.std.proofs.lemmas.Result.{err_from_is_err_and}
 use Rattle.flat_code.specs.Loading.{faults_of}
 use Rattle.flat_code.specs.Programs.{NameEntry}
-use Rattle.image_file.specs.Refusing.{IsRefusedBy}
+use Rattle.image_file.specs.Refusing.{IsLoadError}
 use Rattle.event_text.specs.TextFault.{IsTextFault}
 use Rattle.event_text.specs.Texts.{stimuli_of}
 use Rattle.event_text.specs.WatchedVars.{vars_of}
@@ -22,7 +22,7 @@ pub returns-in_err-program-clause-refused : goal.returns-in_err-program-clause-r
 returns-in_err-program-clause-refused c =
     let fault = err_from_is_err_and c.from_residual.result c.from_residual.ensures.1 in
     watch-image-refused _ c.args.text.now c.in_err-program.field-0.0 _ (fault.1 ∙ ap Err fault.2)
-    (subst (λ (bytes : List ℕ). IsRefusedBy c.in_err-program.field-0.0 (faults_of bytes)) c.deref.ensures.value c.in_err-program.ensures.refused)
+    (subst (λ (bytes : List ℕ). IsLoadError c.in_err-program.field-0.0 (faults_of bytes)) c.deref.ensures.value c.in_err-program.ensures.refused)
 
 pub returns-in-Err-clause-refused : goal.returns-in-Err-clause-refused
 returns-in-Err-clause-refused c =

@@ -1,7 +1,7 @@
 use Rattle.std.proofs.Common.{◌≡◌, ap, sym, ◌∙◌, List, ℕ, Option, is_some}
 use Rattle.plc_mem.specs.Areas.{Areas}
 use Rattle.flat_code.specs.Programs.{Program}
-use Rattle.image_file.specs.Readers.{bytes_of}
+use Rattle.image_file.specs.Readers.{data_bytes_of}
 use Rattle.controller.specs.Views.{cpu_state}
 use Rattle.controller.specs.Recording.{Recording}
 use Rattle.controller.proofs.history.BlockLemmas.{copied_some, loaded_there}
@@ -14,4 +14,4 @@ returns-clause-loaded c =
     sym (copied_some c.db_bytes.result)
     ∙ ap (λ (o : Option (List ℕ)). is_some o) c.db_bytes.ensures
     ∙ loaded_there c.self.inside.program.program m c.args.number c.self.invariant.fit.memory
-    ∙ ap (λ (p : Program). is_some (bytes_of c.args.number p.data_blocks)) program
+    ∙ ap (λ (p : Program). is_some (data_bytes_of c.args.number p.data_blocks)) program
