@@ -96,26 +96,26 @@ head_params before h good =
 -- ---- a code block
 
 abbrev pub behind_head : Bool → ℕ → Head → Layout (List ParameterRecord × (List OpData × List ℕ))
-behind_head judged start h = chain (parameters h) (λ params. code_and_lines judged start h)
+behind_head with_code_faults start h = chain (parameters h) (λ params. code_and_lines with_code_faults start h)
 
 -- the parts of a block without fault
-pub record GoodBlock (judged : Bool) (before : ℕ × ℕ) (start : ℕ) (x : BlockParts) : Type 0 where
+pub record GoodBlock (with_code_faults : Bool) (before : ℕ × ℕ) (start : ℕ) (x : BlockParts) : Type 0 where
   pub head_good : (head before).good x.head ≡ true
   pub params_good : (parameters x.head).good x.params ≡ true
-  pub code_good : (code_of judged x.head.code_length).good x.code ≡ true
-  pub lines_good : (lines_of judged start x.head x.code).good x.lines ≡ true
+  pub code_good : (code_of with_code_faults x.head.code_length).good x.code ≡ true
+  pub lines_good : (lines_of with_code_faults start x.head x.code).good x.lines ≡ true
 
-pub good_block : (judged : Bool) (before : ℕ × ℕ) (start : ℕ) (x : BlockParts) → (block_rows judged before start).good (row_of_block_parts x) ≡ true → GoodBlock judged before start x
+pub good_block : (with_code_faults : Bool) (before : ℕ × ℕ) (start : ℕ) (x : BlockParts) → (block_rows with_code_faults before start).good (row_of_block_parts x) ≡ true → GoodBlock with_code_faults before start x
 unfolding block_rows code_and_lines
-good_block judged before start x good =
+good_block with_code_faults before start x good =
     let row = row_of_block_parts x in
-    let a = chain_parts (head before) (behind_head judged start) row good in
-    let b = chain_parts (parameters x.head) (λ params. code_and_lines judged start x.head) row.1 a.1 in
-    let c = chain_parts (code_of judged x.head.code_length) (lines_of judged start x.head) row.1.1 b.1 in
+    let a = chain_parts (head before) (behind_head with_code_faults start) row good in
+    let b = chain_parts (parameters x.head) (λ params. code_and_lines with_code_faults start x.head) row.1 a.1 in
+    let c = chain_parts (code_of with_code_faults x.head.code_length) (lines_of with_code_faults start x.head) row.1.1 b.1 in
     record { head_good = a.0; params_good = b.0; code_good = c.0; lines_good = c.1 }
 
 -- what holds of each code block without fault holds of all of a program
-pub all_of_blocks : (judged : Bool) (P : CodeBlock → Type 0) → ((s : ℕ × ℕ) (b : CodeBlock) → (code_block judged s).good (record_of_block b) ≡ true → P b)
-    → (n : ℕ) (bs : List CodeBlock) → (code_blocks judged n).good (map record_of_block bs) ≡ true → AllByRecursion P bs
+pub all_of_blocks : (with_code_faults : Bool) (P : CodeBlock → Type 0) → ((s : ℕ × ℕ) (b : CodeBlock) → (code_block with_code_faults s).good (record_of_block b) ≡ true → P b)
+    → (n : ℕ) (bs : List CodeBlock) → (code_blocks with_code_faults n).good (map record_of_block bs) ≡ true → AllByRecursion P bs
 unfolding code_blocks
-all_of_blocks judged P each n bs good = all_of_many (code_block judged) after_block record_of_block P each (0, 0) n bs good
+all_of_blocks with_code_faults P each n bs good = all_of_many (code_block with_code_faults) after_block record_of_block P each (0, 0) n bs good

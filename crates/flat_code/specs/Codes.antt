@@ -68,8 +68,8 @@ only false found = None
 -- 5: the 65th op of a statement; bytes that begin no op; ops of which the last isn't BE with the end
 -- mark (where there is none, the place where it would begin)
 abbrev pub stop_at : Bool → List OpData → List ℕ → Option ℕ
-stop_at judged ops [] = first_of (only judged (overlong 0 0 ops)) (only judged (if ends ops then None else Some (last_place 0 ops)))
-stop_at judged ops (byte ∷ left) = first_of (only judged (overlong 0 0 ops)) (Some (length (code_bytes ops)))
+stop_at with_code_faults ops [] = first_of (only with_code_faults (overlong 0 0 ops)) (only with_code_faults (if ends ops then None else Some (last_place 0 ops)))
+stop_at with_code_faults ops (byte ∷ left) = first_of (only with_code_faults (overlong 0 0 ops)) (Some (length (code_bytes ops)))
 
 -- the fault 5 of the code of a block
 abbrev pub code_fault : List OpData → Option ℕ
@@ -82,13 +82,13 @@ read_ops (Some offset) at ops end = ended (at + offset) 5
 
 -- a code field at offset `at`, of ops and of bytes left over: the ops, or the end by fault 5
 abbrev pub placed_ops : Bool → ℕ → List OpData × List ℕ → Cursor → Read (List OpData)
-placed_ops judged at r end = read_ops (stop_at judged r.0 r.1) at r.0 end
+placed_ops with_code_faults at r end = read_ops (stop_at with_code_faults r.0 r.1) at r.0 end
 
 -- a code field of n bytes: fault 3 where fewer are left, else the ops that they are, or fault 5
 abbrev pub read_code : Bool → ℕ → Cursor → Read (List OpData)
-read_code judged n cur =
+read_code with_code_faults n cur =
     if nat_lt (length cur.rest) n then ended cur.at 3
-    else placed_ops judged cur.at (ops_from n (take n cur.rest)) (record { at = cur.at + n; rest = drop n cur.rest })
+    else placed_ops with_code_faults cur.at (ops_from n (take n cur.rest)) (record { at = cur.at + n; rest = drop n cur.rest })
 
 -- no offset was found, so there is no fault 5
 abbrev pub is_nowhere : Option ℕ → Bool
@@ -97,8 +97,8 @@ is_nowhere (Some at) = false
 
 -- the code field of n bytes; with false the 65th op and a wrong last op are no faults
 unfoldable pub code_of : Bool → ℕ → Layout (List OpData)
-code_of judged n = record {
+code_of with_code_faults n = record {
   spell = code_bytes;
-  good = λ ops. are_ops ops && is_nowhere (stop_at judged ops []) && length (code_bytes ops) == n;
-  read = read_code judged n;
+  good = λ ops. are_ops ops && is_nowhere (stop_at with_code_faults ops []) && length (code_bytes ops) == n;
+  read = read_code with_code_faults n;
 }

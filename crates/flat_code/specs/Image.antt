@@ -194,17 +194,17 @@ line_after before line = line
 
 -- a line: not 0, nor below the line `before` (0 for none), else fault 9; with false any u32
 unfoldable pub line_field : Bool → ℕ → Layout ℕ
-line_field judged before = field u32 (λ n. only judged (fault_of (field_of.Line before n)))
+line_field with_code_faults before = field u32 (λ n. only with_code_faults (fault_of (field_of.Line before n)))
 
 -- as many lines as the head counts; with true, fault 9 if other than the number of end marks
 unfoldable pub lines_of : Bool → ℕ → Head → List OpData → Layout (List ℕ)
-lines_of judged start h ops =
-    checked (start + 8) (only judged (fault_of (field_of.StatementCount (end_marks ops) h.statement_count)))
-    (many (line_field judged) line_after 0 h.statement_count)
+lines_of with_code_faults start h ops =
+    checked (start + 8) (only with_code_faults (fault_of (field_of.StatementCount (end_marks ops) h.statement_count)))
+    (many (line_field with_code_faults) line_after 0 h.statement_count)
 
 -- CODE BLOCK: head, parameters, code, lines
 unfoldable pub code_and_lines : Bool → ℕ → Head → Layout (List OpData × List ℕ)
-code_and_lines judged start h = chain (code_of judged h.code_length) (lines_of judged start h)
+code_and_lines with_code_faults start h = chain (code_of with_code_faults h.code_length) (lines_of with_code_faults start h)
 
 -- the parts of a code block
 pub record BlockParts : Type 0 where
@@ -227,7 +227,7 @@ row_of_block_parts p = (p.head, (p.params, (p.code, p.lines)))
 
 -- the layout of a row from offset `start` on, behind a block of kind and number `before`
 unfoldable pub block_rows : Bool → ℕ × ℕ → ℕ → Layout BlockRow
-block_rows judged before start = chain (head before) (λ h. chain (parameters h) (λ params. code_and_lines judged start h))
+block_rows with_code_faults before start = chain (head before) (λ h. chain (parameters h) (λ params. code_and_lines with_code_faults start h))
 
 -- the record without counts, code length and reserved field: the lists are as long as they say
 abbrev pub block_of_parts : BlockParts → BlockRecord
@@ -252,7 +252,7 @@ parts_of_block b = record { head = head_of_block b; params = b.params; code = b.
 
 -- the bytes of a code block as its record
 unfoldable pub plain_block : Bool → ℕ × ℕ → ℕ → Layout BlockRecord
-plain_block judged before start = seen_as (λ r. block_of_parts (parts_of_block_row r)) (λ b. row_of_block_parts (parts_of_block b)) (block_rows judged before start)
+plain_block with_code_faults before start = seen_as (λ r. block_of_parts (parts_of_block_row r)) (λ b. row_of_block_parts (parts_of_block b)) (block_rows with_code_faults before start)
 
 -- a block that was read whole is noted, with the offset at which its code begins
 abbrev pub whole_at : ℕ → BlockRecord → Note
@@ -260,11 +260,11 @@ whole_at start b = Whole (start + 16 + 6 * length b.params) b
 
 -- a code block at offset `start`, noted once it was read whole, so that 6 to 8 are checked
 abbrev pub code_block_at : Bool → ℕ × ℕ → ℕ → Layout BlockRecord
-code_block_at judged before start = remembered (whole_at start) (plain_block judged before start)
+code_block_at with_code_faults before start = remembered (whole_at start) (plain_block with_code_faults before start)
 
 -- a code block wherever it begins, behind one of kind and number `before`
 unfoldable pub code_block : Bool → ℕ × ℕ → Layout BlockRecord
-code_block judged before = located (code_block_at judged before)
+code_block with_code_faults before = located (code_block_at with_code_faults before)
 
 -- what stands before the next block: this one, by kind and number
 abbrev pub after_block : ℕ × ℕ → BlockRecord → ℕ × ℕ
@@ -436,7 +436,7 @@ counts = seen_as counts_of_row row_of_counts count_rows
 
 -- n code blocks, the first behind none
 unfoldable pub code_blocks : Bool → ℕ → Layout (List BlockRecord)
-code_blocks judged n = many (code_block judged) after_block (0, 0) n
+code_blocks with_code_faults n = many (code_block with_code_faults) after_block (0, 0) n
 
 -- n data blocks, the first behind none
 abbrev pub plain_data_blocks : ℕ → Layout (List DataBlock)
@@ -469,9 +469,9 @@ parts_of_body_row r = record { counts = r.0; code_blocks = r.1.0; data_blocks = 
 abbrev pub row_of_body_parts : BodyParts → BodyRow
 row_of_body_parts p = (p.counts, (p.code_blocks, (p.data_blocks, p.names)))
 
--- judged: the faults of code and lines (5 and 9) too
+-- with_code_faults: the faults of code and lines (5 and 9) too
 unfoldable pub body_rows : Bool → Layout BodyRow
-body_rows judged = chain counts (λ c. chain (code_blocks judged c.code_blocks) (λ blocks. chain (data_blocks c.data_blocks) (λ datas. names c.names)))
+body_rows with_code_faults = chain counts (λ c. chain (code_blocks with_code_faults c.code_blocks) (λ blocks. chain (data_blocks c.data_blocks) (λ datas. names c.names)))
 
 -- the records without the counts: the lists are as long as these say
 abbrev pub records_of_parts : BodyParts → Records
@@ -487,7 +487,7 @@ parts_of_records r = record { counts = counts_of r; code_blocks = r.code_blocks;
 
 -- the records of an image, with their counts before them
 unfoldable pub records : Bool → Layout Records
-records judged = seen_as (λ r. records_of_parts (parts_of_body_row r)) (λ r. row_of_body_parts (parts_of_records r)) (body_rows judged)
+records with_code_faults = seen_as (λ r. records_of_parts (parts_of_body_row r)) (λ r. row_of_body_parts (parts_of_records r)) (body_rows with_code_faults)
 
 -- the kind where an image has blocks of code of it: OB, FC or FB; a data type in place of the others
 abbrev pub or_type : Option BlockKind → BlockKind
@@ -552,7 +552,7 @@ records_of p = record { code_blocks = map record_of_block p.code_blocks; data_bl
 
 -- a program as the bytes behind the total length: the counts, then all records
 unfoldable pub body : Bool → Layout Program
-body judged = seen_as program_of records_of (records judged)
+body with_code_faults = seen_as program_of records_of (records with_code_faults)
 
 -- HEADER up to the total length: magic u32, version u16, profile u16, total length u32
 unfoldable pub magic_field : Layout ℕ
@@ -624,22 +624,22 @@ at_end stamp p end = record { notes = if length end.rest == 0 then [] else Fault
 
 -- the body of so many bytes, and that nothing stands behind its last record
 abbrev pub read_body : Bool → Stamp → ℕ → Cursor → Read (Stamp × Program)
-read_body judged stamp size cur = bind ((body judged).read (record { at = cur.at; rest = take size cur.rest })) (at_end stamp)
+read_body with_code_faults stamp size cur = bind ((body with_code_faults).read (record { at = cur.at; rest = take size cur.rest })) (at_end stamp)
 
 -- 3: a total length above the bytes there, or below 20. 4: one above 8,388,608. Both end the reading. 10: bytes
 -- behind the total length, which are cut off
 abbrev pub cut : Bool → Stamp → (size total : ℕ) → Cursor → Read (Stamp × Program)
-cut judged stamp size total cur =
+cut with_code_faults stamp size total cur =
     if nat_lt total 20 || nat_lt size total then ended 8 3
     else if nat_lt 8388608 total then ended 8 4
     else record {
-      notes = (if size == total then [] else Faulty total 10 ∷ []) ++ (read_body judged stamp (total - front_size) cur).notes;
-      found = (read_body judged stamp (total - front_size) cur).found;
+      notes = (if size == total then [] else Faulty total 10 ∷ []) ++ (read_body with_code_faults stamp (total - front_size) cur).notes;
+      found = (read_body with_code_faults stamp (total - front_size) cur).found;
     }
 
 -- bytes read as an image: the front (faults 1, 2 and 4 don't end it), then by its total length
 unfoldable pub read_by : Bool → List ℕ → Read (Stamp × Program)
-read_by judged text = bind (front.read (record { at = 0; rest = text })) (λ f cur. cut judged (stamp_in f) (length text) f.total_length cur)
+read_by with_code_faults text = bind (front.read (record { at = 0; rest = text })) (λ f cur. cut with_code_faults (stamp_in f) (length text) f.total_length cur)
 
 -- bytes read as an image, with all faults of its fields, and of code and lines (5 and 9)
 abbrev pub read_image : List ℕ → Read (Stamp × Program)

@@ -57,12 +57,12 @@ is_fine (Some code) = false
 
 -- a field by its coding, and the fault of a value; one that can't be read is fault 3
 abbrev pub field_of : {A : Type 0} → (A → Option ℕ) → Cursor → Option (A × List ℕ) → Read A
-field_of judge cur None = ended cur.at 3
-field_of judge cur (Some r) = record { notes = noted cur.at (judge r.0); found = Some (r.0, record { at = cur.at + (length cur.rest - length r.1); rest = r.1 }) }
+field_of fault_in cur None = ended cur.at 3
+field_of fault_in cur (Some r) = record { notes = noted cur.at (fault_in r.0); found = Some (r.0, record { at = cur.at + (length cur.rest - length r.1); rest = r.1 }) }
 
 -- a field is good where its value fits and has no fault; a fault is noted, and reading goes on
 abbrev pub field : {A : Type 0} → Coding A → (A → Option ℕ) → Layout A
-field c judge = record { spell = c.spell; good = λ x. c.fits x && is_fine (judge x); read = λ cur. field_of judge cur (c.read cur.rest) }
+field c fault_in = record { spell = c.spell; good = λ x. c.fits x && is_fine (fault_in x); read = λ cur. field_of fault_in cur (c.read cur.rest) }
 
 -- one behind the other; what comes second may depend on what came first
 abbrev pub chain : {A B : Type 0} → Layout A → (A → Layout B) → Layout (A × B)

@@ -45,13 +45,13 @@ blocks_of [] = []
 blocks_of (b ∷ bs) = b.1 ∷ blocks_of bs
 
 -- the faults 6 to 8 of each block, by the offset of its code; a call finds the blocks of `all`
-abbrev pub judged_blocks : Option (List (ℕ × ℕ)) → List BlockRecord → List (ℕ × BlockRecord) → List (ℕ × ℕ)
-judged_blocks data_lens all [] = []
-judged_blocks data_lens all (b ∷ bs) = block_faults (around data_lens all b.1) b.0 b.1.code ++ judged_blocks data_lens all bs
+abbrev pub op_faults_of_blocks : Option (List (ℕ × ℕ)) → List BlockRecord → List (ℕ × BlockRecord) → List (ℕ × ℕ)
+op_faults_of_blocks data_lens all [] = []
+op_faults_of_blocks data_lens all (b ∷ bs) = block_faults (around data_lens all b.1) b.0 b.1.code ++ op_faults_of_blocks data_lens all bs
 
 -- the faults that reading noted, and those of the ops of the blocks that were read whole
 abbrev pub faults_in_notes : List Note → List (ℕ × ℕ)
-faults_in_notes notes = faults_in notes ++ judged_blocks (option_map lens_of (all_blocks notes)) (blocks_of (wholes notes)) (wholes notes)
+faults_in_notes notes = faults_in notes ++ op_faults_of_blocks (option_map lens_of (all_blocks notes)) (blocks_of (wholes notes)) (wholes notes)
 
 -- all faults of bytes; the one that is told is the least of them by offset, then code
 unfoldable pub faults_of : List ℕ → List (ℕ × ℕ)

@@ -69,50 +69,50 @@ first_some None n h = cc
 first_some (Some at) n h = cc
 
 -- nothing is left where the code has no fault
-nothing_left : (judged : Bool) (ops : List OpData) (left : List ℕ) → stop_at judged ops left ≡ None → left ≡ []
-nothing_left judged ops [] h = refl
-nothing_left judged ops (byte ∷ left) h = absurd (first_some (only judged (overlong 0 0 ops)) (length (code_bytes ops)) h)
+nothing_left : (with_code_faults : Bool) (ops : List OpData) (left : List ℕ) → stop_at with_code_faults ops left ≡ None → left ≡ []
+nothing_left with_code_faults ops [] h = refl
+nothing_left with_code_faults ops (byte ∷ left) h = absurd (first_some (only with_code_faults (overlong 0 0 ops)) (length (code_bytes ops)) h)
 
 pub is_none : (o : Option ℕ) → is_nowhere o ≡ true → o ≡ None
 is_none None h = refl
 is_none (Some at) h = absurd cc
 
-code_takes : (judged : Bool) (n : ℕ) (cur : Cursor) (ops : List OpData) (end : Cursor) → IsBytes cur.rest → Finds (List OpData) (read_code judged n cur) ops end → Spells (List OpData) (code_of judged n) cur ops end
+code_takes : (with_code_faults : Bool) (n : ℕ) (cur : Cursor) (ops : List OpData) (end : Cursor) → IsBytes cur.rest → Finds (List OpData) (read_code with_code_faults n cur) ops end → Spells (List OpData) (code_of with_code_faults n) cur ops end
 unfolding code_of
-code_takes judged n cur ops end are h =
+code_takes with_code_faults n cur ops end are h =
     cond_finds (ltb (length cur.rest) n) (ended cur.at 3) _ ops end _ h (λ _ k. absurd (ended_finds cur.at 3 ops end k)) (λ long h.
     let r = ops_from n (take n cur.rest) in
     let next : Cursor = record { at = cur.at + n; rest = drop n cur.rest } in
-    let f = read_finds (stop_at judged r.0 r.1) cur.at r.0 next ops end h in
+    let f = read_finds (stop_at with_code_faults r.0 r.1) cur.at r.0 next ops end h in
     let made = given_finds r.0 ops next end f.1 in
     let within : n ≤ length cur.rest = ltb-false _ _ long in
-    let nothing : r.1 ≡ [] = nothing_left judged r.0 r.1 f.0 in
+    let nothing : r.1 ≡ [] = nothing_left with_code_faults r.0 r.1 f.0 in
     let t = ops_take n (take n cur.rest) (bytes_taken n cur.rest are) in
     let text : take n cur.rest ≡ code_bytes r.0 = t.0.parts ∙ ap (λ (z : List ℕ). code_bytes r.0 ++ z) nothing ∙ append-nil (code_bytes r.0) in
     let size : length (code_bytes r.0) ≡ n = ap length (sym text) ∙ omega (arith, length-take n cur.rest) in
     let whole : cur.rest ≡ code_bytes r.0 ++ drop n cur.rest = sym (take-append-drop n cur.rest) ∙ ap (λ (z : List ℕ). z ++ drop n cur.rest) text in
-    let fine : is_nowhere (stop_at judged r.0 []) ≡ true = ap (λ (z : List ℕ). is_nowhere (stop_at judged r.0 z)) (sym nothing) ∙ ap is_nowhere f.0 in
-    let here : Spells (List OpData) (code_of judged n) cur r.0 next =
-    record { text = record { parts = whole; rest_fits = bytes_dropped n cur.rest are }; good = and_from (are_ops r.0 && is_nowhere (stop_at judged r.0 [])) _ (and_from (are_ops r.0) _ t.1 fine) (eq-eqb _ _ size) } in
-    subst (λ (z : List OpData). Spells (List OpData) (code_of judged n) cur z end) made.0 (subst (λ (z : Cursor). Spells (List OpData) (code_of judged n) cur r.0 z) made.1 here))
+    let fine : is_nowhere (stop_at with_code_faults r.0 []) ≡ true = ap (λ (z : List ℕ). is_nowhere (stop_at with_code_faults r.0 z)) (sym nothing) ∙ ap is_nowhere f.0 in
+    let here : Spells (List OpData) (code_of with_code_faults n) cur r.0 next =
+    record { text = record { parts = whole; rest_fits = bytes_dropped n cur.rest are }; good = and_from (are_ops r.0 && is_nowhere (stop_at with_code_faults r.0 [])) _ (and_from (are_ops r.0) _ t.1 fine) (eq-eqb _ _ size) } in
+    subst (λ (z : List OpData). Spells (List OpData) (code_of with_code_faults n) cur z end) made.0 (subst (λ (z : Cursor). Spells (List OpData) (code_of with_code_faults n) cur r.0 z) made.1 here))
 
-code_again : (judged : Bool) (n : ℕ) (ops : List OpData) (at : ℕ) (rest : List ℕ) → (are_ops ops && is_nowhere (stop_at judged ops []) && eqb (length (code_bytes ops)) n) ≡ true → Finds (List OpData) (read_code judged n (at_place at (code_bytes ops ++ rest))) ops (at_place (at + length (code_bytes ops)) rest)
-code_again judged n ops at rest good =
-    let g = and_parts (are_ops ops && is_nowhere (stop_at judged ops [])) (eqb (length (code_bytes ops)) n) good in
-    let f = and_parts (are_ops ops) (is_nowhere (stop_at judged ops [])) g.0 in
+code_again : (with_code_faults : Bool) (n : ℕ) (ops : List OpData) (at : ℕ) (rest : List ℕ) → (are_ops ops && is_nowhere (stop_at with_code_faults ops []) && eqb (length (code_bytes ops)) n) ≡ true → Finds (List OpData) (read_code with_code_faults n (at_place at (code_bytes ops ++ rest))) ops (at_place (at + length (code_bytes ops)) rest)
+code_again with_code_faults n ops at rest good =
+    let g = and_parts (are_ops ops && is_nowhere (stop_at with_code_faults ops [])) (eqb (length (code_bytes ops)) n) good in
+    let f = and_parts (are_ops ops) (is_nowhere (stop_at with_code_faults ops [])) g.0 in
     let size : length (code_bytes ops) ≡ n = eqb-true _ _ g.1 in
     let bytes = code_bytes ops ++ rest in
     let long : ltb (length bytes) n ≡ false = le-ltb _ _ (omega (arith, size, length-append (code_bytes ops) rest)) in
     let read : ops_from n (take n bytes) ≡ (ops, []) = ap (ops_from n) (take_at (code_bytes ops) rest n size) ∙ ops_again n ops f.0 (omega (arith, size)) in
     let left : drop n bytes ≡ rest = drop_at (code_bytes ops) rest n size in
-    let none : stop_at judged ops [] ≡ None = is_none (stop_at judged ops []) f.1 in
-    let shape : read_code judged n (at_place at bytes) ≡ given ops (at_place (at + n) rest) = rw (long, read, left, none) refl in
+    let none : stop_at with_code_faults ops [] ≡ None = is_none (stop_at with_code_faults ops []) f.1 in
+    let shape : read_code with_code_faults n (at_place at bytes) ≡ given ops (at_place (at + n) rest) = rw (long, read, left, none) refl in
     subst (λ (z : Read (List OpData)). Finds (List OpData) z ops (at_place (at + length (code_bytes ops)) rest)) (sym shape)
     (record { found = ap (λ (k : ℕ). Some (ops, at_place (at + k) rest)) (sym size); clean = refl })
 
-pub code_laid : (judged : Bool) (n : ℕ) → IsLaidOut (List OpData) (code_of judged n)
+pub code_laid : (with_code_faults : Bool) (n : ℕ) → IsLaidOut (List OpData) (code_of with_code_faults n)
 unfolding code_of
-code_laid judged n = record { again = code_again judged n; takes = code_takes judged n }
+code_laid with_code_faults n = record { again = code_again with_code_faults n; takes = code_takes with_code_faults n }
 
 -- fuel that is enough is as good as any
 shorter : (bytes : List ℕ) (op : OpData) (rest : List ℕ) → IsBytes bytes → op_at bytes ≡ Some (op, rest) → length rest < length bytes

@@ -31,12 +31,12 @@ given_ends {A = A} x cur e clean = cc
 ended_ends : {A : Type 0} (at code : ℕ) → Ends {A = A} (ended at code)
 ended_ends {A = A} at code e clean = cc
 
-field_of_ends : {A : Type 0} (judge : A → Option ℕ) (cur : Cursor) (o : Option (A × List ℕ)) → Ends (field_of judge cur o)
-field_of_ends {A = A} judge cur None e clean = cc
-field_of_ends {A = A} judge cur (Some r) e clean = cc
+field_of_ends : {A : Type 0} (fault_in : A → Option ℕ) (cur : Cursor) (o : Option (A × List ℕ)) → Ends (field_of fault_in cur o)
+field_of_ends {A = A} fault_in cur None e clean = cc
+field_of_ends {A = A} fault_in cur (Some r) e clean = cc
 
-field_sound : {A : Type 0} (c : Coding A) (judge : A → Option ℕ) → Sound A (field c judge)
-field_sound {A = A} c judge = record { ends = λ cur. field_of_ends judge cur (c.read cur.rest) }
+field_sound : {A : Type 0} (c : Coding A) (fault_in : A → Option ℕ) → Sound A (field c fault_in)
+field_sound {A = A} c fault_in = record { ends = λ cur. field_of_ends fault_in cur (c.read cur.rest) }
 
 chain_sound : {A B : Type 0} (l : Layout A) (m : A → Layout B) → Sound A l → ((x : A) → Sound B (m x)) → Sound (A × B) (chain l m)
 chain_sound {A = A} {B = B} l m p q = record { ends = λ cur. bind_ends (l.read cur) (λ x next. bind ((m x).read next) (λ y end. given (x, y) end)) (p.ends cur) (λ x next. bind_ends ((m x).read next) (λ y end. given (x, y) end) ((q x).ends next) (λ y end. given_ends (x, y) end)) }

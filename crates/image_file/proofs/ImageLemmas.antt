@@ -146,19 +146,19 @@ head_kind before h good =
     let b = and_parts (ltb h.kind 256) (is_fine (unless (lies_within 1 3 h.kind && leb before.0 h.kind) 4)) (good_head before h good).kind_good in
     (and_parts (lies_within 1 3 h.kind) (leb before.0 h.kind) (unless_fine _ 4 b.1)).0
 
-lines_laid : (judged : Bool) (start : ℕ) (h : Head) (ops : List OpData) → IsLaidOut (List ℕ) (lines_of judged start h ops)
+lines_laid : (with_code_faults : Bool) (start : ℕ) (h : Head) (ops : List OpData) → IsLaidOut (List ℕ) (lines_of with_code_faults start h ops)
 unfolding lines_of line_field
-lines_laid judged start h ops = checked_laid (start + 8) (only judged (fault_of (StatementCount (end_marks ops) h.statement_count))) _ (many_laid (line_field judged) line_after (λ s. field_laid u32 _ u32_exact) 0 h.statement_count)
+lines_laid with_code_faults start h ops = checked_laid (start + 8) (only with_code_faults (fault_of (StatementCount (end_marks ops) h.statement_count))) _ (many_laid (line_field with_code_faults) line_after (λ s. field_laid u32 _ u32_exact) 0 h.statement_count)
 
-code_and_lines_laid : (judged : Bool) (start : ℕ) (h : Head) → IsLaidOut (List OpData × List ℕ) (code_and_lines judged start h)
+code_and_lines_laid : (with_code_faults : Bool) (start : ℕ) (h : Head) → IsLaidOut (List OpData × List ℕ) (code_and_lines with_code_faults start h)
 unfolding code_and_lines
-code_and_lines_laid judged start h = chain_laid (code_of judged h.code_length) (lines_of judged start h) (code_laid judged h.code_length) (lines_laid judged start h)
+code_and_lines_laid with_code_faults start h = chain_laid (code_of with_code_faults h.code_length) (lines_of with_code_faults start h) (code_laid with_code_faults h.code_length) (lines_laid with_code_faults start h)
 
-block_rows_laid : (judged : Bool) (before : ℕ × ℕ) (start : ℕ) → IsLaidOut BlockRow (block_rows judged before start)
+block_rows_laid : (with_code_faults : Bool) (before : ℕ × ℕ) (start : ℕ) → IsLaidOut BlockRow (block_rows with_code_faults before start)
 unfolding block_rows
-block_rows_laid judged before start =
-    chain_laid (head before) (behind_head judged start) (head_laid before) (λ h.
-    chain_laid (parameters h) (λ params. code_and_lines judged start h) (parameters_laid h) (λ params. code_and_lines_laid judged start h))
+block_rows_laid with_code_faults before start =
+    chain_laid (head before) (behind_head with_code_faults start) (head_laid before) (λ h.
+    chain_laid (parameters h) (λ params. code_and_lines with_code_faults start h) (parameters_laid h) (λ params. code_and_lines_laid with_code_faults start h))
 
 quad : {a b c d x y z w : ℕ} → a ≡ x → b ≡ y → c ≡ z → d ≡ w → ◌≡◌ {A = ℕ × (ℕ × (ℕ × ℕ))} (a, (b, (c, d))) (x, (y, (z, w)))
 quad p q r s = rw (p, q, r, s) refl
@@ -167,43 +167,43 @@ params_count : (h : Head) (ps : List ParameterRecord) → (parameters h).good ps
 unfolding parameters
 params_count h ps good = many_count (λ s. parameter h.kind h.instance_bytes) same_state 0 h.parameter_count ps good
 
-lines_count : (judged : Bool) (start : ℕ) (h : Head) (ops : List OpData) (lines : List ℕ) → (lines_of judged start h ops).good lines ≡ true → h.statement_count ≡ length lines
+lines_count : (with_code_faults : Bool) (start : ℕ) (h : Head) (ops : List OpData) (lines : List ℕ) → (lines_of with_code_faults start h ops).good lines ≡ true → h.statement_count ≡ length lines
 unfolding lines_of
-lines_count judged start h ops lines good =
-    let c = and_parts (is_fine (only judged (fault_of (StatementCount (end_marks ops) h.statement_count)))) (good_many (line_field judged) line_after 0 h.statement_count lines) good in
-    many_count (line_field judged) line_after 0 h.statement_count lines c.1
+lines_count with_code_faults start h ops lines good =
+    let c = and_parts (is_fine (only with_code_faults (fault_of (StatementCount (end_marks ops) h.statement_count)))) (good_many (line_field with_code_faults) line_after 0 h.statement_count lines) good in
+    many_count (line_field with_code_faults) line_after 0 h.statement_count lines c.1
 
-code_size : (judged : Bool) (n : ℕ) (ops : List OpData) → (code_of judged n).good ops ≡ true → length (code_bytes ops) ≡ n
+code_size : (with_code_faults : Bool) (n : ℕ) (ops : List OpData) → (code_of with_code_faults n).good ops ≡ true → length (code_bytes ops) ≡ n
 unfolding code_of
-code_size judged n ops good = eqb-true (length (code_bytes ops)) n (and_parts (are_ops ops && is_nowhere (stop_at judged ops [])) (eqb (length (code_bytes ops)) n) good).1
+code_size with_code_faults n ops good = eqb-true (length (code_bytes ops)) n (and_parts (are_ops ops && is_nowhere (stop_at with_code_faults ops [])) (eqb (length (code_bytes ops)) n) good).1
 
 -- a block without fault has the counts of its lists
-block_row_is : (judged : Bool) (before : ℕ × ℕ) (start : ℕ) (x : BlockRow) → (block_rows judged before start).good x ≡ true → row_of_block_parts (parts_of_block (block_of_parts (parts_of_block_row x))) ≡ x
-block_row_is judged before start x good =
+block_row_is : (with_code_faults : Bool) (before : ℕ × ℕ) (start : ℕ) (x : BlockRow) → (block_rows with_code_faults before start).good x ≡ true → row_of_block_parts (parts_of_block (block_of_parts (parts_of_block_row x))) ≡ x
+block_row_is with_code_faults before start x good =
     let h = x.0 in
-    let g = good_block judged before start (parts_of_block_row x) good in
+    let g = good_block with_code_faults before start (parts_of_block_row x) good in
     ap (λ (z : CountRow).
     let head : Head = record { kind = h.kind; parameter_count = z.0; number = h.number; local_bytes = h.local_bytes; instance_bytes = h.instance_bytes; statement_count = z.1.0; reserved = z.1.1.0; code_length = z.1.1.1 } in
     let r : BlockRow = (head, x.1) in r)
-    (quad (sym (params_count h x.1.0 g.params_good)) (sym (lines_count judged start h x.1.1.0 x.1.1.1 g.lines_good)) (sym (head_zero before h g.head_good)) (code_size judged h.code_length x.1.1.0 g.code_good))
+    (quad (sym (params_count h x.1.0 g.params_good)) (sym (lines_count with_code_faults start h x.1.1.0 x.1.1.1 g.lines_good)) (sym (head_zero before h g.head_good)) (code_size with_code_faults h.code_length x.1.1.0 g.code_good))
 
-same_spell : (judged : Bool) (before : ℕ × ℕ) (at : ℕ) (x : BlockRow) → (block_rows judged before at).spell x ≡ (block_rows judged before 0).spell x
+same_spell : (with_code_faults : Bool) (before : ℕ × ℕ) (at : ℕ) (x : BlockRow) → (block_rows with_code_faults before at).spell x ≡ (block_rows with_code_faults before 0).spell x
 unfolding block_rows code_and_lines lines_of
-same_spell judged before at x = refl
+same_spell with_code_faults before at x = refl
 
-same_good : (judged : Bool) (before : ℕ × ℕ) (at : ℕ) (x : BlockRow) → (block_rows judged before at).good x ≡ (block_rows judged before 0).good x
+same_good : (with_code_faults : Bool) (before : ℕ × ℕ) (at : ℕ) (x : BlockRow) → (block_rows with_code_faults before at).good x ≡ (block_rows with_code_faults before 0).good x
 unfolding block_rows code_and_lines lines_of
-same_good judged before at x = refl
+same_good with_code_faults before at x = refl
 
-code_block_laid : (judged : Bool) (before : ℕ × ℕ) → IsLaidOut BlockRecord (code_block judged before)
+code_block_laid : (with_code_faults : Bool) (before : ℕ × ℕ) → IsLaidOut BlockRecord (code_block with_code_faults before)
 unfolding code_block plain_block
-code_block_laid judged before =
-    located_laid (code_block_at judged before) (λ at b. same_spell judged before at (row_of_block_parts (parts_of_block b))) (λ at b. same_good judged before at (row_of_block_parts (parts_of_block b)))
-    (λ at. remembered_laid (whole_at at) (plain_block judged before at) (λ b. refl) (seen_laid (λ r. block_of_parts (parts_of_block_row r)) (λ b. row_of_block_parts (parts_of_block b)) (block_rows judged before at) (block_row_is judged before at) (λ b good. refl) (block_rows_laid judged before at)))
+code_block_laid with_code_faults before =
+    located_laid (code_block_at with_code_faults before) (λ at b. same_spell with_code_faults before at (row_of_block_parts (parts_of_block b))) (λ at b. same_good with_code_faults before at (row_of_block_parts (parts_of_block b)))
+    (λ at. remembered_laid (whole_at at) (plain_block with_code_faults before at) (λ b. refl) (seen_laid (λ r. block_of_parts (parts_of_block_row r)) (λ b. row_of_block_parts (parts_of_block b)) (block_rows with_code_faults before at) (block_row_is with_code_faults before at) (λ b good. refl) (block_rows_laid with_code_faults before at)))
 
-code_blocks_laid : (judged : Bool) (n : ℕ) → IsLaidOut (List BlockRecord) (code_blocks judged n)
+code_blocks_laid : (with_code_faults : Bool) (n : ℕ) → IsLaidOut (List BlockRecord) (code_blocks with_code_faults n)
 unfolding code_blocks
-code_blocks_laid judged n = many_laid (code_block judged) after_block (code_block_laid judged) (0, 0) n
+code_blocks_laid with_code_faults n = many_laid (code_block with_code_faults) after_block (code_block_laid with_code_faults) (0, 0) n
 
 -- ---- data blocks
 
@@ -341,35 +341,35 @@ counts_zero c good =
     zero_u16_is c.reserved d.1
 
 abbrev blocks_and_names : Bool → Counts → Layout (List BlockRecord × (List DataBlock × List NameRecord))
-blocks_and_names judged c = chain (code_blocks judged c.code_blocks) (λ blocks. chain (data_blocks c.data_blocks) (λ datas. names c.names))
+blocks_and_names with_code_faults c = chain (code_blocks with_code_faults c.code_blocks) (λ blocks. chain (data_blocks c.data_blocks) (λ datas. names c.names))
 
-body_rows_laid : (judged : Bool) → IsLaidOut BodyRow (body_rows judged)
+body_rows_laid : (with_code_faults : Bool) → IsLaidOut BodyRow (body_rows with_code_faults)
 unfolding body_rows
-body_rows_laid judged =
-    chain_laid counts (blocks_and_names judged) counts_laid (λ c.
-    chain_laid (code_blocks judged c.code_blocks) (λ blocks. chain (data_blocks c.data_blocks) (λ datas. names c.names)) (code_blocks_laid judged c.code_blocks) (λ blocks.
+body_rows_laid with_code_faults =
+    chain_laid counts (blocks_and_names with_code_faults) counts_laid (λ c.
+    chain_laid (code_blocks with_code_faults c.code_blocks) (λ blocks. chain (data_blocks c.data_blocks) (λ datas. names c.names)) (code_blocks_laid with_code_faults c.code_blocks) (λ blocks.
     chain_laid (data_blocks c.data_blocks) (λ datas. names c.names) (data_blocks_laid c.data_blocks) (λ datas. names_laid c.names)))
 
 -- the parts of records without fault
-pub record GoodRecords (judged : Bool) (x : BodyParts) : Type 0 where
+pub record GoodRecords (with_code_faults : Bool) (x : BodyParts) : Type 0 where
   pub counts_good : counts.good x.counts ≡ true
-  pub codes_good : (code_blocks judged x.counts.code_blocks).good x.code_blocks ≡ true
+  pub codes_good : (code_blocks with_code_faults x.counts.code_blocks).good x.code_blocks ≡ true
   pub datas_good : (data_blocks x.counts.data_blocks).good x.data_blocks ≡ true
   pub names_good : (names x.counts.names).good x.names ≡ true
 
-good_parts : (judged : Bool) (x : BodyParts) → (body_rows judged).good (row_of_body_parts x) ≡ true → GoodRecords judged x
+good_parts : (with_code_faults : Bool) (x : BodyParts) → (body_rows with_code_faults).good (row_of_body_parts x) ≡ true → GoodRecords with_code_faults x
 unfolding body_rows
-good_parts judged x good =
+good_parts with_code_faults x good =
     let row = row_of_body_parts x in
     let c = x.counts in
-    let a = chain_parts counts (blocks_and_names judged) row good in
-    let b = chain_parts (code_blocks judged c.code_blocks) (λ blocks. chain (data_blocks c.data_blocks) (λ datas. names c.names)) row.1 a.1 in
+    let a = chain_parts counts (blocks_and_names with_code_faults) row good in
+    let b = chain_parts (code_blocks with_code_faults c.code_blocks) (λ blocks. chain (data_blocks c.data_blocks) (λ datas. names c.names)) row.1 a.1 in
     let d = chain_parts (data_blocks c.data_blocks) (λ datas. names c.names) row.1.1 b.1 in
     record { counts_good = a.0; codes_good = b.0; datas_good = d.0; names_good = d.1 }
 
-codes_count : (judged : Bool) (n : ℕ) (bs : List BlockRecord) → (code_blocks judged n).good bs ≡ true → n ≡ length bs
+codes_count : (with_code_faults : Bool) (n : ℕ) (bs : List BlockRecord) → (code_blocks with_code_faults n).good bs ≡ true → n ≡ length bs
 unfolding code_blocks
-codes_count judged n bs good = many_count (code_block judged) after_block (0, 0) n bs good
+codes_count with_code_faults n bs good = many_count (code_block with_code_faults) after_block (0, 0) n bs good
 
 datas_count : (n : ℕ) (ds : List DataBlock) → (data_blocks n).good ds ≡ true → n ≡ length ds
 unfolding data_blocks
@@ -379,16 +379,16 @@ names_count : (n : ℕ) (ns : List NameRecord) → (names n).good ns ≡ true �
 unfolding names
 names_count n ns good = many_count name_record after_name [] n ns good
 
-body_row_is : (judged : Bool) (x : BodyRow) → (body_rows judged).good x ≡ true → row_of_body_parts (parts_of_records (records_of_parts (parts_of_body_row x))) ≡ x
-body_row_is judged x good =
-    let g = good_parts judged (parts_of_body_row x) good in
+body_row_is : (with_code_faults : Bool) (x : BodyRow) → (body_rows with_code_faults).good x ≡ true → row_of_body_parts (parts_of_records (records_of_parts (parts_of_body_row x))) ≡ x
+body_row_is with_code_faults x good =
+    let g = good_parts with_code_faults (parts_of_body_row x) good in
     let c = x.0 in
     ap (λ (z : CountRow). let r : BodyRow = (counts_of_row z, x.1) in r)
-    (quad (sym (codes_count judged c.code_blocks x.1.0 g.codes_good)) (sym (datas_count c.data_blocks x.1.1.0 g.datas_good)) (sym (names_count c.names x.1.1.1 g.names_good)) (sym (counts_zero c g.counts_good)))
+    (quad (sym (codes_count with_code_faults c.code_blocks x.1.0 g.codes_good)) (sym (datas_count c.data_blocks x.1.1.0 g.datas_good)) (sym (names_count c.names x.1.1.1 g.names_good)) (sym (counts_zero c g.counts_good)))
 
-pub records_laid : (judged : Bool) → IsLaidOut Records (records judged)
+pub records_laid : (with_code_faults : Bool) → IsLaidOut Records (records with_code_faults)
 unfolding records
-records_laid judged = seen_laid (λ r. records_of_parts (parts_of_body_row r)) (λ r. row_of_body_parts (parts_of_records r)) (body_rows judged) (body_row_is judged) (λ r good. refl) (body_rows_laid judged)
+records_laid with_code_faults = seen_laid (λ r. records_of_parts (parts_of_body_row r)) (λ r. row_of_body_parts (parts_of_records r)) (body_rows with_code_faults) (body_row_is with_code_faults) (λ r good. refl) (body_rows_laid with_code_faults)
 
 -- ---- programs: kinds, widths and areas by their numbers
 
@@ -476,19 +476,19 @@ params_there [] = refl
 params_there (p ∷ ps) = rw (width_there p.width, params_there ps) refl
 
 -- the parts of a block record without fault
-pub good_block_of : (judged : Bool) (before : ℕ × ℕ) (b : BlockRecord) → (code_block judged before).good b ≡ true → GoodBlock judged before 0 (parts_of_block b)
+pub good_block_of : (with_code_faults : Bool) (before : ℕ × ℕ) (b : BlockRecord) → (code_block with_code_faults before).good b ≡ true → GoodBlock with_code_faults before 0 (parts_of_block b)
 unfolding code_block plain_block
-good_block_of judged before b good = good_block judged before 0 (parts_of_block b) good
+good_block_of with_code_faults before b good = good_block with_code_faults before 0 (parts_of_block b) good
 
-block_back : (judged : Bool) (before : ℕ × ℕ) (b : BlockRecord) → (code_block judged before).good b ≡ true → record_of_block (block_of_record b) ≡ b
-block_back judged before b good =
-    let p = good_block_of judged before b good in
+block_back : (with_code_faults : Bool) (before : ℕ × ℕ) (b : BlockRecord) → (code_block with_code_faults before).good b ≡ true → record_of_block (block_of_record b) ≡ b
+block_back with_code_faults before b good =
+    let p = good_block_of with_code_faults before b good in
     ap (λ (k : ℕ). let r : BlockRecord = record { kind = k; number = b.number; local_len = b.local_len; instance_len = b.instance_len; params = map record_of_param (map param_of b.params); code = b.code; lines = b.lines } in r) (kind_back b.kind (head_kind before (head_of_block b) p.head_good))
     ∙ ap (λ (ps : List ParameterRecord). let r : BlockRecord = record { kind = b.kind; number = b.number; local_len = b.local_len; instance_len = b.instance_len; params = ps; code = b.code; lines = b.lines } in r) (params_back (head_of_block b) b.params p.params_good)
 
-block_there : (judged : Bool) (before : ℕ × ℕ) (b : CodeBlock) → (code_block judged before).good (record_of_block b) ≡ true → block_of_record (record_of_block b) ≡ b
-block_there judged before b good =
-    let p = good_block_of judged before (record_of_block b) good in
+block_there : (with_code_faults : Bool) (before : ℕ × ℕ) (b : CodeBlock) → (code_block with_code_faults before).good (record_of_block b) ≡ true → block_of_record (record_of_block b) ≡ b
+block_there with_code_faults before b good =
+    let p = good_block_of with_code_faults before (record_of_block b) good in
     ap (λ (k : BlockKind). let r : CodeBlock = record { id = record { kind = k; number = b.id.number }; local_len = b.local_len; instance_len = b.instance_len; params = map param_of (map record_of_param b.params); code = b.code; lines = b.lines } in r) (kind_there b.id.kind (head_kind before (head_of_block (record_of_block b)) p.head_good))
     ∙ ap (λ (ps : List Param). let r : CodeBlock = record { id = b.id; local_len = b.local_len; instance_len = b.instance_len; params = ps; code = b.code; lines = b.lines } in r) (params_there b.params)
 
@@ -507,13 +507,13 @@ name_there before e good =
     ∙ ap (λ (n : ℕ). let r : NameEntry = record { name = e.name; place = record { area = e.place.area; number = n; byte = e.place.byte; bit = e.place.bit }; width = width_of_number (width_number e.width) } in r) (sym a.0)
     ∙ ap (λ (w : Width). let r : NameEntry = record { name = e.name; place = e.place; width = w } in r) (width_there e.width)
 
-codes_back : (judged : Bool) (n : ℕ) (bs : List BlockRecord) → (code_blocks judged n).good bs ≡ true → map record_of_block (map block_of_record bs) ≡ bs
+codes_back : (with_code_faults : Bool) (n : ℕ) (bs : List BlockRecord) → (code_blocks with_code_faults n).good bs ≡ true → map record_of_block (map block_of_record bs) ≡ bs
 unfolding code_blocks
-codes_back judged n bs good = there_many (code_block judged) after_block block_of_record record_of_block (block_back judged) (0, 0) n bs good
+codes_back with_code_faults n bs good = there_many (code_block with_code_faults) after_block block_of_record record_of_block (block_back with_code_faults) (0, 0) n bs good
 
-codes_there : (judged : Bool) (n : ℕ) (bs : List CodeBlock) → (code_blocks judged n).good (map record_of_block bs) ≡ true → map block_of_record (map record_of_block bs) ≡ bs
+codes_there : (with_code_faults : Bool) (n : ℕ) (bs : List CodeBlock) → (code_blocks with_code_faults n).good (map record_of_block bs) ≡ true → map block_of_record (map record_of_block bs) ≡ bs
 unfolding code_blocks
-codes_there judged n bs good = back_many (code_block judged) after_block block_of_record record_of_block (block_there judged) (0, 0) n bs good
+codes_there with_code_faults n bs good = back_many (code_block with_code_faults) after_block block_of_record record_of_block (block_there with_code_faults) (0, 0) n bs good
 
 names_back : (n : ℕ) (ns : List NameRecord) → (names n).good ns ≡ true → map name_of_entry (map entry_of_name ns) ≡ ns
 unfolding names
@@ -523,25 +523,25 @@ names_there : (n : ℕ) (es : List NameEntry) → (names n).good (map name_of_en
 unfolding names
 names_there n es good = back_many name_record after_name entry_of_name name_of_entry name_there [] n es good
 
-pub good_records : (judged : Bool) (r : Records) → (records judged).good r ≡ true → GoodRecords judged (parts_of_records r)
+pub good_records : (with_code_faults : Bool) (r : Records) → (records with_code_faults).good r ≡ true → GoodRecords with_code_faults (parts_of_records r)
 unfolding records
-good_records judged r good = good_parts judged (parts_of_records r) good
+good_records with_code_faults r good = good_parts with_code_faults (parts_of_records r) good
 
-pub records_back : (judged : Bool) (r : Records) → (records judged).good r ≡ true → records_of (program_of r) ≡ r
-records_back judged r good =
-    let p = good_records judged r good in
-    ap (λ (z : List BlockRecord). let y : Records = record { code_blocks = z; data_blocks = r.data_blocks; names = map name_of_entry (map entry_of_name r.names) } in y) (codes_back judged (length r.code_blocks) r.code_blocks p.codes_good)
+pub records_back : (with_code_faults : Bool) (r : Records) → (records with_code_faults).good r ≡ true → records_of (program_of r) ≡ r
+records_back with_code_faults r good =
+    let p = good_records with_code_faults r good in
+    ap (λ (z : List BlockRecord). let y : Records = record { code_blocks = z; data_blocks = r.data_blocks; names = map name_of_entry (map entry_of_name r.names) } in y) (codes_back with_code_faults (length r.code_blocks) r.code_blocks p.codes_good)
     ∙ ap (λ (z : List NameRecord). let y : Records = record { code_blocks = r.code_blocks; data_blocks = r.data_blocks; names = z } in y) (names_back (length r.names) r.names p.names_good)
 
-records_there : (judged : Bool) (p : Program) → (records judged).good (records_of p) ≡ true → program_of (records_of p) ≡ p
-records_there judged p good =
-    let q = good_records judged (records_of p) good in
-    ap (λ (z : List CodeBlock). let y : Program = record { code_blocks = z; data_blocks = p.data_blocks; names = map entry_of_name (map name_of_entry p.names) } in y) (codes_there judged (length (map record_of_block p.code_blocks)) p.code_blocks q.codes_good)
+records_there : (with_code_faults : Bool) (p : Program) → (records with_code_faults).good (records_of p) ≡ true → program_of (records_of p) ≡ p
+records_there with_code_faults p good =
+    let q = good_records with_code_faults (records_of p) good in
+    ap (λ (z : List CodeBlock). let y : Program = record { code_blocks = z; data_blocks = p.data_blocks; names = map entry_of_name (map name_of_entry p.names) } in y) (codes_there with_code_faults (length (map record_of_block p.code_blocks)) p.code_blocks q.codes_good)
     ∙ ap (λ (z : List NameEntry). let y : Program = record { code_blocks = p.code_blocks; data_blocks = p.data_blocks; names = z } in y) (names_there (length (map name_of_entry p.names)) p.names q.names_good)
 
-pub body_laid : (judged : Bool) → IsLaidOut Program (body judged)
+pub body_laid : (with_code_faults : Bool) → IsLaidOut Program (body with_code_faults)
 unfolding body
-body_laid judged = seen_laid program_of records_of (records judged) (records_back judged) (records_there judged) (records_laid judged)
+body_laid with_code_faults = seen_laid program_of records_of (records with_code_faults) (records_back with_code_faults) (records_there with_code_faults) (records_laid with_code_faults)
 
 -- ---- what is checked changes no byte, and is right where it isn't checked
 
@@ -571,7 +571,7 @@ true_text p =
     let c = counts_of r in
     ap (λ (z : List ℕ). counts.spell c ++ (z ++ ((data_blocks c.data_blocks).spell r.data_blocks ++ (names c.names).spell r.names))) (many_text (code_block true) (code_block false) after_block block_text (0, 0) r.code_blocks)
 
-pub same_text : (judged : Bool) (p : Program) → (body judged).spell p ≡ (body false).spell p
+pub same_text : (with_code_faults : Bool) (p : Program) → (body with_code_faults).spell p ≡ (body false).spell p
 same_text true p = true_text p
 same_text false p = refl
 
@@ -683,20 +683,20 @@ abbrev pub Stamped : Type 0
 Stamped = Stamp × Program
 
 abbrev rest_of : Bool → Stamp → ℕ → Cursor → Read Stamped
-rest_of judged stamp total cur = bind ((body judged).read (record { at = cur.at; rest = take (total - front_size) cur.rest })) (at_end stamp)
+rest_of with_code_faults stamp total cur = bind ((body with_code_faults).read (record { at = cur.at; rest = take (total - front_size) cur.rest })) (at_end stamp)
 
 -- nothing is cut off, and nothing is noted
-cut_finds : (judged : Bool) (stamp : Stamp) (total : ℕ) (cur : Cursor) (p : Stamped) (end : Cursor) → 20 ≤ total → total ≤ 8388608 → Finds Stamped (rest_of judged stamp total cur) p end → Finds Stamped (cut judged stamp total total cur) p end
-cut_finds judged stamp total cur p end le most h =
+cut_finds : (with_code_faults : Bool) (stamp : Stamp) (total : ℕ) (cur : Cursor) (p : Stamped) (end : Cursor) → 20 ≤ total → total ≤ 8388608 → Finds Stamped (rest_of with_code_faults stamp total cur) p end → Finds Stamped (cut with_code_faults stamp total total cur) p end
+cut_finds with_code_faults stamp total cur p end le most h =
     let no_cut : (ltb total 20 || ltb total total) ≡ false = or_from _ _ (le-ltb total 20 le) (le-ltb total total (omega arith)) in
     let same : eqb total total ≡ true = eq-eqb total total refl in
     let small : ltb 8388608 total ≡ false = le-ltb 8388608 total most in
-    let shape : cut judged stamp total total cur ≡ rest_of judged stamp total cur = rw (no_cut, small, same) refl in
+    let shape : cut with_code_faults stamp total total cur ≡ rest_of with_code_faults stamp total cur = rw (no_cut, small, same) refl in
     subst (λ (z : Read Stamped). Finds Stamped z p end) (sym shape) h
 
-pub image_again : (judged : Bool) (stamp : Stamp) (p : Program) → (body judged).good p ≡ true → front_size + length (text_of p) ≤ 8388608 → Finds Stamped (read_by judged (image stamp p)) (stamp, p) (at_place (front_size + length (text_of p)) [])
+pub image_again : (with_code_faults : Bool) (stamp : Stamp) (p : Program) → (body with_code_faults).good p ≡ true → front_size + length (text_of p) ≤ 8388608 → Finds Stamped (read_by with_code_faults (image stamp p)) (stamp, p) (at_place (front_size + length (text_of p)) [])
 unfolding read_by image
-image_again judged stamp p good short =
+image_again with_code_faults stamp p good short =
     let text = text_of p in
     let total = front_size + length text in
     let values : Front = front_of stamp total in
@@ -707,17 +707,17 @@ image_again judged stamp p good short =
     let mid_is : mid ≡ at_place 12 text = ap (λ (k : ℕ). at_place (0 + k) text) (front_length values) in
     let one_here : Finds Front (front.read (at_place 0 all)) values (at_place 12 text) = subst (λ (z : Cursor). Finds Front (front.read (at_place 0 all)) values z) mid_is one in
     let size : length all ≡ total = length-append (front.spell values) text ∙ ap (λ (k : ℕ). k + length text) (front_length values) in
-    let spelled : (body judged).spell p ≡ text = same_text judged p in
-    let whole : take (total - front_size) text ≡ (body judged).spell p ++ [] = ap (λ (z : List ℕ). take (total - front_size) z) (sym (append-nil text)) ∙ take_at text [] (total - front_size) (omega arith) ∙ sym spelled ∙ sym (append-nil ((body judged).spell p)) in
-    let two = (body_laid judged).again p 12 [] good in
-    let two_at : Finds Program ((body judged).read (at_place 12 ((body judged).spell p ++ []))) p (at_place (12 + length text) []) = subst (λ (z : List ℕ). Finds Program ((body judged).read (at_place 12 ((body judged).spell p ++ []))) p (at_place (12 + length z) [])) spelled two in
-    let two_here : Finds Program ((body judged).read (at_place 12 (take (total - front_size) text))) p (at_place (12 + length text) []) = subst (λ (z : List ℕ). Finds Program ((body judged).read (at_place 12 z)) p (at_place (12 + length text) [])) (sym whole) two_at in
+    let spelled : (body with_code_faults).spell p ≡ text = same_text with_code_faults p in
+    let whole : take (total - front_size) text ≡ (body with_code_faults).spell p ++ [] = ap (λ (z : List ℕ). take (total - front_size) z) (sym (append-nil text)) ∙ take_at text [] (total - front_size) (omega arith) ∙ sym spelled ∙ sym (append-nil ((body with_code_faults).spell p)) in
+    let two = (body_laid with_code_faults).again p 12 [] good in
+    let two_at : Finds Program ((body with_code_faults).read (at_place 12 ((body with_code_faults).spell p ++ []))) p (at_place (12 + length text) []) = subst (λ (z : List ℕ). Finds Program ((body with_code_faults).read (at_place 12 ((body with_code_faults).spell p ++ []))) p (at_place (12 + length z) [])) spelled two in
+    let two_here : Finds Program ((body with_code_faults).read (at_place 12 (take (total - front_size) text))) p (at_place (12 + length text) []) = subst (λ (z : List ℕ). Finds Program ((body with_code_faults).read (at_place 12 z)) p (at_place (12 + length text) [])) (sym whole) two_at in
     let three : Finds Stamped (at_end stamp p (at_place (12 + length text) [])) (stamp, p) end = record { found = refl; clean = refl } in
-    let inner : Finds Stamped (rest_of judged stamp total (at_place 12 text)) (stamp, p) end = bind_finds _ (at_end stamp) p (at_place (12 + length text) []) (stamp, p) end two_here three in
-    let cut_there : Finds Stamped (cut judged stamp total total (at_place 12 text)) (stamp, p) end = cut_finds judged stamp total (at_place 12 text) (stamp, p) end (let l = text_long p in omega arith) short inner in
-    let cut_by : Finds Stamped (cut judged stamp (length all) total (at_place 12 text)) (stamp, p) end = subst (λ (k : ℕ). Finds Stamped (cut judged stamp k total (at_place 12 text)) (stamp, p) end) (sym size) cut_there in
-    let cut_here : Finds Stamped (cut judged (stamp_in values) (length all) total (at_place 12 text)) (stamp, p) end = subst (λ (s : Stamp). Finds Stamped (cut judged s (length all) total (at_place 12 text)) (stamp, p) end) (sym (stamp_again stamp)) cut_by in
-    bind_finds (front.read (at_place 0 all)) (λ f cur. cut judged (stamp_in f) (length all) f.total_length cur) values (at_place 12 text) (stamp, p) end one_here cut_here
+    let inner : Finds Stamped (rest_of with_code_faults stamp total (at_place 12 text)) (stamp, p) end = bind_finds _ (at_end stamp) p (at_place (12 + length text) []) (stamp, p) end two_here three in
+    let cut_there : Finds Stamped (cut with_code_faults stamp total total (at_place 12 text)) (stamp, p) end = cut_finds with_code_faults stamp total (at_place 12 text) (stamp, p) end (let l = text_long p in omega arith) short inner in
+    let cut_by : Finds Stamped (cut with_code_faults stamp (length all) total (at_place 12 text)) (stamp, p) end = subst (λ (k : ℕ). Finds Stamped (cut with_code_faults stamp k total (at_place 12 text)) (stamp, p) end) (sym size) cut_there in
+    let cut_here : Finds Stamped (cut with_code_faults (stamp_in values) (length all) total (at_place 12 text)) (stamp, p) end = subst (λ (s : Stamp). Finds Stamped (cut with_code_faults s (length all) total (at_place 12 text)) (stamp, p) end) (sym (stamp_again stamp)) cut_by in
+    bind_finds (front.read (at_place 0 all)) (λ f cur. cut with_code_faults (stamp_in f) (length all) f.total_length cur) values (at_place 12 text) (stamp, p) end one_here cut_here
 
 -- every byte string is the image of at most one program, version and profile
 pub image_one : (s t : Stamp) (p q : Program) → IsProgram p → IsProgram q → image s p ≡ image t q → (s ≡ t) × (p ≡ q)
@@ -824,20 +824,20 @@ pub program_again : (p : Program) → IsProgram p → program_of (records_of p) 
 unfolding body
 program_again p h = records_there false p h.good
 
-block_few : (judged : Bool) (before : ℕ × ℕ) (b : BlockRecord) → (code_block judged before).good b ≡ true → length b.params ≤ 60
-block_few judged before b good = head_params before (head_of_block b) (good_block_of judged before b good).head_good
+block_few : (with_code_faults : Bool) (before : ℕ × ℕ) (b : BlockRecord) → (code_block with_code_faults before).good b ≡ true → length b.params ≤ 60
+block_few with_code_faults before b good = head_params before (head_of_block b) (good_block_of with_code_faults before b good).head_good
 
-blocks_few : (judged : Bool) (s : ℕ × ℕ) (n : ℕ) (bs : List BlockRecord) → good_many (code_block judged) after_block s n bs ≡ true → AreFew bs
-blocks_few judged s zero [] h = tt
-blocks_few judged s zero (b ∷ bs) h = absurd cc
-blocks_few judged s (suc n) [] h = absurd cc
-blocks_few judged s (suc n) (b ∷ bs) h =
-    let g = and_parts ((code_block judged s).good b) (good_many (code_block judged) after_block (after_block s b) n bs) h in
-    (block_few judged s b g.0, blocks_few judged (after_block s b) n bs g.1)
+blocks_few : (with_code_faults : Bool) (s : ℕ × ℕ) (n : ℕ) (bs : List BlockRecord) → good_many (code_block with_code_faults) after_block s n bs ≡ true → AreFew bs
+blocks_few with_code_faults s zero [] h = tt
+blocks_few with_code_faults s zero (b ∷ bs) h = absurd cc
+blocks_few with_code_faults s (suc n) [] h = absurd cc
+blocks_few with_code_faults s (suc n) (b ∷ bs) h =
+    let g = and_parts ((code_block with_code_faults s).good b) (good_many (code_block with_code_faults) after_block (after_block s b) n bs) h in
+    (block_few with_code_faults s b g.0, blocks_few with_code_faults (after_block s b) n bs g.1)
 
-codes_few : (judged : Bool) (n : ℕ) (bs : List BlockRecord) → (code_blocks judged n).good bs ≡ true → AreFew bs
+codes_few : (with_code_faults : Bool) (n : ℕ) (bs : List BlockRecord) → (code_blocks with_code_faults n).good bs ≡ true → AreFew bs
 unfolding code_blocks
-codes_few judged n bs good = blocks_few judged (0, 0) n bs good
+codes_few with_code_faults n bs good = blocks_few with_code_faults (0, 0) n bs good
 
 pub program_few : (p : Program) → IsProgram p → AreFew (map record_of_block p.code_blocks)
 unfolding body

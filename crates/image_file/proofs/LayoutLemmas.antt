@@ -79,27 +79,27 @@ given_finds {A = A} x y cur end h = let p = same_Some (x, cur) (y, end) h.found 
 
 -- ---- fields
 
-field_takes : {A : Type 0} (c : Coding A) (judge : A → Option ℕ) → IsExact A c → (cur : Cursor) (o : Option (A × List ℕ)) → c.read cur.rest ≡ o → (x : A) (end : Cursor) → IsBytes cur.rest → Finds A (field_of judge cur o) x end → Spells A (field c judge) cur x end
-field_takes {A = A} c judge exact cur None e x end are h = let f = h.found in absurd cc
-field_takes {A = A} c judge exact cur (Some r) e x end are h =
+field_takes : {A : Type 0} (c : Coding A) (fault_in : A → Option ℕ) → IsExact A c → (cur : Cursor) (o : Option (A × List ℕ)) → c.read cur.rest ≡ o → (x : A) (end : Cursor) → IsBytes cur.rest → Finds A (field_of fault_in cur o) x end → Spells A (field c fault_in) cur x end
+field_takes {A = A} c fault_in exact cur None e x end are h = let f = h.found in absurd cc
+field_takes {A = A} c fault_in exact cur (Some r) e x end are h =
     let next : Cursor = record { at = cur.at + (length cur.rest - length r.1); rest = r.1 } in
     let p = same_Some (r.0, next) (x, end) h.found in
     let t = exact.takes cur.rest r.0 r.1 are e in
-    let fine = noted_fine cur.at (judge r.0) h.clean in
-    let here : Spells A (field c judge) cur r.0 next = record { text = t.0; good = and_from (c.fits r.0) (is_fine (judge r.0)) t.1 fine } in
-    subst (λ (z : A × Cursor). Spells A (field c judge) cur z.0 z.1) p here
+    let fine = noted_fine cur.at (fault_in r.0) h.clean in
+    let here : Spells A (field c fault_in) cur r.0 next = record { text = t.0; good = and_from (c.fits r.0) (is_fine (fault_in r.0)) t.1 fine } in
+    subst (λ (z : A × Cursor). Spells A (field c fault_in) cur z.0 z.1) p here
 
-pub field_laid : {A : Type 0} (c : Coding A) (judge : A → Option ℕ) → IsExact A c → IsLaidOut A (field c judge)
-field_laid {A = A} c judge exact = record {
+pub field_laid : {A : Type 0} (c : Coding A) (fault_in : A → Option ℕ) → IsExact A c → IsLaidOut A (field c fault_in)
+field_laid {A = A} c fault_in exact = record {
   again = λ x at rest good.
-      let g = and_parts (c.fits x) (is_fine (judge x)) good in
+      let g = and_parts (c.fits x) (is_fine (fault_in x)) good in
       let cur = at_place at (c.spell x ++ rest) in
       let read : c.read cur.rest ≡ Some (x, rest) = exact.again x rest g.0 in
       let size : length (c.spell x ++ rest) - length rest ≡ length (c.spell x) = omega (arith, length-append (c.spell x) rest) in
-      let here : Finds A (field_of judge cur (Some (x, rest))) x (at_place (at + length (c.spell x)) rest) =
-      record { found = ap (λ (k : ℕ). Some (x, at_place (at + k) rest)) size; clean = noted_none at (judge x) g.1 } in
-      subst (λ (o : Option (A × List ℕ)). Finds A (field_of judge cur o) x (at_place (at + length (c.spell x)) rest)) (sym read) here;
-  takes = λ cur x end are h. field_takes c judge exact cur (c.read cur.rest) refl x end are h;
+      let here : Finds A (field_of fault_in cur (Some (x, rest))) x (at_place (at + length (c.spell x)) rest) =
+      record { found = ap (λ (k : ℕ). Some (x, at_place (at + k) rest)) size; clean = noted_none at (fault_in x) g.1 } in
+      subst (λ (o : Option (A × List ℕ)). Finds A (field_of fault_in cur o) x (at_place (at + length (c.spell x)) rest)) (sym read) here;
+  takes = λ cur x end are h. field_takes c fault_in exact cur (c.read cur.rest) refl x end are h;
 }
 
 -- ---- one behind the other

@@ -12,15 +12,15 @@ use Rattle.flat_code.specs.declared.programs.DataBlock.{DataBlock as Block}
 use Rattle.flat_code.specs.Layout.{Note, Faulty, Whole, AllBlocks, Cursor, faults_in}
 use Rattle.flat_code.specs.Image.{program_of, read_image, IsProgram, record_of_block, block_of_record, entry_of_name}
 use Rattle.flat_code.specs.Blocks.{Signature, signature_of, Around, block_faults}
-use Rattle.flat_code.specs.Loading.{around, judged_blocks, lens_of, later, wholes, all_blocks, blocks_of, faults_of, Gives, Verifies}
+use Rattle.flat_code.specs.Loading.{around, op_faults_of_blocks, lens_of, later, wholes, all_blocks, blocks_of, faults_of, Gives, Verifies}
 use Rattle.image_file.specs.declared.faults.LoadFault.{LoadFault}
 use Rattle.image_file.specs.declared.records.Started.{Started}
 use Rattle.image_file.specs.Least.{is_fault_less, fault_of_pair, with_faults}
 use Rattle.image_file.specs.Typing.{AreFew, program_from}
 use Rattle.image_file.specs.declared.reader.Reader.{Reader}
 use Rattle.image_file.specs.declared.loading.ImageRead.{ImageRead}
-use Rattle.image_file.specs.declared.loading.Judged.{Judged}
-use Rattle.image_file.specs.declared.loading.Judged.TheVariants as outcome
+use Rattle.image_file.specs.declared.loading.CheckResult.{CheckResult}
+use Rattle.image_file.specs.declared.loading.CheckResult.TheVariants as outcome
 use Rattle.image_file.specs.declared.records.FoundRead.{FoundRead}
 use Rattle.image_file.specs.Running.{started_block, checked_faults, program_read, found_values, HoldsAll, IsCheckResult, with_wholes, with_all, Log, log_after, Ran, Goes, Stops, run_result, run_of_read, log_of, SeesFound, HasFound}
 use Rattle.flat_code.proofs.CodingLemmas.{IsBytes}
@@ -35,17 +35,17 @@ Lens = Option (List (ℕ × ℕ))
 abbrev pub around_by : Lens → List Signature → BlockRecord → Around
 around_by lens signatures b = record { kind = b.kind; local_len = b.local_len; params = b.params; blocks = signatures; data_lens = lens }
 
-pub judged_next : (lens : Lens) (signatures : List Signature) (all : List BlockRecord) (bs : List Started) (i : ℕ) (s : Started) (least mid : Option LoadFault) → i < length bs → s ≡ get_or bs i s → signatures ≡ map signature_of all
-    → mid ≡ with_faults least (block_faults (around_by lens signatures s.block) s.start s.block.code) → with_faults mid (judged_blocks lens all (map started_block (drop (i + 1) bs))) ≡ with_faults least (judged_blocks lens all (map started_block (drop i bs)))
-judged_next lens signatures all bs i s least mid lt is known m =
+pub checked_next : (lens : Lens) (signatures : List Signature) (all : List BlockRecord) (bs : List Started) (i : ℕ) (s : Started) (least mid : Option LoadFault) → i < length bs → s ≡ get_or bs i s → signatures ≡ map signature_of all
+    → mid ≡ with_faults least (block_faults (around_by lens signatures s.block) s.start s.block.code) → with_faults mid (op_faults_of_blocks lens all (map started_block (drop (i + 1) bs))) ≡ with_faults least (op_faults_of_blocks lens all (map started_block (drop i bs)))
+checked_next lens signatures all bs i s least mid lt is known m =
     let here : mid ≡ with_faults least (block_faults (around lens all s.block) s.start s.block.code) = m ∙ ap (λ (z : List Signature). with_faults least (block_faults (around_by lens z s.block) s.start s.block.code)) known in
-    ap (λ (z : Option LoadFault). with_faults z (judged_blocks lens all (map started_block (drop (i + 1) bs)))) here
-    ∙ sym (with_more least (block_faults (around lens all s.block) s.start s.block.code) (judged_blocks lens all (map started_block (drop (i + 1) bs))))
-    ∙ sym (ap (λ (z : List Started). with_faults least (judged_blocks lens all (map started_block z))) (drop_next bs i s lt is))
+    ap (λ (z : Option LoadFault). with_faults z (op_faults_of_blocks lens all (map started_block (drop (i + 1) bs)))) here
+    ∙ sym (with_more least (block_faults (around lens all s.block) s.start s.block.code) (op_faults_of_blocks lens all (map started_block (drop (i + 1) bs))))
+    ∙ sym (ap (λ (z : List Started). with_faults least (op_faults_of_blocks lens all (map started_block z))) (drop_next bs i s lt is))
 
-pub judged_done : (lens : Lens) (all : List BlockRecord) (bs : List Started) (i : ℕ) (least : Option LoadFault) → length bs ≤ i → least ≡ with_faults least (judged_blocks lens all (map started_block (drop i bs)))
+pub checked_done : (lens : Lens) (all : List BlockRecord) (bs : List Started) (i : ℕ) (least : Option LoadFault) → length bs ≤ i → least ≡ with_faults least (op_faults_of_blocks lens all (map started_block (drop i bs)))
 unfolding with_faults
-judged_done lens all bs i least le = rw (drop_of_length-le bs {i = i} le) refl
+checked_done lens all bs i least le = rw (drop_of_length-le bs {i = i} le) refl
 
 -- ---- what one pass keeps
 
@@ -116,9 +116,9 @@ least_of found r text result h e =
     let notes = (read_image text).notes in
     let lens : Lens = option_map lens_of (log_of r).datas in
     e ∙ ap (λ (z : Option LoadFault). with_faults z (checked_faults (log_of r))) k.least
-    ∙ ap (λ (z : List (ℕ × BlockRecord)). with_faults (with_faults None (faults_in notes)) (judged_blocks lens (blocks_of z) z)) k.blocks
-    ∙ ap (λ (z : Option (List DataBlock)). with_faults (with_faults None (faults_in notes)) (judged_blocks (option_map lens_of z) (blocks_of (wholes notes)) (wholes notes))) k.datas
-    ∙ sym (with_more None (faults_in notes) (judged_blocks (option_map lens_of (all_blocks notes)) (blocks_of (wholes notes)) (wholes notes)))
+    ∙ ap (λ (z : List (ℕ × BlockRecord)). with_faults (with_faults None (faults_in notes)) (op_faults_of_blocks lens (blocks_of z) z)) k.blocks
+    ∙ ap (λ (z : Option (List DataBlock)). with_faults (with_faults None (faults_in notes)) (op_faults_of_blocks (option_map lens_of z) (blocks_of (wholes notes)) (wholes notes))) k.datas
+    ∙ sym (with_more None (faults_in notes) (op_faults_of_blocks (option_map lens_of (all_blocks notes)) (blocks_of (wholes notes)) (wholes notes)))
 
 -- ---- bytes without fault
 
@@ -198,9 +198,9 @@ datas_there text least r (Some f) are e h none = by r.datas h
     by None h = absurd (has_datas text (map started_block r.blocks.items) (found_values f) are (no_faults_by text least e none) h)
     by (Some v) h = refl
 
-pub judged_by : (text : List ℕ) (least : Option LoadFault) (r : Reader) (found : Option FoundRead) (j : Judged) → least ≡ with_faults None (faults_of text) → Found text r found → HoldsAll least r.blocks.items (option_map (λ v. v.items) r.datas) found j → IsCheckResult text j
-judged_by text least r found (outcome.Faulty f) e h all = sym e ∙ all
-judged_by text least r found (outcome.Clean image) e h all = (
+pub checked_by : (text : List ℕ) (least : Option LoadFault) (r : Reader) (found : Option FoundRead) (j : CheckResult) → least ≡ with_faults None (faults_of text) → Found text r found → HoldsAll least r.blocks.items (option_map (λ v. v.items) r.datas) found j → IsCheckResult text j
+checked_by text least r found (outcome.Faulty f) e h all = sym e ∙ all
+checked_by text least r found (outcome.Clean image) e h all = (
   sym e ∙ all.0,
   subst (λ (z : List Started). HasFound text (map started_block z) (Some image.data_blocks.items) (Some (image.stamp, image.names.items))) (sym all.1)
       (subst (λ (z : Option (List DataBlock)). HasFound text (map started_block r.blocks.items) z (Some (image.stamp, image.names.items))) all.2

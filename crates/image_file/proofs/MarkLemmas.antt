@@ -15,7 +15,7 @@ use Rattle.flat_code.specs.Programs.{CodeBlock}
 use Rattle.image_file.specs.Marks.{inside_mark, marks_from, ops_of_bytes, IsInPlace}
 use Rattle.image_file.specs.Tables.{no_index, HasSmallCode, AreSmall}
 use Rattle.image_file.proofs.CodeLemmas.{ops_again}
-use Rattle.image_file.proofs.JudgeLemmas.{code_len}
+use Rattle.image_file.proofs.CheckLemmas.{code_len}
 
 -- ---- ops and their bytes
 

@@ -68,25 +68,25 @@ pub record HasRoom (bs : List CodeBlock) : Type 0 where
   pub small : AreSmall bs
   pub slots : HaveSlots bs
 
-blocks_room : (judged : Bool) (s : ℕ × ℕ) (n : ℕ) (bs : List CodeBlock) → good_many (code_block judged) after_block s n (map record_of_block bs) ≡ true → HasRoom bs
-blocks_room judged s zero [] h = record { small = tt; slots = tt }
-blocks_room judged s zero (b ∷ bs) h = absurd cc
-blocks_room judged s (suc n) [] h = absurd cc
-blocks_room judged s (suc n) (b ∷ bs) h =
+blocks_room : (with_code_faults : Bool) (s : ℕ × ℕ) (n : ℕ) (bs : List CodeBlock) → good_many (code_block with_code_faults) after_block s n (map record_of_block bs) ≡ true → HasRoom bs
+blocks_room with_code_faults s zero [] h = record { small = tt; slots = tt }
+blocks_room with_code_faults s zero (b ∷ bs) h = absurd cc
+blocks_room with_code_faults s (suc n) [] h = absurd cc
+blocks_room with_code_faults s (suc n) (b ∷ bs) h =
     let r = record_of_block b in
-    let g = and_parts ((code_block judged s).good r) (good_many (code_block judged) after_block (after_block s r) n (map record_of_block bs)) h in
-    let p = good_block_of judged s r g.0 in
+    let g = and_parts ((code_block with_code_faults s).good r) (good_many (code_block with_code_faults) after_block (after_block s r) n (map record_of_block bs)) h in
+    let p = good_block_of with_code_faults s r g.0 in
     let small = head_small s (head_of_block r) p.head_good in
     let kind = kind_small b.id.kind (head_kind s (head_of_block r) p.head_good) in
-    let more = blocks_room judged (after_block s r) n bs g.1 in
+    let more = blocks_room with_code_faults (after_block s r) n bs g.1 in
     record {
       small = (record { code = omega (arith, small.code); lines = small.statements }, more.small);
       slots = (has_slot b kind small.number, more.slots);
     }
 
-codes_room : (judged : Bool) (n : ℕ) (bs : List CodeBlock) → (code_blocks judged n).good (map record_of_block bs) ≡ true → HasRoom bs
+codes_room : (with_code_faults : Bool) (n : ℕ) (bs : List CodeBlock) → (code_blocks with_code_faults n).good (map record_of_block bs) ≡ true → HasRoom bs
 unfolding code_blocks
-codes_room judged n bs good = blocks_room judged (0, 0) n bs good
+codes_room with_code_faults n bs good = blocks_room with_code_faults (0, 0) n bs good
 
 pub program_room : (p : Program) → IsProgram p → HasRoom p.code_blocks
 unfolding body

@@ -11,7 +11,7 @@ use Rattle.flat_code.specs.declared.image_fields.OpenBracket.{OpenBracket}
 use Rattle.flat_code.specs.Blocks.{Signature, block_with, data_len}
 use Rattle.flat_code.specs.Placed.{Spot, spots, spots_from, spot_at, few, opened, zones_behind}
 use Rattle.image_file.specs.Tables.{start_index, no_index, table_entry, IsTableOf, FindsStatements, FindsLens, call_key, signature_callee, found_callee, FindsCallees}
-use Rattle.image_file.proofs.JudgeLemmas.{code_len}
+use Rattle.image_file.proofs.CheckLemmas.{code_len}
 use Rattle.image_file.proofs.MarkLemmas.{two_bytes}
 
 -- a table holds the places of the starts from one on

@@ -16,7 +16,7 @@ use Rattle.flat_code.specs.Image.{plain, plain_u16, plain_u32, zero_u8, zero_u16
 use Rattle.flat_code.specs.declared.image_fields.OpenBracket.{OpenBracket}
 use Rattle.flat_code.specs.Placed.{Placed, Spot, spots, places, open_behind, zones_left}
 use Rattle.flat_code.specs.Blocks.{Around, operand_fault, call_fault, mark_fault, bracket_fault, zone_fault, at_offset, op_faults, faults_over, open_faults, open_zone_faults, block_faults}
-use Rattle.flat_code.specs.Loading.{lens_of, later, around, wholes, all_blocks, blocks_of, judged_blocks, faults_of, Gives, AreVerified, IsLoadable}
+use Rattle.flat_code.specs.Loading.{lens_of, later, around, wholes, all_blocks, blocks_of, op_faults_of_blocks, faults_of, Gives, AreVerified, IsLoadable}
 use Rattle.flat_code.proofs.CodingLemmas.{IsBytes}
 use Rattle.image_file.proofs.LayoutLemmas.{at_place, no_faults}
 use Rattle.image_file.proofs.ImageLemmas.{image_again, image_takes, records_back, records_laid, front_laid, bytes_taken, Stamped}
@@ -114,12 +114,12 @@ go_steps {A = A} {B = B} notes (Some x) f y end e = record { first = x.0; next =
 steps : {A B : Type 0} (r : Read A) (f : A → Cursor → Read B) (y : B) (end : Cursor) → (bind r f).found ≡ Some (y, end) → Steps A B r f y end
 steps r f y end e = go_steps r.notes r.found f y end e
 
-field_of_notes : {A : Type 0} (judge : A → Option ℕ) (cur : Cursor) (o : Option (A × List ℕ)) (x : A) (end : Cursor) → (field_of judge cur o).found ≡ Some (x, end) → told_in (field_of judge cur o).notes ≡ nothing
-field_of_notes {A = A} judge cur None x end h = absurd cc
-field_of_notes {A = A} judge cur (Some r) x end h = none_noted cur.at (judge r.0)
+field_of_notes : {A : Type 0} (fault_in : A → Option ℕ) (cur : Cursor) (o : Option (A × List ℕ)) (x : A) (end : Cursor) → (field_of fault_in cur o).found ≡ Some (x, end) → told_in (field_of fault_in cur o).notes ≡ nothing
+field_of_notes {A = A} fault_in cur None x end h = absurd cc
+field_of_notes {A = A} fault_in cur (Some r) x end h = none_noted cur.at (fault_in r.0)
 
-field_notes : {A : Type 0} (c : Coding A) (judge : A → Option ℕ) → Notes A (field c judge) (λ x. nothing)
-field_notes {A = A} c judge = record { says = λ cur x end e. field_of_notes judge cur (c.read cur.rest) x end e }
+field_notes : {A : Type 0} (c : Coding A) (fault_in : A → Option ℕ) → Notes A (field c fault_in) (λ x. nothing)
+field_notes {A = A} c fault_in = record { says = λ cur x end e. field_of_notes fault_in cur (c.read cur.rest) x end e }
 
 chain_notes : {A B : Type 0} (l : Layout A) (m : A → Layout B) (v : A → Told) (w : A → B → Told) → Notes A l v → ((x : A) → Notes B (m x) (w x)) → Notes (A × B) (chain l m) (λ x. join (v x.0) (w x.0 x.1))
 chain_notes {A = A} {B = B} l m v w p q = record {
@@ -460,25 +460,25 @@ moved around start other ops e =
     let n = nil_parts (faults_over around (spots ops) start (places ops)) (open_faults start (open_behind 0 [] ops)) m.0 in
     nil_join (nil_join (over_moved around (spots ops) start other (places ops) n.0) (open_moved start other (open_behind 0 [] ops) n.1)) (open_zones_moved start other (zones_left 0 [] ops) m.1)
 
-verified : (lens : List (ℕ × ℕ)) (all : List BlockRecord) (bs : List (ℕ × BlockRecord)) → judged_blocks (Some lens) all bs ≡ [] → AreVerified lens all (blocks_of bs)
+verified : (lens : List (ℕ × ℕ)) (all : List BlockRecord) (bs : List (ℕ × BlockRecord)) → op_faults_of_blocks (Some lens) all bs ≡ [] → AreVerified lens all (blocks_of bs)
 verified lens all [] e = tt
 verified lens all (b ∷ bs) e =
-    let n = nil_parts (block_faults (around (Some lens) all b.1) b.0 b.1.code) (judged_blocks (Some lens) all bs) e in
+    let n = nil_parts (block_faults (around (Some lens) all b.1) b.0 b.1.code) (op_faults_of_blocks (Some lens) all bs) e in
     (moved (around (Some lens) all b.1) b.0 0 b.1.code n.0, verified lens all bs n.1)
 
-unjudged : (lens : List (ℕ × ℕ)) (all : List BlockRecord) (bs : List (ℕ × BlockRecord)) → AreVerified lens all (blocks_of bs) → judged_blocks (Some lens) all bs ≡ []
-unjudged lens all [] h = refl
-unjudged lens all (b ∷ bs) h = nil_join (moved (around (Some lens) all b.1) 0 b.0 b.1.code h.0) (unjudged lens all bs h.1)
+unchecked : (lens : List (ℕ × ℕ)) (all : List BlockRecord) (bs : List (ℕ × BlockRecord)) → AreVerified lens all (blocks_of bs) → op_faults_of_blocks (Some lens) all bs ≡ []
+unchecked lens all [] h = refl
+unchecked lens all (b ∷ bs) h = nil_join (moved (around (Some lens) all b.1) 0 b.0 b.1.code h.0) (unchecked lens all bs h.1)
 
 pub gives_image : (text : List ℕ) (stamp : Stamp) (p : Program) → IsBytes text → Gives text stamp p → IsLoadable text stamp p
 unfolding faults_of
 gives_image text stamp p are g =
     let notes = (read_image text).notes in
-    let n = nil_parts (faults_in notes) (judged_blocks (option_map lens_of (all_blocks notes)) (blocks_of (wholes notes)) (wholes notes)) g.clean in
+    let n = nil_parts (faults_in notes) (op_faults_of_blocks (option_map lens_of (all_blocks notes)) (blocks_of (wholes notes)) (wholes notes)) g.clean in
     let t = image_takes text stamp p g.end are (record { found = g.found; clean = n.0 }) in
     let m = image_noted text stamp p g.end are g.found n.0 in
-    let judged : judged_blocks (Some (lens_of p.data_blocks)) (blocks_of (wholes notes)) (wholes notes) ≡ [] = ap (λ (z : Option (List DataBlock)). judged_blocks (option_map lens_of z) (blocks_of (wholes notes)) (wholes notes)) (sym m.datas) ∙ n.1 in
-    let v = verified (lens_of p.data_blocks) (blocks_of (wholes notes)) (wholes notes) judged in
+    let no_block_faults : op_faults_of_blocks (Some (lens_of p.data_blocks)) (blocks_of (wholes notes)) (wholes notes) ≡ [] = ap (λ (z : Option (List DataBlock)). op_faults_of_blocks (option_map lens_of z) (blocks_of (wholes notes)) (wholes notes)) (sym m.datas) ∙ n.1 in
+    let v = verified (lens_of p.data_blocks) (blocks_of (wholes notes)) (wholes notes) no_block_faults in
     record {
       spelled = t.0;
       program = t.1;
@@ -495,5 +495,5 @@ image_gives text stamp p are h =
     let clean : faults_in notes ≡ [] = ap (λ (z : List ℕ). faults_in (read_image z).notes) h.spelled ∙ is.clean in
     let m = image_noted text stamp p end are found clean in
     let v : AreVerified (lens_of p.data_blocks) (blocks_of (wholes notes)) (blocks_of (wholes notes)) = subst (λ (z : List BlockRecord). AreVerified (lens_of p.data_blocks) z z) (sym m.codes) h.verifies.blocks in
-    let judged : judged_blocks (option_map lens_of (all_blocks notes)) (blocks_of (wholes notes)) (wholes notes) ≡ [] = ap (λ (z : Option (List DataBlock)). judged_blocks (option_map lens_of z) (blocks_of (wholes notes)) (wholes notes)) m.datas ∙ unjudged (lens_of p.data_blocks) (blocks_of (wholes notes)) (wholes notes) v in
-    record { end = end; found = found; clean = nil_join clean judged }
+    let no_block_faults : op_faults_of_blocks (option_map lens_of (all_blocks notes)) (blocks_of (wholes notes)) (wholes notes) ≡ [] = ap (λ (z : Option (List DataBlock)). op_faults_of_blocks (option_map lens_of z) (blocks_of (wholes notes)) (wholes notes)) m.datas ∙ unchecked (lens_of p.data_blocks) (blocks_of (wholes notes)) (wholes notes) v in
+    record { end = end; found = found; clean = nil_join clean no_block_faults }

@@ -9,11 +9,11 @@ use Rattle.flat_code.specs.Records.{BlockRecord, NameRecord, Records}
 use Rattle.flat_code.specs.Programs.{DataBlock, Program}
 use Rattle.flat_code.specs.Image.{Head, Counts, Front, program_of, read_image}
 use Rattle.flat_code.specs.declared.stamps.Stamp.{Stamp}
-use Rattle.flat_code.specs.Loading.{lens_of, wholes, all_blocks, blocks_of, judged_blocks, faults_of}
+use Rattle.flat_code.specs.Loading.{lens_of, wholes, all_blocks, blocks_of, op_faults_of_blocks, faults_of}
 use Rattle.image_file.specs.declared.faults.LoadFault.{LoadFault}
 use Rattle.image_file.specs.declared.loading.ImageRead.{ImageRead}
-use Rattle.image_file.specs.declared.loading.Judged.{Judged}
-use Rattle.image_file.specs.declared.loading.Judged.TheVariants as outcome
+use Rattle.image_file.specs.declared.loading.CheckResult.{CheckResult}
+use Rattle.image_file.specs.declared.loading.CheckResult.TheVariants as outcome
 use Rattle.image_file.specs.declared.reader.Reader.{Reader}
 use Rattle.image_file.specs.declared.records.HeadRead.{HeadRead}
 use Rattle.image_file.specs.declared.records.CountsRead.{CountsRead}
@@ -177,21 +177,21 @@ HasFound text blocks datas (Some found) = (x : Records) × (end : Cursor) × ((r
 
 -- the faults of the ops of the blocks that were read, by what one pass keeps
 abbrev pub checked_faults : Log → List (ℕ × ℕ)
-checked_faults log = judged_blocks (option_map lens_of log.datas) (blocks_of log.blocks) log.blocks
+checked_faults log = op_faults_of_blocks (option_map lens_of log.datas) (blocks_of log.blocks) log.blocks
 
 -- the program of an image that was read whole
 abbrev pub program_read : ImageRead → Program
 program_read image = program_from (map started_block image.blocks.items) image.data_blocks.items image.names.items
 
 -- the least fault, or all that was read where there is none
-abbrev pub HoldsAll : Option LoadFault → List Started → Option (List DataBlock) → Option FoundRead → Judged → Type 0
+abbrev pub HoldsAll : Option LoadFault → List Started → Option (List DataBlock) → Option FoundRead → CheckResult → Type 0
 HoldsAll least blocks datas found (outcome.Faulty f) = least ≡ Some f
 HoldsAll least blocks datas found (outcome.Clean image) =
     (least ≡ None) × (image.blocks.items ≡ blocks) × (datas ≡ Some image.data_blocks.items)
     × (option_map found_values found ≡ Some (image.stamp, image.names.items))
 
 -- what bytes come to that were read and checked: the least of their faults, or all that they hold
-abbrev pub IsCheckResult : List ℕ → Judged → Type 0
+abbrev pub IsCheckResult : List ℕ → CheckResult → Type 0
 IsCheckResult text (outcome.Faulty f) = with_faults None (faults_of text) ≡ Some f
 IsCheckResult text (outcome.Clean image) =
     (with_faults None (faults_of text) ≡ None)

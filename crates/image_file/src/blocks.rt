@@ -177,7 +177,7 @@ impl Reader<'_> {
             ≡ self.old.at + length self.old.rest.now) }
     {
         let end_marks = end_mark_count(ops);
-        self.judge(
+        self.check(
             start + 8,
             Field::StatementCount {
                 end_marks,

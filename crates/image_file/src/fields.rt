@@ -45,7 +45,7 @@ impl Reader<'_> {
     {
         let at = self.at;
         let number = self.u8()?;
-        self.judge(
+        self.check(
             at,
             Field::Reserved {
                 number: u16::from(number),
@@ -65,7 +65,7 @@ impl Reader<'_> {
     {
         let at = self.at;
         let number = self.u16()?;
-        self.judge(at, Field::Reserved { number });
+        self.check(at, Field::Reserved { number });
         Ok(number)
     }
 
@@ -80,7 +80,7 @@ impl Reader<'_> {
     {
         let at = self.at;
         let number = self.u8()?;
-        self.judge(at, Field::Width { width: number });
+        self.check(at, Field::Width { width: number });
         Ok(number)
     }
 
@@ -95,7 +95,7 @@ impl Reader<'_> {
     {
         let at = self.at;
         let number = self.u8()?;
-        self.judge(at, Field::Section { section: number });
+        self.check(at, Field::Section { section: number });
         Ok(number)
     }
 
@@ -115,7 +115,7 @@ impl Reader<'_> {
     {
         let at = self.at;
         let number = self.u16()?;
-        self.judge(
+        self.check(
             at,
             Field::ParameterByte {
                 kind,
@@ -138,7 +138,7 @@ impl Reader<'_> {
     {
         let at = self.at;
         let number = self.u8()?;
-        self.judge(at, Field::ParameterBit { kind, bit: number });
+        self.check(at, Field::ParameterBit { kind, bit: number });
         Ok(number)
     }
 
@@ -153,7 +153,7 @@ impl Reader<'_> {
     {
         let at = self.at;
         let number = self.u8()?;
-        self.judge(
+        self.check(
             at,
             Field::Kind {
                 before,
@@ -174,7 +174,7 @@ impl Reader<'_> {
     {
         let at = self.at;
         let number = self.u8()?;
-        self.judge(
+        self.check(
             at,
             Field::ParameterCount {
                 kind,
@@ -200,7 +200,7 @@ impl Reader<'_> {
     {
         let at = self.at;
         let number = self.u16()?;
-        self.judge(
+        self.check(
             at,
             Field::Number {
                 kind_before,
@@ -223,7 +223,7 @@ impl Reader<'_> {
     {
         let at = self.at;
         let number = self.u16()?;
-        self.judge(
+        self.check(
             at,
             Field::LocalBytes {
                 kind,
@@ -244,7 +244,7 @@ impl Reader<'_> {
     {
         let at = self.at;
         let number = self.u16()?;
-        self.judge(
+        self.check(
             at,
             Field::InstanceBytes {
                 kind,
@@ -264,7 +264,7 @@ impl Reader<'_> {
     {
         let at = self.at;
         let number = self.u32()?;
-        self.judge(
+        self.check(
             at,
             Field::Line {
                 before,
@@ -284,7 +284,7 @@ impl Reader<'_> {
     {
         let at = self.at;
         let number = self.u16()?;
-        self.judge(at, Field::DataNumber { before, number });
+        self.check(at, Field::DataNumber { before, number });
         Ok(number)
     }
 
@@ -298,7 +298,7 @@ impl Reader<'_> {
     {
         let at = self.at;
         let number = self.u16()?;
-        self.judge(at, Field::InstanceOf { number });
+        self.check(at, Field::InstanceOf { number });
         Ok(number)
     }
 
@@ -312,7 +312,7 @@ impl Reader<'_> {
     {
         let at = self.at;
         let number = self.u16()?;
-        self.judge(
+        self.check(
             at,
             Field::DataBytes {
                 before,
@@ -332,7 +332,7 @@ impl Reader<'_> {
     {
         let at = self.at;
         let number = self.u8()?;
-        self.judge(at, Field::NameLength { bytes: number });
+        self.check(at, Field::NameLength { bytes: number });
         Ok(number)
     }
 
@@ -346,7 +346,7 @@ impl Reader<'_> {
     {
         let at = self.at;
         let number = self.u8()?;
-        self.judge(at, Field::NameArea { area: number });
+        self.check(at, Field::NameArea { area: number });
         Ok(number)
     }
 
@@ -360,7 +360,7 @@ impl Reader<'_> {
     {
         let at = self.at;
         let number = self.u8()?;
-        self.judge(at, Field::NameBit { width, bit: number });
+        self.check(at, Field::NameBit { width, bit: number });
         Ok(number)
     }
 
@@ -374,7 +374,7 @@ impl Reader<'_> {
     {
         let at = self.at;
         let number = self.u16()?;
-        self.judge(at, Field::DataBlockCount { count: number });
+        self.check(at, Field::DataBlockCount { count: number });
         Ok(number)
     }
 
@@ -389,7 +389,7 @@ impl Reader<'_> {
     {
         let at = self.at;
         let number = self.u32()?;
-        self.judge(at, Field::Magic { number });
+        self.check(at, Field::Magic { number });
         Ok(number)
     }
 
@@ -404,7 +404,7 @@ impl Reader<'_> {
     {
         let at = self.at;
         let number = self.u16()?;
-        self.judge(at, Field::Version { number });
+        self.check(at, Field::Version { number });
         Ok(number)
     }
 
@@ -419,7 +419,7 @@ impl Reader<'_> {
     {
         let at = self.at;
         let number = self.u16()?;
-        self.judge(at, Field::Profile { version, number });
+        self.check(at, Field::Profile { version, number });
         Ok(number)
     }
 }

@@ -4,7 +4,7 @@ ghost use Rattle.flat_code.specs.Codes.{code_bytes, are_ops};
 ghost use Rattle.image_file.specs.Marks.{inside_mark, marks_from};
 ghost use Rattle.image_file.specs.Tables.{no_index};
 
-use crate::judging::is_last;
+use crate::checking::is_last;
 use crate::tables::NOWHERE;
 use crate::writing::code_len;
 use flat_code::{Op, encode_op};

@@ -7,7 +7,7 @@ ghost use Rattle.flat_code.specs.declared.operations.CallOperation.TheVariants a
 ghost use Rattle.flat_code.specs.declared.operations.Operation.TheVariants as operation;
 ghost use Rattle.flat_code.specs.Placed.{is_empty, ending};
 ghost use Rattle.flat_code.specs.Blocks.{is_odd_bit, is_past_locals, is_bad_place, lacks_width, writes, own_parameter, lacks_own, is_input, is_in_db, pass_index, pass_before, is_above, is_bad_actual, literal_fits, misfits_parameter, is_index, is_passed, is_ju, leads};
-ghost use Rattle.image_file.specs.Judging.{around_of};
+ghost use Rattle.image_file.specs.OpChecking.{around_of};
 
 use crate::numbers::{CALL, EDGE_NEGATIVE, FUNCTION, JUMP, TRANSFER};
 use crate::surroundings::Surroundings;

@@ -52,7 +52,7 @@ impl<'a> Reader<'a> {
 
     /// Notes the fault of a field at an offset, if it has one.
     #[tactic(auto, unfolding(crate::specs::Least::with_faults, crate::specs::Running::log_after))]
-    pub(crate) fn judge(&mut self, at: u32, field: Field)
+    pub(crate) fn check(&mut self, at: u32, field: Field)
         ensures log { log_of self.new ≡ log_after (log_of self.old) (noted at (fault_of field)) }
         ensures at { self.new.at ≡ self.old.at }
         ensures rest { self.new.rest.now ≡ self.old.rest.now }

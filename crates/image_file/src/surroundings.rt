@@ -1,8 +1,8 @@
-//! What surrounds a block whose ops are judged: its own head, and the blocks that it may call.
+//! What surrounds a block whose ops are checked: its own head, and the blocks that it may call.
 ghost use Rattle.std.specs.Prelude.{◌≡◌, map, slice_get, IfOk};
 ghost use Rattle.std.specs.Option.{option_map};
 ghost use Rattle.flat_code.specs.Blocks.{block_with, callee};
-ghost use Rattle.image_file.specs.Judging.{callee_values};
+ghost use Rattle.image_file.specs.OpChecking.{callee_values};
 ghost use Rattle.image_file.specs.Tables.{call_key, signature_callee, found_callee};
 
 use crate::numbers::{FUNCTION, FUNCTION_BLOCK, SYSTEM_FUNCTION};
@@ -162,7 +162,7 @@ pub(crate) fn callee(
 impl Signatures {
     ghost use Rattle.std.specs.Option.{option_map};
     ghost use Rattle.flat_code.specs.Blocks.{block_with};
-    ghost use Rattle.image_file.specs.Judging.{callee_values};
+    ghost use Rattle.image_file.specs.OpChecking.{callee_values};
 
     /// The first block of a kind and number. Only functions and function blocks are called, so
     /// others may take a search.

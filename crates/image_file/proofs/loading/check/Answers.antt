@@ -5,8 +5,8 @@ use Rattle.flat_code.specs.Records.{NameRecord}
 use Rattle.image_file.specs.declared.records.Started.{Started}
 use Rattle.image_file.specs.declared.reader.Reader.{Reader}
 use Rattle.image_file.specs.Running.{started_block, run_of_read, SeesFound}
-use Rattle.image_file.proofs.LoadLemmas.{found_of, least_of, image_there, datas_there, judged_by}
-use Rattle.image_file.proofs.loading.judge.Goals as goal
+use Rattle.image_file.proofs.LoadLemmas.{found_of, least_of, image_there, datas_there, checked_by}
+use Rattle.image_file.proofs.loading.check.Goals as goal
 
 from_start : (found : Option (Stamp × List NameRecord)) (r : Reader) (text : List ℕ) (bs : List Started) → bs ≡ [] → SeesFound found r (run_of_read (read_image text) (record { least = None; blocks = map started_block bs; datas = None })) → SeesFound found r (run_of_read (read_image text) (record { least = None; blocks = []; datas = None }))
 from_start found r text bs none h = subst (λ (z : List Started). SeesFound found r (run_of_read (read_image text) (record { least = None; blocks = map started_block z; datas = None }))) none h
@@ -27,4 +27,4 @@ pub returns : goal.returns
 returns c =
     let r = c.found_by.new.reader in
     let h = from_start _ r c.args.bytes.now c.new.result.items c.new.ensures.items c.in_ok-found.ensures in
-    judged_by c.args.bytes.now c.in_ok-least.least r c.in_ok-found.found c.outcome_of.result (least_of _ r c.args.bytes.now c.in_ok-least.least h c.in_ok-least.ensures) (found_of _ r c.args.bytes.now h) c.outcome_of.ensures
+    checked_by c.args.bytes.now c.in_ok-least.least r c.in_ok-found.found c.outcome_of.result (least_of _ r c.args.bytes.now c.in_ok-least.least h c.in_ok-least.ensures) (found_of _ r c.args.bytes.now h) c.outcome_of.ensures

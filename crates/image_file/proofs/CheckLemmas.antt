@@ -13,7 +13,7 @@ use Rattle.flat_code.specs.Placed.{Placed, placed, places, opens, inner, opened,
 use Rattle.flat_code.specs.Blocks.{Around, is_ju, leads, op_faults, faults_over, open_faults, open_zone_faults, block_faults}
 use Rattle.image_file.specs.declared.faults.LoadFault.{LoadFault}
 use Rattle.image_file.specs.Least.{with_fault, with_faults}
-use Rattle.image_file.specs.Judging.{AllUpTo, ZonesUpTo}
+use Rattle.image_file.specs.OpChecking.{AllUpTo, ZonesUpTo}
 use Rattle.image_file.proofs.RunLemmas.{with_more}
 
 pub code_len : (op : OpData) (ops : List OpData) → length (code_bytes (op ∷ ops)) ≡ size op + length (code_bytes ops)
@@ -187,12 +187,12 @@ pub same_place : (around : Around) (ss ss' : List Spot) (start at : ℕ) (bracke
     → with_faults least (op_faults around ss start (record { at = at; brackets = brackets; zones = zones; before = before; op = op; rest = rest })) ≡ with_faults least (op_faults around ss' start (record { at = at; brackets = brackets'; zones = zones'; before = before'; op = op; rest = rest' }))
 same_place around ss ss' start at brackets brackets' zones zones' before before' op rest rest' least p q o r s = rw (p, q, o, r, s) refl
 
-pub judge_done : (around : Around) (ss : List Spot) (start at i : ℕ) (brackets : List OpenBracket) (zones : List ℕ) (before ops : List OpData) (least first result : Option LoadFault) → length ops ≤ i → ss ≡ spots ops
+pub check_done : (around : Around) (ss : List Spot) (start at i : ℕ) (brackets : List OpenBracket) (zones : List ℕ) (before ops : List OpData) (least first result : Option LoadFault) → length ops ≤ i → ss ≡ spots ops
     → with_faults least (faults_over around ss start (placed at brackets zones before (drop i ops))) ≡ with_faults first (faults_over around ss start (places ops))
     → open_behind at brackets (drop i ops) ≡ open_behind 0 [] ops → zones_left at zones (drop i ops) ≡ zones_left 0 [] ops
     → result ≡ with_faults (with_faults least (open_faults start brackets)) (open_zone_faults start zones) → result ≡ with_faults first (block_faults around start ops)
 unfolding block_faults
-judge_done around ss start at i brackets zones before ops least first result le s f o l r =
+check_done around ss start at i brackets zones before ops least first result le s f o l r =
     let over = faults_over around (spots ops) start (places ops) in
     let done : least ≡ with_faults first over = sym (faults_done around ss start at i brackets zones before ops least le) ∙ f ∙ ap (λ (z : List Spot). with_faults first (faults_over around z start (places ops))) s in
     let open_ones : brackets ≡ open_behind 0 [] ops = sym (open_done at i brackets ops le) ∙ o in

@@ -1,6 +1,6 @@
 use Rattle.std.proofs.Common.{arith, ◌∙◌}
-use Rattle.image_file.proofs.JudgeLemmas.{up_to_at, open_faults_next, open_faults_done}
-use Rattle.image_file.proofs.verifying.judge_open.Goals as goal
+use Rattle.image_file.proofs.CheckLemmas.{up_to_at, open_faults_next, open_faults_done}
+use Rattle.image_file.proofs.verifying.check_open.Goals as goal
 
 pub overflow_add-start : goal.overflow_add-start
 overflow_add-start c = omega (arith, c.requires.room, up_to_at c.args.limit c.loop-bracket.bracket-index (record { at = 0; code = 0 }) c.args.brackets.now c.loop-bracket-test.true c.requires.within)

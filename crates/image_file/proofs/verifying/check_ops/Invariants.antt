@@ -3,8 +3,8 @@ use Rattle.flat_code.specs.Codes.{code_bytes}
 use Rattle.flat_code.specs.Placed.{placed, places, open_behind, zones_left}
 use Rattle.flat_code.specs.Blocks.{faults_over}
 use Rattle.image_file.specs.Least.{with_faults}
-use Rattle.image_file.specs.Judging.{AllUpTo, ZonesUpTo, around_of}
-use Rattle.image_file.proofs.verifying.judge_ops.Given as goal
+use Rattle.image_file.specs.OpChecking.{AllUpTo, ZonesUpTo, around_of}
+use Rattle.image_file.proofs.verifying.check_ops.Given as goal
 
 abbrev pub invariant-loop-i : goal.invariant-loop-i
 invariant-loop-i l = record {

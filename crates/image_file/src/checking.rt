@@ -4,7 +4,7 @@ ghost use Rattle.std.specs.Option.{option_map};
 ghost use Rattle.flat_code.specs.Codes.{size, code_bytes};
 ghost use Rattle.flat_code.specs.Placed.{Placed, is_empty, opened, zones_behind, before_next, few, spot_at, spots, open_behind, places};
 ghost use Rattle.flat_code.specs.Blocks.{seven_if, same_codes, target_fault, jump_fault, operand_fault, call_fault, mark_fault, bracket_fault, zone_fault, at_offset, op_faults, faults_over, open_faults, block_faults};
-ghost use Rattle.image_file.specs.Judging.{AllUpTo, around_of};
+ghost use Rattle.image_file.specs.OpChecking.{AllUpTo, around_of};
 ghost use Rattle.image_file.specs.Least.{with_faults};
 
 use crate::faults::LoadFault;

@@ -1,6 +1,6 @@
 use Rattle.std.proofs.Common.{arith, ◌∙◌}
-use Rattle.image_file.proofs.JudgeLemmas.{zone_at, zone_faults_next, zone_faults_done}
-use Rattle.image_file.proofs.verifying.judge_open_zones.Goals as goal
+use Rattle.image_file.proofs.CheckLemmas.{zone_at, zone_faults_next, zone_faults_done}
+use Rattle.image_file.proofs.verifying.check_open_zones.Goals as goal
 
 pub overflow_add-start : goal.overflow_add-start
 overflow_add-start c = omega (arith, c.requires.room, zone_at c.args.limit c.loop-zone.zone-index 0 c.args.zones.now c.loop-zone-test.true c.requires.within)
