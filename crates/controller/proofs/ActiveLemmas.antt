@@ -6,7 +6,7 @@ use Rattle.std.proofs.lemmas.List.{length-reverse, length-take-le, take_more_set
 use Rattle.plc_base.specs.declared.Profile.{Profile}
 use Rattle.frames.specs.Activations.{activation_begun, frame_begun}
 use Rattle.frames.specs.declared.Activation.{Activation}
-use Rattle.machine.specs.Code.{Head}
+use Rattle.machine.specs.Code.{BlockHead}
 use Rattle.ob_sched.specs.declared.start_infos.StartInfo.{StartInfo}
 use Rattle.controller.specs.Beginning.{ob_begun, ob_block, ob_frame, with_start_bytes}
 use Rattle.controller.specs.Leaves.{ObBegins}
@@ -51,22 +51,22 @@ running_last n all a h here =
     ∙ reverse-append (take n all) (a ∷ [])
 
 -- an organization block of a program as it begins
-pub block_begins : (profile : Profile) (found : Option Head) (class ob : ℕ) (info : StartInfo) (n : ℕ)
-    (old : List Activation) → Some n ≡ option_map (λ (head : Head). min head.local_len 1024) found
+pub block_begins : (profile : Profile) (found : Option BlockHead) (class ob : ℕ) (info : StartInfo) (n : ℕ)
+    (old : List Activation) → Some n ≡ option_map (λ (head : BlockHead). min head.local_len 1024) found
     → ObBegins (option_map (ob_begun profile class ob info) found) old
     (with_start_bytes 0 info.bytes (activation_begun profile class ob (frame_begun (ob_block ob) n)) ∷ old) true
 unfolding ob_begun
 block_begins profile None class ob info n old h = absurd cc
 block_begins profile (Some head) class ob info n old h = search (rules, h)
 
-pub block_missing : (profile : Profile) (found : Option Head) (class ob : ℕ) (info : StartInfo) (old : List Activation)
-    → None ≡ option_map (λ (head : Head). min head.local_len 1024) found
+pub block_missing : (profile : Profile) (found : Option BlockHead) (class ob : ℕ) (info : StartInfo) (old : List Activation)
+    → None ≡ option_map (λ (head : BlockHead). min head.local_len 1024) found
     → ObBegins (option_map (ob_begun profile class ob info) found) old old false
 block_missing profile None class ob info old h = refl
 block_missing profile (Some head) class ob info old h = absurd cc
 
 -- its class and its number
-pub block_is : (profile : Profile) (found : Option Head) (class ob : ℕ) (info : StartInfo)
+pub block_is : (profile : Profile) (found : Option BlockHead) (class ob : ℕ) (info : StartInfo)
     → IfSome (option_map (ob_begun profile class ob info) found)
     (λ (a : Activation). (a.class ≡ class) × (a.ob ≡ ob))
 unfolding ob_begun

@@ -15,8 +15,8 @@ use Rattle.frames.specs.declared.bindings.Binding.TheVariants as binding
 use Rattle.machine.specs.Code.{Code}
 use Rattle.machine.specs.Copies.{scene_or}
 use Rattle.machine.specs.ExecState.{LocalMemory, local_memory_of}
-use Rattle.machine.specs.Places.{is_local}
-use Rattle.machine.specs.Results.{with_result}
+use Rattle.machine.specs.Places.{is_area_l}
+use Rattle.machine.specs.Results.{with_ret_val}
 use Rattle.machine.specs.Statement.{with_memory}
 use Rattle.machine.specs.Values.{with_locals, write}
 use Rattle.ob_sched.specs.OrganizationBlock.{is_delay}
@@ -222,10 +222,10 @@ put_regs true (Some l) memory error c = refl
 put_regs false locals None error c = refl
 put_regs false locals (Some m) error c = refl
 
-bound_regs : (to : Binding) (value : ℕ) (c : LocalMemory) → (with_result to value c).local.regs ≡ c.local.regs
+bound_regs : (to : Binding) (value : ℕ) (c : LocalMemory) → (with_ret_val to value c).local.regs ≡ c.local.regs
 unfolding write
 bound_regs (binding.Bound place width frame) value c =
-    put_regs (is_local place.area)
+    put_regs (is_area_l place.area)
     (local_written c.local.locals frame place.byte place.bit width (value % 2 ^ bit_count width))
     (number_written c.memory place width (value % 2 ^ bit_count width)) _ c
 bound_regs (binding.Constant n) value c = refl

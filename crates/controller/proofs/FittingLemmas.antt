@@ -21,11 +21,11 @@ use Rattle.frames.specs.declared.Activation.{Activation}
 use Rattle.frames.specs.declared.bindings.Binding.{Binding}
 use Rattle.flat_code.specs.Loading.{Verifies}
 use Rattle.flat_code.specs.Programs.{Program}
-use Rattle.machine.specs.Code.{Head}
+use Rattle.machine.specs.Code.{BlockHead}
 use Rattle.machine.specs.Entering.{at_block}
 use Rattle.machine.specs.Fitting.{IsMemoryOf, SameSizes}
 use Rattle.machine.specs.Flat.{code_of}
-use Rattle.machine.specs.Lasting.{FitsProgram, GoesOn, IsReady as IsReadyIn, Lasts, first_frame}
+use Rattle.machine.specs.Lasting.{FitsProgram, GoesOnFitting, IsStatementReady as IsReadyIn, Lasts, first_frame}
 use Rattle.machine.specs.Statement.{World, Step, Went, Ended, SyncError, SysCall, Stop as Stops, Stuck, statement}
 use Rattle.machine.proofs.Sizes.{same_sizes, sizes_then, same_parts}
 use Rattle.ob_sched.specs.TickState.{TickState, ob_requested}
@@ -126,7 +126,7 @@ told_fits l p m (value ∷ rest) byte a fit =
 uncut : (n : ℕ) → n ≤ 1024 → min n 1024 ≡ n
 uncut n few = omega arith
 
-begun_fits : (profile : Profile) (l : MachineLaws) (p : Program) (m : Areas) (class ob : ℕ) (info : StartInfo) (h : Head)
+begun_fits : (profile : Profile) (l : MachineLaws) (p : Program) (m : Areas) (class ob : ℕ) (info : StartInfo) (h : BlockHead)
     → Verifies p → IsMemoryOf (code_of p) m → (code_of p).head (ob_block ob) ≡ Some h
     → FitsProgram p m (ob_begun profile class ob info h)
 unfolding ob_begun
@@ -137,7 +137,7 @@ begun_fits profile l p m class ob info h verifies memory found =
     (l.begins profile p m class ob h verifies memory found))
 
 ob_fits_by : (profile : Profile) (l : MachineLaws) (p : Program) (m : Areas) (class ob : ℕ) (info : StartInfo)
-    (found : Option Head) → Verifies p → IsMemoryOf (code_of p) m
+    (found : Option BlockHead) → Verifies p → IsMemoryOf (code_of p) m
     → (code_of p).head (ob_block ob) ≡ found
     → FitsIf p m (option_map (ob_begun profile class ob info) found)
 unfolding FitsIf
@@ -358,7 +358,7 @@ served_fits l p m number inputs s a fit is =
 
 given_fits : (l : MachineLaws) (p : Program) (m : Areas) (to : Option Binding) (value : ℕ)
     (a : Activation) → Verifies p → FitsProgram p m a
-    → GoesOn p m (result_given to value a m).memory (result_given to value a m).activation
+    → GoesOnFitting p m (result_given to value a m).memory (result_given to value a m).activation
 given_fits l p m None value a verifies fit = record { sizes = same_sizes m; fits = fit }
 given_fits l p m (Some to) value a verifies fit =
     l.result p m _ a _ to value verifies fit (refl, refl)

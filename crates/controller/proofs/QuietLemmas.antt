@@ -9,7 +9,7 @@ use Rattle.flat_code.specs.Loading.{Verifies}
 use Rattle.flat_code.specs.Programs.{Program}
 use Rattle.machine.specs.Code.{Code}
 use Rattle.machine.specs.Flat.{code_of}
-use Rattle.machine.specs.Lasting.{FitsProgram, IsReady, Lasts}
+use Rattle.machine.specs.Lasting.{FitsProgram, IsStatementReady, Lasts}
 use Rattle.machine.specs.Silent.{GoesSilently, RunsSilently, StaysReady}
 use Rattle.machine.specs.Statement.{World, Step, Went, statement}
 use Rattle.ob_sched.specs.Request.{best_of}
@@ -28,7 +28,7 @@ use Rattle.controller.proofs.ObservingLemmas.{none_changed}
 -- ---- what fits stays ready
 
 abbrev pub GoesLaw : Type 0
-GoesLaw = (p : Program) (m : Areas) (a : Activation) → Verifies p → FitsProgram p m a → IsReady p a
+GoesLaw = (p : Program) (m : Areas) (a : Activation) → Verifies p → FitsProgram p m a → IsStatementReady p a
 
 abbrev pub LastsLaw : Type 0
 LastsLaw = (p : Program) (a : Activation) (w : World)

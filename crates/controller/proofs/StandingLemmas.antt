@@ -9,7 +9,7 @@ use Rattle.plc_base.specs.declared.Mode.{Mode}
 use Rattle.plc_base.specs.declared.Mode.TheVariants.{Run, Startup, Stop}
 use Rattle.frames.specs.Activations.{activation_begun}
 use Rattle.frames.specs.declared.Activation.{Activation}
-use Rattle.machine.specs.Code.{Code, Head}
+use Rattle.machine.specs.Code.{Code, BlockHead}
 use Rattle.ob_sched.specs.OrganizationBlock.{can_wait, priority_class_in, is_error}
 use Rattle.ob_sched.specs.Request.{Request, best_of}
 use Rattle.ob_sched.specs.StartInformation.{ob_of_error}
@@ -25,7 +25,7 @@ use Rattle.controller.proofs.SameLemmas.{told_class, told_ob}
 use Rattle.controller.proofs.StackLemmas.{at_most_48, no_stack, startup_class}
 
 -- some activation of a class
-some_head : Head
+some_head : BlockHead
 some_head = record { local_len = 0; instance_len = 0; params = [] }
 
 abbrev some_of : (class ob : ℕ) → Activation
@@ -158,7 +158,7 @@ unfoldable pub IsOf : (class ob : ℕ) → Option Activation → Type 0
 IsOf class ob None = Unit {0}
 IsOf class ob (Some a) = (a.class ≡ class) × (a.ob ≡ ob)
 
-ob_is_by : (profile : Profile) (class ob : ℕ) (info : StartInfo) (found : Option Head)
+ob_is_by : (profile : Profile) (class ob : ℕ) (info : StartInfo) (found : Option BlockHead)
     → IsOf class ob (option_map (ob_begun profile class ob info) found)
 unfolding IsOf ob_begun
 ob_is_by profile class ob info None = tt

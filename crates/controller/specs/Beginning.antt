@@ -7,7 +7,7 @@ use Rattle.plc_base.specs.declared.BlockId.{BlockId}
 use Rattle.frames.specs.Activations.{activation_begun, frame_begun, with_local_byte}
 use Rattle.frames.specs.declared.Activation.{Activation}
 use Rattle.frames.specs.declared.frame.Frame.{Frame}
-use Rattle.machine.specs.Code.{Code, Head}
+use Rattle.machine.specs.Code.{Code, BlockHead}
 use Rattle.ob_sched.specs.declared.start_infos.StartInfo.{StartInfo}
 use Rattle.controller.specs.State.{State}
 
@@ -17,7 +17,7 @@ ob_block ob = record { kind = Ob; number = ob }
 
 -- the frame of an organization block: at its first statement, nothing open, and its local bytes, 1,024
 -- at most (no program that is loaded has more)
-abbrev pub ob_frame : (ob : ℕ) → Head → Frame
+abbrev pub ob_frame : (ob : ℕ) → BlockHead → Frame
 ob_frame ob head = frame_begun (ob_block ob) (min head.local_len 1024)
 
 -- bytes from a local byte of the outermost frame on, as far as there are such local bytes
@@ -28,7 +28,7 @@ with_start_bytes byte (value ∷ rest) a =
 
 -- an organization block as it begins, with its start information in its first 20 local bytes: all
 -- registers and the status word 0, nothing delayed
-unfoldable pub ob_begun : Profile → (class ob : ℕ) → StartInfo → Head → Activation
+unfoldable pub ob_begun : Profile → (class ob : ℕ) → StartInfo → BlockHead → Activation
 ob_begun profile class ob info head = with_start_bytes 0 info.bytes (activation_begun profile class ob (ob_frame ob head))
 
 -- an organization block of a program as it begins; none where it isn't loaded

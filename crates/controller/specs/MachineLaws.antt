@@ -14,25 +14,25 @@ use Rattle.frames.specs.declared.Activation.{Activation}
 use Rattle.frames.specs.declared.bindings.Binding.{Binding}
 use Rattle.flat_code.specs.Loading.{Verifies}
 use Rattle.flat_code.specs.Programs.{Program}
-use Rattle.machine.specs.Code.{Head}
+use Rattle.machine.specs.Code.{BlockHead}
 use Rattle.machine.specs.Fitting.{IsMemoryOf, SameSizes}
 use Rattle.machine.specs.Flat.{code_of}
-use Rattle.machine.specs.Lasting.{FitsProgram, GoesOn, IsReady, Lasts, first_frame, ob_block}
+use Rattle.machine.specs.Lasting.{FitsProgram, GoesOnFitting, IsStatementReady, Lasts, first_frame, ob_block}
 use Rattle.machine.specs.Results.{GivesResult}
 use Rattle.machine.specs.Statement.{World, statement}
 
 -- of activations that fit a program, one that verifies where a law asks for it, and of its memory
 pub record MachineLaws : Type 0 where
   pub goes : (p : Program) (m : Areas) (a : Activation)
-      → Verifies p → FitsProgram p m a → IsReady p a
+      → Verifies p → FitsProgram p m a → IsStatementReady p a
   pub lasts : (p : Program) (a : Activation) (w : World)
       → Verifies p → FitsProgram p w.memory a → Lasts p w (statement (code_of p) a w)
   pub stays : (p : Program) (m n : Areas) (a : Activation)
       → SameSizes m n → FitsProgram p m a → FitsProgram p n a
-  pub begins : (profile : Profile) (p : Program) (m : Areas) (class ob : ℕ) (h : Head)
+  pub begins : (profile : Profile) (p : Program) (m : Areas) (class ob : ℕ) (h : BlockHead)
       → Verifies p → IsMemoryOf (code_of p) m → (code_of p).head (ob_block ob) ≡ Some h
       → FitsProgram p m (activation_begun profile class ob (first_frame ob h.local_len))
-  pub room : (p : Program) (ob : ℕ) (h : Head)
+  pub room : (p : Program) (ob : ℕ) (h : BlockHead)
       → Verifies p → (code_of p).head (ob_block ob) ≡ Some h → h.local_len ≤ 1024
   pub registers : (p : Program) (m : Areas) (a : Activation) (r : Regs)
       → FitsProgram p m a
@@ -42,7 +42,7 @@ pub record MachineLaws : Type 0 where
   pub local_byte : (p : Program) (m : Areas) (a b : Activation) (frame byte value : ℕ)
       → with_local_byte frame byte value a ≡ Some b → FitsProgram p m a → FitsProgram p m b
   pub result : (p : Program) (m n : Areas) (a b : Activation) (to : Binding) (value : ℕ)
-      → Verifies p → FitsProgram p m a → GivesResult to value a b m n → GoesOn p m n b
+      → Verifies p → FitsProgram p m a → GivesResult to value a b m n → GoesOnFitting p m n b
   pub first : (profile : Profile) (p : Program) → IsMemoryOf (code_of p) (initial_memory profile (code_of p).blocks)
   pub writes : (m n : Areas) (place : Place) (width : Width) (value : ℕ)
       → number_written m place width value ≡ Some n → SameSizes m n

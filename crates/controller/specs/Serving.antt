@@ -6,7 +6,7 @@ use Rattle.plc_mem.specs.Areas.{Areas}
 use Rattle.frames.specs.declared.Activation.{Activation}
 use Rattle.frames.specs.declared.bindings.Binding.{Binding}
 use Rattle.machine.specs.ExecState.{local_memory_of}
-use Rattle.machine.specs.Results.{with_result}
+use Rattle.machine.specs.Results.{with_ret_val}
 use Rattle.machine.specs.Returning.{ReturnState, with_copied}
 use Rattle.machine.specs.Statement.{with_memory}
 use Rattle.machine.specs.SystemCalls.{Given}
@@ -45,7 +45,7 @@ system_function_served number inputs s a =
 -- RET_VAL goes where it is bound; where it isn't, nothing changes
 abbrev pub result_given : Option Binding → (value : ℕ) → Activation → Areas → ReturnState
 result_given None value a m = record { activation = a; memory = m }
-result_given (Some to) value a m = with_copied a (with_result to value (local_memory_of a.running m))
+result_given (Some to) value a m = with_copied a (with_ret_val to value (local_memory_of a.running m))
 
 -- the running activation goes on, with another scheduler and another memory
 abbrev pub resume_with : ReturnState → Scheduler → (below : List Activation) → State → State

@@ -21,14 +21,14 @@ use Rattle.flat_code.specs.declared.programs.Param.{Param}
 use Rattle.flat_code.specs.Loading.{Verifies}
 use Rattle.flat_code.specs.Programs.{CodeBlock, Program}
 use Rattle.image_file.specs.Readers.{block_by_id}
-use Rattle.machine.specs.Code.{Head}
+use Rattle.machine.specs.Code.{BlockHead}
 use Rattle.machine.specs.Fitting.{AreBound, IsMemoryOf, SameSizes}
-use Rattle.machine.specs.Flat.{code_of, head_of}
+use Rattle.machine.specs.Flat.{code_of, block_head_of}
 use Rattle.machine.specs.ImageLaws.{ImageLaws}
-use Rattle.machine.specs.Lasting.{FitsProgram, GoesOn, first_frame}
+use Rattle.machine.specs.Lasting.{FitsProgram, GoesOnFitting, first_frame}
 use Rattle.machine.specs.OpenBrackets.{open_codes}
 use Rattle.machine.specs.ExecState.{LocalMemory, local_memory_of}
-use Rattle.machine.specs.Results.{GivesResult, with_result}
+use Rattle.machine.specs.Results.{GivesResult, with_ret_val}
 use Rattle.machine.proofs.Called.{scene_fits}
 use Rattle.machine.proofs.FrameBytes.{mapped_there, locals_opened, locals_kept, lies_written}
 use Rattle.machine.proofs.Instructions.{kind_found}
@@ -41,9 +41,9 @@ use Rattle.machine.proofs.Standing.{nothing_open, entry_stood, opens_there, stat
 -- ---- an organization block begins
 
 block_found :
-    (p : Program) (block : BlockId) (h : Head) (o : Option CodeBlock) → block_by_id block p.code_blocks ≡ o
-    → option_map head_of o ≡ Some h → (b : CodeBlock) × (block_by_id block p.code_blocks ≡ Some b) × (head_of b ≡ h)
-block_found p block h (Some b) is found = (b, is, let e : head_of b ≡ h = cc in e)
+    (p : Program) (block : BlockId) (h : BlockHead) (o : Option CodeBlock) → block_by_id block p.code_blocks ≡ o
+    → option_map block_head_of o ≡ Some h → (b : CodeBlock) × (block_by_id block p.code_blocks ≡ Some b) × (block_head_of b ≡ h)
+block_found p block h (Some b) is found = (b, is, let e : block_head_of b ≡ h = cc in e)
 block_found p block h None is found = absurd cc
 
 no_params :
@@ -51,7 +51,7 @@ no_params :
 no_params ps m is = rw is tt
 
 pub ob_begins :
-    (l : ImageLaws) (f : Profile) (p : Program) (m : Areas) (class ob : ℕ) (h : Head) → Verifies p → IsMemoryOf (code_of p) m
+    (l : ImageLaws) (f : Profile) (p : Program) (m : Areas) (class ob : ℕ) (h : BlockHead) → Verifies p → IsMemoryOf (code_of p) m
     → (code_of p).head (record { kind = kinds.Ob; number = ob }) ≡ Some h
     → FitsProgram p m (activation_begun f class ob (first_frame ob h.local_len))
 ob_begins l profile p m class ob h verifies memory found =
@@ -61,7 +61,7 @@ ob_begins l profile p m class ob h verifies memory found =
     let b = one.0 in
     let entry = entry_stood l p block b verifies one.1 in
     let right = (l.blocks p b block verifies one.1).organization (kind_found p.code_blocks block b one.1) in
-    let params : h.params ≡ [] = ap (λ (x : Head). x.params) (sym one.2) ∙ right.0 in
+    let params : h.params ≡ [] = ap (λ (x : BlockHead). x.params) (sym one.2) ∙ right.0 in
     record {
       memory = memory;
       fits = fits_of (code_of p) (open_codes p) m (activation_begun profile class ob f) (record {
@@ -80,18 +80,18 @@ ob_begins l profile p m class ob h verifies memory found =
 
 -- its local bytes find room
 pub local_room :
-    (l : ImageLaws) (p : Program) (ob : ℕ) (h : Head) → Verifies p
+    (l : ImageLaws) (p : Program) (ob : ℕ) (h : BlockHead) → Verifies p
     → (code_of p).head (record { kind = kinds.Ob; number = ob }) ≡ Some h → h.local_len ≤ 1024
 local_room l p ob h verifies found =
     let block : BlockId = record { kind = kinds.Ob; number = ob } in
     let one = block_found p block h (block_by_id block p.code_blocks) refl found in
     let few = (l.blocks p one.0 block verifies one.1).room in
-    let same : one.0.local_len ≡ h.local_len = ap (λ (x : Head). x.local_len) one.2 in
+    let same : one.0.local_len ≡ h.local_len = ap (λ (x : BlockHead). x.local_len) one.2 in
     omega (arith, few, same)
 
 -- it has room for its start information
 pub start_written :
-    (l : ImageLaws) (f : Profile) (p : Program) (class ob byte value : ℕ) (h : Head) → Verifies p
+    (l : ImageLaws) (f : Profile) (p : Program) (class ob byte value : ℕ) (h : BlockHead) → Verifies p
     → (code_of p).head (record { kind = kinds.Ob; number = ob }) ≡ Some h → byte < 20
     → IsSome (with_local_byte 0 byte value (activation_begun f class ob (first_frame ob h.local_len)))
 start_written l profile p class ob byte value h verifies found less =
@@ -100,7 +100,7 @@ start_written l profile p class ob byte value h verifies found less =
     let one = block_found p block h (block_by_id block p.code_blocks) refl found in
     let b = one.0 in
     let right = (l.blocks p b block verifies one.1).organization (kind_found p.code_blocks block b one.1) in
-    let long : 20 ≤ h.local_len = let e : b.local_len ≡ h.local_len = ap (λ (x : Head). x.local_len) one.2 in let r = right.1 in omega (arith, e, r) in
+    let long : 20 ≤ h.local_len = let e : b.local_len ≡ h.local_len = ap (λ (x : BlockHead). x.local_len) one.2 in let r = right.1 in omega (arith, e, r) in
     mapped_there _ (local_byte_set (open_locals f.local_len no_locals) 0 byte value)
     (lies_written (f ∷ []) (open_locals f.local_len no_locals) 0 byte 0 value widths.Byte
     (locals_opened f [] no_locals (record { starts = refl; len = refl })) (omega (arith, less, long), tt))
@@ -148,14 +148,14 @@ delay_fits p m a n h =
 
 -- ---- the result of a system function
 
-result_kept : (to : Binding) (value : ℕ) (c : LocalMemory) → KeepsScene c.local c.memory (with_result to value c)
+result_kept : (to : Binding) (value : ℕ) (c : LocalMemory) → KeepsScene c.local c.memory (with_ret_val to value c)
 result_kept (binding.Bound place width frame) value c = put_kept (record { place = place; width = width; frame = frame }) value c
 result_kept (binding.Constant n) value c = same_scene c.local c.memory
 result_kept binding.Unsupplied value c = same_scene c.local c.memory
 
 pub result_fits :
     (l : ImageLaws) (p : Program) (m n : Areas) (a b : Activation) (to : Binding) (value : ℕ) → Verifies p
-    → FitsProgram p m a → GivesResult to value a b m n → GoesOn p m n b
+    → FitsProgram p m a → GivesResult to value a b m n → GoesOnFitting p m n b
 result_fits l p m n a b to value verifies h gives =
     let kept = result_kept to value (local_memory_of a.running m) in
     rw (gives.0, gives.1) (record { sizes = kept.memory; fits = scene_fits l p m a _ verifies h kept })

@@ -31,7 +31,7 @@ use Rattle.flat_code.specs.Programs.{CodeBlock, DataBlock, Program}
 use Rattle.flat_code.specs.Table.{admits, takes_of}
 use Rattle.image_file.specs.Verified.{IsVerifiedOp, HasParam, FitsPassed, FitsPrepared, block_signatures}
 use Rattle.machine.specs.Flat.{passings_of, with_passing, numbered_bytes}
-use Rattle.machine.specs.Fitting.{SameSizes, IsLong, len_in}
+use Rattle.machine.specs.Fitting.{SameSizes, HasLength, len_in}
 use Rattle.machine.specs.ImageLaws.{ImageLaws}
 use Rattle.machine.proofs.BindingLemmas.{FitsActual, PassingsFit, is_among}
 use Rattle.machine.proofs.Standing.{AllBefore}
@@ -248,14 +248,14 @@ fresh_len : (f : Profile) (ds : List DataBlock) (number : ℕ) → len_in (initi
 unfolding initial_memory
 fresh_len f ds number = ap (λ (o : Option (List ℕ)). option_map length o) (get-from_entries nat_cmp_total (numbered_bytes ds) number) ∙ find_len ds number
 
-long_by : (needed : ℕ) (o : Option (List ℕ)) (len : Option ℕ) → option_map length o ≡ len → is_short needed len ≡ false → IsLong needed o
+long_by : (needed : ℕ) (o : Option (List ℕ)) (len : Option ℕ) → option_map length o ≡ len → is_short needed len ≡ false → HasLength needed o
 long_by needed None len is h = absurd (let e : is_short needed None ≡ false = rw (sym is) at h in cc)
 long_by needed (Some bytes) len is h = ltb-false (length bytes) needed (rw (sym is) at h)
 
 pub instance_long :
     (f : Profile) (p : Program) (m : Areas) (number needed : ℕ) → SameSizes (initial_memory f (numbered_bytes p.data_blocks)) m
     → is_short needed (data_len number (lens_of p.data_blocks)) ≡ false
-    → IsLong needed (finmap.get m.data_blocks number)
+    → HasLength needed (finmap.get m.data_blocks number)
 instance_long f p m number needed sizes h =
     long_by needed (finmap.get m.data_blocks number) (data_len number (lens_of p.data_blocks))
     (sizes.data_blocks number ∙ fresh_len f p.data_blocks number) h

@@ -14,7 +14,7 @@ use Rattle.plc_mem.proofs.Lawful.{run_exists}
 use Rattle.plc_mem.proofs.Runs.{put_done}
 use Rattle.frames.specs.Locals.{LocalData, frame_bytes_end, local_operand_start, local_number, local_written, open_locals, close_locals, close_locals_at, last_start}
 use Rattle.frames.specs.declared.frame.Frame.{Frame}
-use Rattle.machine.specs.Fitting.{local_len_at, HasBit, LiesIn, starts_from, bytes_together, LocalsFit}
+use Rattle.machine.specs.Fitting.{local_len_at, HasBit, LiesIn, local_starts_from, bytes_together, LocalsFit}
 
 -- ---- sums and starts of a list of frames
 
@@ -32,27 +32,27 @@ together_reverse (f ∷ xs) =
 
 starts_append :
     (at : ℕ) (xs ys : List Frame)
-    → starts_from at (xs ++ ys) ≡ starts_from at xs ++ starts_from (at + bytes_together xs) ys
-starts_append at [] ys = let e : at ≡ at + 0 = omega arith in ap (λ (k : ℕ). starts_from k ys) e
+    → local_starts_from at (xs ++ ys) ≡ local_starts_from at xs ++ local_starts_from (at + bytes_together xs) ys
+starts_append at [] ys = let e : at ≡ at + 0 = omega arith in ap (λ (k : ℕ). local_starts_from k ys) e
 starts_append at (f ∷ xs) ys =
     let e : at + f.local_len + bytes_together xs ≡ at + (f.local_len + bytes_together xs) = omega arith in
     ap (λ (z : List ℕ). at ∷ z)
     (starts_append (at + f.local_len) xs ys
-    ∙ ap (λ (k : ℕ). starts_from (at + f.local_len) xs ++ starts_from k ys) e)
+    ∙ ap (λ (k : ℕ). local_starts_from (at + f.local_len) xs ++ local_starts_from k ys) e)
 
-length_starts : (at : ℕ) (xs : List Frame) → length (starts_from at xs) ≡ length xs
+length_starts : (at : ℕ) (xs : List Frame) → length (local_starts_from at xs) ≡ length xs
 length_starts at [] = refl
 length_starts at (f ∷ xs) = ap suc (length_starts (at + f.local_len) xs)
 
 -- the frames with one more on them
 starts_on :
     (f : Frame) (below : List Frame)
-    → starts_from 0 (reverse (f ∷ below)) ≡ starts_from 0 (reverse below) ++ bytes_together below ∷ []
+    → local_starts_from 0 (reverse (f ∷ below)) ≡ local_starts_from 0 (reverse below) ++ bytes_together below ∷ []
 starts_on f below =
     let e : 0 + bytes_together (reverse below) ≡ bytes_together below = let r = together_reverse below in omega (arith, r) in
-    ap (λ (z : List Frame). starts_from 0 z) (reverse_onto below f [])
+    ap (λ (z : List Frame). local_starts_from 0 z) (reverse_onto below f [])
     ∙ starts_append 0 (reverse below) (f ∷ [])
-    ∙ ap (λ (k : ℕ). starts_from 0 (reverse below) ++ k ∷ []) e
+    ∙ ap (λ (k : ℕ). local_starts_from 0 (reverse below) ++ k ∷ []) e
 
 -- ---- as many frames have local data as stand
 
@@ -83,7 +83,7 @@ pub locals_opened :
     → LocalsFit (f ∷ frames) (open_locals f.local_len l)
 locals_opened f frames l fits = record {
   starts = ap (λ (z : List ℕ). z ++ length l.bytes ∷ []) fits.starts
-      ∙ ap (λ (k : ℕ). starts_from 0 (reverse frames) ++ k ∷ []) fits.len ∙ sym (starts_on f frames);
+      ∙ ap (λ (k : ℕ). local_starts_from 0 (reverse frames) ++ k ∷ []) fits.len ∙ sym (starts_on f frames);
   len = let e = fits.len in
       let all = length-append l.bytes (replicate f.local_len 0) in
       let zeros : length {A = ℕ} (replicate f.local_len 0) ≡ f.local_len = length-replicate f.local_len 0 in
@@ -114,7 +114,7 @@ pub locals_closed :
     (f : Frame) (below : List Frame) (l : LocalData) → LocalsFit (f ∷ below) l → LocalsFit below (close_locals l)
 locals_closed f below l fits =
     let e = fits.len in
-    rw (closed_last l (starts_from 0 (reverse below)) (bytes_together below) (fits.starts ∙ starts_on f below))
+    rw (closed_last l (local_starts_from 0 (reverse below)) (bytes_together below) (fits.starts ∙ starts_on f below))
     (record {
       starts = refl;
       len = length-take-le (bytes_together below) l.bytes (omega (arith, e));
@@ -133,7 +133,7 @@ some_len f len e = cc
 
 spans :
     (s total : ℕ) (fs : List Frame) (k len : ℕ) → total ≡ s + bytes_together fs
-    → option_map (λ (f : Frame). f.local_len) (slice_get fs k) ≡ Some len → Spans (starts_from s fs) total k len
+    → option_map (λ (f : Frame). f.local_len) (slice_get fs k) ≡ Some len → Spans (local_starts_from s fs) total k len
 spans s total [] k len all found = absurd cc
 spans s total (f ∷ []) zero len all found =
     let e = some_len f len found in
@@ -147,7 +147,7 @@ spans s total (f ∷ fs) (suc k) len all found =
     record {
       start = more.start;
       is = more.is;
-      end = ap (λ (n : ℕ). unwrap_or (slice_get (s ∷ starts_from (s + f.local_len) fs) n) total) next ∙ more.end;
+      end = ap (λ (n : ℕ). unwrap_or (slice_get (s ∷ local_starts_from (s + f.local_len) fs) n) total) next ∙ more.end;
       within = more.within;
     }
 
@@ -244,7 +244,7 @@ lies_written frames l k at bit value width fits lies = by (local_len_at frames k
 -- ---- and back
 
 starts_there :
-    (s : ℕ) (fs : List Frame) (k x : ℕ) → slice_get (starts_from s fs) k ≡ Some x
+    (s : ℕ) (fs : List Frame) (k x : ℕ) → slice_get (local_starts_from s fs) k ≡ Some x
     → (len : ℕ) × (option_map (λ (f : Frame). f.local_len) (slice_get fs k) ≡ Some len)
 starts_there s [] k x found = absurd cc
 starts_there s (f ∷ fs) zero x found = (f.local_len, refl)

@@ -51,21 +51,21 @@ use Rattle.flat_code.specs.Table.{admits, is_jump, takes_of, takes_of_operation}
 use Rattle.flat_code.specs.Operations.{operation_of}
 use Rattle.image_file.specs.Readers.{is_same_id, block_by_id}
 use Rattle.image_file.specs.Verified.{FitsCall, FitsOperand, FitsPrepared, block_signatures}
-use Rattle.machine.specs.DataBlocks.{is_loaded}
+use Rattle.machine.specs.DataBlocks.{is_block_loaded}
 use Rattle.machine.specs.Effect.{on_local, effect, with_db, effect_with}
 use Rattle.machine.specs.Entering.{going_on}
 use Rattle.machine.specs.Fitting.{HasInstance, IsBound, IsMemoryOf, OpenAt, codes_of}
-use Rattle.machine.specs.Flat.{call_instr, code_of, head_of, instance_named, instr_of, is_jl, jump_instr, list_of, listed_with, most_listed, passings_of, use_db_of, use_db_first}
-use Rattle.machine.specs.Jumps.{after_jump, goes_to, is_taken, listed, rlo_tested}
+use Rattle.machine.specs.Flat.{call_by_number, code_of, block_head_of, instance_named, instr_of, is_jl, jump_by_operation, list_of, listed_with, most_listed, passings_of, use_db_of, use_db_first}
+use Rattle.machine.specs.Jumps.{regs_after_jump, jump_goal, is_jump_taken, list_goal, rlo_tested}
 use Rattle.machine.specs.ImageLaws.{ImageLaws}
 use Rattle.machine.specs.Lasting.{FitsProgram, Lasts}
-use Rattle.machine.specs.Nesting.{with_brackets, nesting, unnesting, unnested}
+use Rattle.machine.specs.Nesting.{with_open_brackets, nesting, unnesting, bracket_closed}
 use Rattle.machine.specs.OpenBrackets.{check_named, checks_of, open_at, open_codes}
 use Rattle.machine.specs.Relay.{opening_zone, ending_zone}
 use Rattle.machine.specs.ExecState.{Local, ExecState, local_of, exec_state_of, with_local}
 use Rattle.machine.specs.Places.{no_operand}
 use Rattle.machine.specs.SystemCalls.{system_function}
-use Rattle.machine.specs.Statement.{World, Went, statement, step_of, continue_with, jumped, is_ended, is_called, not_called, called, returned, with_exec_state}
+use Rattle.machine.specs.Statement.{World, Went, statement, step_of, continue_with, jump_step, is_ended, is_call_made, not_called, call_made, return_made, with_exec_state}
 use Rattle.machine.proofs.BindingLemmas.{PassingsFit, bound_of}
 use Rattle.machine.proofs.Called.{Caller, own_bound, function_lasts, function_block_lasts, going_fits, head_there}
 use Rattle.machine.proofs.Entered.{AreParams, of_blocks, of_functions, passings_fit, all_among, instance_long}
@@ -164,15 +164,15 @@ does_lasts l p a w at v (Err code) is goes kept erring =
 jump_lasts :
     (l : ImageLaws) (p : Program) (a : Activation) (w : World) (at : At p a w) (how : JumpOperation) (kind target : ℕ)
     → operation_of at.here.run.last.code ≡ operation.Jump → at.here.run.last.operand ≡ operand.Jump kind target
-    → Lasts p w (jumped how target at.here.run.next a w)
-jump_lasts l p a w at how kind target is operand_is = record { sizes = same_sizes w.memory; fits = by (is_taken how a.running.regs) }
+    → Lasts p w (jump_step how target at.here.run.next a w)
+jump_lasts l p a w at how kind target is operand_is = record { sizes = same_sizes w.memory; fits = by (is_jump_taken how a.running.regs) }
   where
-    by : (taken : Bool) → FitsProgram p w.memory (going_on (goes_to taken target at.here.run.next) (after_jump how a.running.regs) a)
+    by : (taken : Bool) → FitsProgram p w.memory (going_on (jump_goal taken target at.here.run.next) (regs_after_jump how a.running.regs) a)
     by true =
-        going_fits l p w.memory a target (after_jump how a.running.regs) at.fits
+        going_fits l p w.memory a target (regs_after_jump how a.running.regs) at.fits
         (target_stood l p a.running.frame.block a.running.frame.at (frame_open a.running.frame) at.here kind target operand_is)
     by false =
-        going_fits l p w.memory a at.here.run.next (after_jump how a.running.regs) at.fits
+        going_fits l p w.memory a at.here.run.next (regs_after_jump how a.running.regs) at.fits
         (next_same l p a w at operation.Jump is refl (λ held. refl))
 
 -- ---- JL
@@ -311,7 +311,7 @@ jump_list_lasts :
     (l : ImageLaws) (p : Program) (a : Activation) (w : World) (at : At p a w) (target : ℕ)
     → operation_of at.here.run.last.code ≡ operation.Jump → at.here.run.last.operand ≡ operand.Jump 1 target
     → Lasts p w (step_of (code_of p) (JumpsByList (list_of most_listed at.here.stood.b.code target at.here.run.next) target) at.here.run.next a w)
-unfolding listed
+unfolding list_goal
 jump_list_lasts l p a w at target is operand_is =
     let f = a.running.frame in
     let held = frame_open f in
@@ -361,7 +361,7 @@ end_lasts :
 end_lasts l p a w at how is = by (is_ended how a.running.regs.status.rlo) refl
   where
     by : (t : Bool) → is_ended how a.running.regs.status.rlo ≡ t
-        → Lasts p w (cond t (returned ((code_of p).head a.running.frame.block) a w) (Went (going_on at.here.run.next (rlo_tested a.running.regs) a) w))
+        → Lasts p w (cond t (return_made ((code_of p).head a.running.frame.block) a w) (Went (going_on at.here.run.next (rlo_tested a.running.regs) a) w))
     by true e = returned_lasts p a w at.fits
     by false e = record {
       sizes = same_sizes w.memory;
@@ -477,7 +477,7 @@ no_instance lens called instance other h =
 has_instance :
     (p : Program) (m : Areas) (b : CodeBlock) (called : Callee) (instance : ℕ) → called ≡ (3, b.instance_len, map record_of_param b.params)
     → IsMemoryOf (code_of p) m → is_bad_instance (lens_of p.data_blocks) called instance ≡ false
-    → HasInstance kinds.Fb (head_of b) m (instance_named instance)
+    → HasInstance kinds.Fb (block_head_of b) m (instance_named instance)
 has_instance p m b called instance is memory h = by (eqb instance 0) (rw is at h)
   where
     no_params : (ps : List Param) → not (nothing (map record_of_param ps)) ≡ false → ps ≡ []
@@ -485,14 +485,14 @@ has_instance p m b called instance is memory h = by (eqb instance 0) (rw is at h
     no_params (q ∷ ps) e = absurd cc
 
     by : (t : Bool) → cond t (not (nothing (map record_of_param b.params))) (is_short b.instance_len (data_len instance (lens_of p.data_blocks))) ≡ false
-        → HasInstance kinds.Fb (head_of b) m (cond t None (Some instance))
+        → HasInstance kinds.Fb (block_head_of b) m (cond t None (Some instance))
     by true e = no_params b.params e
     by false e = instance_long memory.profile p m instance b.instance_len memory.sizes e
 
 call_function :
     (l : ImageLaws) (p : Program) (a : Activation) (w : World) (at : At p a w) (how : CallOperation) (number instance : ℕ)
     → operation_of at.here.run.last.code ≡ operation.Call how → at.here.run.last.operand ≡ operand.Called 2 number instance
-    → Lasts p w (called (code_of p) (record { kind = kinds.Fc; number = number }) (instance_named instance) (passings_of at.here.run.before) at.here.run.next a w)
+    → Lasts p w (call_made (code_of p) (record { kind = kinds.Fc; number = number }) (instance_named instance) (passings_of at.here.run.before) at.here.run.next a w)
 call_function l p a w at how number instance word_is is =
     let fit = fit_of l p a w at 2 number instance is in
     let one = l.called p 2 number fit.called (inl refl) fit.there in
@@ -510,7 +510,7 @@ call_function l p a w at how number instance word_is is =
 call_function_block :
     (l : ImageLaws) (p : Program) (a : Activation) (w : World) (at : At p a w) (how : CallOperation) (number instance : ℕ)
     → operation_of at.here.run.last.code ≡ operation.Call how → at.here.run.last.operand ≡ operand.Called 3 number instance
-    → Lasts p w (called (code_of p) (record { kind = kinds.Fb; number = number }) (instance_named instance) (passings_of at.here.run.before) at.here.run.next a w)
+    → Lasts p w (call_made (code_of p) (record { kind = kinds.Fb; number = number }) (instance_named instance) (passings_of at.here.run.before) at.here.run.next a w)
 call_function_block l p a w at how number instance word_is is =
     let fit = fit_of l p a w at 3 number instance is in
     let one = l.called p 3 number fit.called (inr refl) fit.there in
@@ -542,7 +542,7 @@ function_known number rs is = rw is refl
 call_system_function :
     (l : ImageLaws) (p : Program) (a : Activation) (w : World) (at : At p a w) (how : CallOperation) (number instance : ℕ)
     → operation_of at.here.run.last.code ≡ operation.Call how → at.here.run.last.operand ≡ operand.Called 5 number instance
-    → Lasts p w (called (code_of p) (record { kind = kinds.Sfc; number = number }) (instance_named instance) (passings_of at.here.run.before) at.here.run.next a w)
+    → Lasts p w (call_made (code_of p) (record { kind = kinds.Sfc; number = number }) (instance_named instance) (passings_of at.here.run.before) at.here.run.next a w)
 call_system_function l p a w at how number instance word_is is =
     let fit = fit_of l p a w at 5 number instance is in
     let one = is_function p number fit.called fit.there in
@@ -562,12 +562,12 @@ call_system_function l p a w at how number instance word_is is =
 either_called :
     (l : ImageLaws) (p : Program) (a : Activation) (w : World) (at : At p a w) (how : CallOperation) (block : BlockId) (instance : Option ℕ)
     → operation_of at.here.run.last.code ≡ operation.Call how
-    → Lasts p w (called (code_of p) block instance (passings_of at.here.run.before) at.here.run.next a w)
+    → Lasts p w (call_made (code_of p) block instance (passings_of at.here.run.before) at.here.run.next a w)
     → Lasts p w (step_of (code_of p) (Calls how block instance (passings_of at.here.run.before)) at.here.run.next a w)
-either_called l p a w at how block instance is lasts = by (is_called how a.running.regs.status.rlo)
+either_called l p a w at how block instance is lasts = by (is_call_made how a.running.regs.status.rlo)
   where
     by : (t : Bool)
-        → Lasts p w (cond t (called (code_of p) block instance (passings_of at.here.run.before) at.here.run.next a w)
+        → Lasts p w (cond t (call_made (code_of p) block instance (passings_of at.here.run.before) at.here.run.next a w)
         (Went (going_on at.here.run.next (not_called a.running.regs) a) w))
     by true = lasts
     by false = record {
@@ -579,7 +579,7 @@ either_called l p a w at how block instance is lasts = by (is_called how a.runni
 call_lasts :
     (l : ImageLaws) (p : Program) (a : Activation) (w : World) (at : At p a w) (how : CallOperation) (kind number instance : ℕ) (other : Instr)
     → operation_of at.here.run.last.code ≡ operation.Call how → at.here.run.last.operand ≡ operand.Called kind number instance
-    → Lasts p w (step_of (code_of p) (call_instr (kind_of_code kind) how number instance (passings_of at.here.run.before) other) at.here.run.next a w)
+    → Lasts p w (step_of (code_of p) (call_by_number (kind_of_code kind) how number instance (passings_of at.here.run.before) other) at.here.run.next a w)
 call_lasts l p a w at how kind number instance other is operand_is =
     by (callable_kind kind (kind_callable at.here.run.last.code kind number instance right))
   where
@@ -593,7 +593,7 @@ call_lasts l p a w at how kind number instance other is operand_is =
     with_kind k e = operand_is ∙ ap (λ (z : ℕ). operand.Called z number instance) e
 
     by : IsCallable kind
-        → Lasts p w (step_of (code_of p) (call_instr (kind_of_code kind) how number instance (passings_of at.here.run.before) other) at.here.run.next a w)
+        → Lasts p w (step_of (code_of p) (call_by_number (kind_of_code kind) how number instance (passings_of at.here.run.before) other) at.here.run.next a w)
     by (inl e) =
         rw e
         (either_called l p a w at how (record { kind = kinds.Fc; number = number }) (instance_named instance) is
@@ -827,7 +827,7 @@ with_told : (u : Option ℕ) (v : Operation) (o : Operand) (q : ExecState) → S
 unfolding effect_with
 with_told None v o q s = effect_told v o q s
 with_told (Some number) v o q s =
-    either_told (is_loaded number q.memory) (effect v o (with_db number q)) (Err 0x3A)
+    either_told (is_block_loaded number q.memory) (effect v o (with_db number q)) (Err 0x3A)
     (effect_told v o (with_db number q) (record {
       admitted = s.admitted;
       has = param_moved q.local (with_db number q).local (is_writing v) o refl s.has;
@@ -844,7 +844,7 @@ unfolding effect nesting
 nest_erring with o q room = by (eqb (length q.local.inner.brackets) 7) refl
   where
     by : (t : Bool) → eqb (length q.local.inner.brackets) 7 ≡ t
-        → IfErring (operation.Nest with) (on_local q (cond t (Err no_operand) (Ok (with_brackets (entry_of with q.local.regs ∷ q.local.inner.brackets) (record q.local { regs = begun q.local.regs })))))
+        → IfErring (operation.Nest with) (on_local q (cond t (Err no_operand) (Ok (with_open_brackets (entry_of with q.local.regs ∷ q.local.inner.brackets) (record q.local { regs = begun q.local.regs })))))
     by true e = absurd (room (eqb-true (length q.local.inner.brackets) 7 e))
     by false e = tt
 
@@ -852,7 +852,7 @@ unnest_erring : (o : Operand) (q : ExecState) → (q.local.inner.brackets ≡ []
 unfolding effect unnesting
 unnest_erring o q room = by q.local.inner.brackets room
   where
-    by : (brackets : List Bracket) → (brackets ≡ [] → ⊥) → IfErring operation.Unnest (on_local q (unnested brackets q.local))
+    by : (brackets : List Bracket) → (brackets ≡ [] → ⊥) → IfErring operation.Unnest (on_local q (bracket_closed brackets q.local))
     by [] room = absurd (room refl)
     by (b ∷ rest) room = tt
 
@@ -920,7 +920,7 @@ plain_lasts l p a w at v o is o_is goes other =
 jump_or_list_lasts :
     (l : ImageLaws) (p : Program) (a : Activation) (w : World) (at : At p a w) (kind target : ℕ)
     → operation_of at.here.run.last.code ≡ operation.Jump → at.here.run.last.operand ≡ operand.Jump kind target
-    → Lasts p w (step_of (code_of p) (jump_instr (jump_of kind) target at.here.run.next at.here.stood.b.code) at.here.run.next a w)
+    → Lasts p w (step_of (code_of p) (jump_by_operation (jump_of kind) target at.here.run.next at.here.stood.b.code) at.here.run.next a w)
 jump_or_list_lasts l p a w at kind target is o_is = by (is_jl (jump_of kind)) refl
   where
     by : (t : Bool) → is_jl (jump_of kind) ≡ t

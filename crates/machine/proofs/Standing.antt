@@ -19,7 +19,7 @@ use Rattle.flat_code.specs.Programs.{CodeBlock, Program}
 use Rattle.flat_code.specs.Operations.{operation_of}
 use Rattle.image_file.specs.Readers.{block_by_id}
 use Rattle.image_file.specs.Verified.{placed_at, IsVerifiedOp, HasNext}
-use Rattle.machine.specs.Flat.{Run, run_at, with_op, most_ops, fetched_of, statement_at, code_of}
+use Rattle.machine.specs.Flat.{OpRun, op_run_at, with_op, most_ops, fetched_of, statement_fetched, code_of}
 use Rattle.machine.specs.ImageLaws.{ImageLaws}
 use Rattle.machine.specs.Fitting.{OpenAt}
 use Rattle.machine.specs.OpenBrackets.{check_named, checks_of, open_at, open_before, open_in, open_codes}
@@ -57,8 +57,8 @@ last_ends l p b q h is = let e = subst (λ (z : List OpData). HasNext b q z) is 
 
 -- ---- the run of a statement is there
 
-run_there : (l : ImageLaws) (p : Program) (b : CodeBlock) (most : ℕ) (q : Placed) → IsVerifiedOp p b q → most + length q.before ≡ 64 → IsSome (run_at most b.code q.at)
-unfolding run_at
+run_there : (l : ImageLaws) (p : Program) (b : CodeBlock) (most : ℕ) (q : Placed) → IsVerifiedOp p b q → most + length q.before ≡ 64 → IsSome (op_run_at most b.code q.at)
+unfolding op_run_at
 run_there l p b zero q h e = let few = (l.statements p b q h).few in absurd (omega (arith, e, few))
 run_there l p b (suc most) q h e =
     rw (op_here 0 [] [] [] b.code q.at q h.place)
@@ -71,16 +71,16 @@ run_there l p b (suc most) q h e =
         ap (λ (t : Bool). length (cond t [] (q.before ++ q.op ∷ []))) is in
         omega (arith, n, e, same)
 
-    with_first : (o : Option Run) → IsSome o → IsSome (option_map (with_op q.op) o)
+    with_first : (o : Option OpRun) → IsSome o → IsSome (option_map (with_op q.op) o)
     with_first (Some r) there = refl
     with_first None there = there
 
     by : (last : Bool) → q.op.last ≡ last → (rest : List OpData) → q.rest ≡ rest
-        → ((op : OpData) (rest : List OpData) → q.rest ≡ op ∷ rest → most + length (before_next q.op q.before) ≡ 64 → IsSome (run_at most b.code (q.at + size q.op)))
-        → IsSome (cond last (Some (record { before = []; last = q.op; next = q.at + size q.op })) (option_map (with_op q.op) (run_at most b.code (q.at + size q.op))))
+        → ((op : OpData) (rest : List OpData) → q.rest ≡ op ∷ rest → most + length (before_next q.op q.before) ≡ 64 → IsSome (op_run_at most b.code (q.at + size q.op)))
+        → IsSome (cond last (Some (record { before = []; last = q.op; next = q.at + size q.op })) (option_map (with_op q.op) (op_run_at most b.code (q.at + size q.op))))
     by true is rest e more = refl
     by false is [] e more = absurd (true≢false (sym (last_ends l p b q h e).1 ∙ is))
-    by false is (op ∷ rest) e more = with_first (run_at most b.code (q.at + size q.op)) (more op rest e (longer is))
+    by false is (op ∷ rest) e more = with_first (op_run_at most b.code (q.at + size q.op)) (more op rest e (longer is))
 
 -- ---- where a run ends
 
@@ -90,7 +90,7 @@ AllBefore p b last [] = Unit {0}
 AllBefore p b last (op ∷ ops) =
     ((q : Placed) × IsVerifiedOp p b q × (q.op ≡ op) × (last_op q ≡ last)) × AllBefore p b last ops
 
-pub record Ran (p : Program) (b : CodeBlock) (q : Placed) (r : Run) : Type 0 where
+pub record Ran (p : Program) (b : CodeBlock) (q : Placed) (r : OpRun) : Type 0 where
   pub last : Placed
   pub op : IsVerifiedOp p b last
   pub same : last.op ≡ r.last
@@ -109,8 +109,8 @@ pub ends_here : (op : OpData) (rest : List OpData) → op.last ≡ true → endi
 ends_here op [] is = refl
 ends_here op (n ∷ rest) is = rw is refl
 
-pub run_is : (l : ImageLaws) (p : Program) (b : CodeBlock) (most : ℕ) (q : Placed) (r : Run) → IsVerifiedOp p b q → run_at most b.code q.at ≡ Some r → Ran p b q r
-unfolding run_at
+pub run_is : (l : ImageLaws) (p : Program) (b : CodeBlock) (most : ℕ) (q : Placed) (r : OpRun) → IsVerifiedOp p b q → op_run_at most b.code q.at ≡ Some r → Ran p b q r
+unfolding op_run_at
 run_is l p b zero q r h e = absurd cc
 run_is l p b (suc most) q r h e =
     by q.op.last refl q.rest refl (rw (op_here 0 [] [] [] b.code q.at q h.place) at e)
@@ -139,7 +139,7 @@ run_is l p b (suc most) q r h e =
     more_before : q.op.last ≡ false → before_next q.op q.before ≡ q.before ++ q.op ∷ []
     more_before is = ap (λ (t : Bool). cond t [] (q.before ++ q.op ∷ [])) is
 
-    longer : (op : OpData) (rest : List OpData) (s : Run) → q.op.last ≡ false → q.rest ≡ op ∷ rest → Ran p b (behind_op q op rest) s → Ran p b q (with_op q.op s)
+    longer : (op : OpData) (rest : List OpData) (s : OpRun) → q.op.last ≡ false → q.rest ≡ op ∷ rest → Ran p b (behind_op q op rest) s → Ran p b q (with_op q.op s)
     longer op rest s is split ran =
         let ends : last_op q ≡ s.last = ap (λ (z : List OpData). ending q.op z) split ∙ ap (λ (t : Bool). cond t q.op (ending op rest)) is ∙ ran.ends in
         record {
@@ -157,18 +157,18 @@ run_is l p b (suc most) q r h e =
           passes = ((q, h, refl, ends), ran.passes);
         }
 
-    found : (o : Option Run) → option_map (with_op q.op) o ≡ Some r → ((s : Run) → o ≡ Some s → Ran p b q (with_op q.op s)) → Ran p b q r
+    found : (o : Option OpRun) → option_map (with_op q.op) o ≡ Some r → ((s : OpRun) → o ≡ Some s → Ran p b q (with_op q.op s)) → Ran p b q r
     found None e f = absurd cc
-    found (Some s) e f = subst (λ (z : Run). Ran p b q z) (same_Some (with_op q.op s) r e) (f s refl)
+    found (Some s) e f = subst (λ (z : OpRun). Ran p b q z) (same_Some (with_op q.op s) r e) (f s refl)
 
     by : (last : Bool) → q.op.last ≡ last → (rest : List OpData) → q.rest ≡ rest
-        → cond last (Some (record { before = []; last = q.op; next = q.at + size q.op })) (option_map (with_op q.op) (run_at most b.code (q.at + size q.op))) ≡ Some r
-        → ((op : OpData) (rest : List OpData) → q.rest ≡ op ∷ rest → (s : Run) → run_at most b.code (q.at + size q.op) ≡ Some s → Ran p b (behind_op q op rest) s)
+        → cond last (Some (record { before = []; last = q.op; next = q.at + size q.op })) (option_map (with_op q.op) (op_run_at most b.code (q.at + size q.op))) ≡ Some r
+        → ((op : OpData) (rest : List OpData) → q.rest ≡ op ∷ rest → (s : OpRun) → op_run_at most b.code (q.at + size q.op) ≡ Some s → Ran p b (behind_op q op rest) s)
         → Ran p b q r
-    by true is rest split e more = subst (λ (z : Run). Ran p b q z) (same_Some (record { before = []; last = q.op; next = q.at + size q.op }) r e) (only is)
+    by true is rest split e more = subst (λ (z : OpRun). Ran p b q z) (same_Some (record { before = []; last = q.op; next = q.at + size q.op }) r e) (only is)
     by false is [] split e more = absurd (true≢false (sym (last_ends l p b q h split).1 ∙ is))
     by false is (op ∷ rest) split e more =
-        found (run_at most b.code (q.at + size q.op)) e (λ s s_is. longer op rest s is split (more op rest split s s_is))
+        found (op_run_at most b.code (q.at + size q.op)) e (λ s s_is. longer op rest s is split (more op rest split s s_is))
 
 -- ---- a statement begins
 
@@ -190,18 +190,18 @@ none_before (op ∷ before) e = absurd cc
 pub record Statement (p : Program) (block : BlockId) (at : ℕ) (held : OpenAt) : Type 0 where
   pub stood : Stood p block at held
   pub line : ℕ
-  pub run : Run
+  pub run : OpRun
   pub fetched : (code_of p).fetch block at ≡ Some (fetched_of stood.b.code line run)
   pub ran : Ran p stood.b stood.q run
 
-run_found : (o : Option Run) → IsSome o → (r : Run) × (o ≡ Some r)
+run_found : (o : Option OpRun) → IsSome o → (r : OpRun) × (o ≡ Some r)
 run_found (Some r) there = (r, refl)
 run_found None there = absurd cc
 
 fetched_there :
-    (b : CodeBlock) (at line : ℕ) (r : Run) → line_placed 0 true b.code b.lines at ≡ Some line
-    → run_at most_ops b.code at ≡ Some r → statement_at b at ≡ Some (fetched_of b.code line r)
-unfolding statement_at
+    (b : CodeBlock) (at line : ℕ) (r : OpRun) → line_placed 0 true b.code b.lines at ≡ Some line
+    → op_run_at most_ops b.code at ≡ Some r → statement_fetched b at ≡ Some (fetched_of b.code line r)
+unfolding statement_fetched
 fetched_there b at line r has run = rw (has, run) refl
 
 pub statement_there :
@@ -209,10 +209,10 @@ pub statement_there :
     → Statement p block at held
 statement_there l p block at held s =
     let few : most_ops + length s.q.before ≡ 64 = ap (λ (z : List OpData). 64 + length z) (none_before s.q.before s.begun) in
-    let r = run_found (run_at most_ops s.b.code s.q.at) (run_there l p s.b most_ops s.q s.op few) in
+    let r = run_found (op_run_at most_ops s.b.code s.q.at) (run_there l p s.b most_ops s.q s.op few) in
     let line = l.lines p s.b s.q s.op s.begun in
-    let there : statement_at s.b at ≡ Some (fetched_of s.b.code line.line r.0) =
-    ap (statement_at s.b) (sym s.offset) ∙ fetched_there s.b s.q.at line.line r.0 line.is r.1 in
+    let there : statement_fetched s.b at ≡ Some (fetched_of s.b.code line.line r.0) =
+    ap (statement_fetched s.b) (sym s.offset) ∙ fetched_there s.b s.q.at line.line r.0 line.is r.1 in
     record {
       stood = s;
       line = line.line;

@@ -30,7 +30,7 @@ use Rattle.flat_code.specs.Instr.{Passing}
 use Rattle.flat_code.specs.Programs.{CodeBlock, Program}
 use Rattle.image_file.specs.Readers.{block_by_id}
 use Rattle.machine.specs.declared.places.Location.{Location}
-use Rattle.machine.specs.Bindings.{bindings_of}
+use Rattle.machine.specs.Bindings.{param_bindings}
 use Rattle.machine.specs.Entering.{at_block, going_on}
 use Rattle.machine.specs.Fitting.{ExistsIn, IsBound, AreBound, IsMemoryOf, LocalsFit, SameParts}
 use Rattle.machine.specs.Flat.{code_of}
@@ -38,8 +38,8 @@ use Rattle.machine.specs.ImageLaws.{ImageLaws}
 use Rattle.machine.specs.Lasting.{Lasts, FitWidths, TakesResult, input_widths}
 use Rattle.machine.specs.OpenBrackets.{open_codes}
 use Rattle.machine.specs.ExecState.{Local, LocalMemory, local_of, then_ok}
-use Rattle.machine.specs.Places.{is_local, number_in}
-use Rattle.machine.specs.Statement.{World, after_system_call, system_called}
+use Rattle.machine.specs.Places.{is_area_l, location_number}
+use Rattle.machine.specs.Statement.{World, after_system_call, system_call_made}
 use Rattle.machine.specs.SystemCalls.{given_by, input_of, inputs_from, result_from, system_call, system_function}
 use Rattle.machine.specs.Values.{with_locals, stored_at}
 use Rattle.machine.proofs.BindingLemmas.{PassingsFit, is_among, bound_of}
@@ -115,7 +115,7 @@ stored_there frames m at value s fits w exists = by at.place.area exists
     in_memory there = mapped_there _ (number_written m at.place at.width value) (writable m at.place at.width value w there)
 
     by : (area : Area) → ExistsIn area at frames m
-        → IsSome (cond (is_local area)
+        → IsSome (cond (is_area_l area)
         (option_map (λ (l : LocalData). let r : LocalMemory = record { local = with_locals s l; memory = m } in r) (local_written s.locals at.frame at.place.byte at.place.bit at.width value))
         (option_map (λ (memory : Areas). let r : LocalMemory = record { local = s; memory = memory } in r) (number_written m at.place at.width value)))
     by areas.L exists =
@@ -143,8 +143,8 @@ local_fits l frame at bit width n is =
     let found = chained (λ (place : ℕ). number_over (slice_get l.bytes) place bit width) (local_operand_start l frame at width) n is in
     over_fits (slice_get l.bytes) found.0 bit width (Some n) (sym found.2)
 
-place_fits : (at : Location) (l : LocalData) (m : Areas) (n : ℕ) → number_in at l m ≡ Some n → n < 2 ^ bit_count at.width
-place_fits at l m n is = by (is_local at.place.area) is
+place_fits : (at : Location) (l : LocalData) (m : Areas) (n : ℕ) → location_number at l m ≡ Some n → n < 2 ^ bit_count at.width
+place_fits at l m n is = by (is_area_l at.place.area) is
   where
     by : (local : Bool) → cond local (local_number l at.frame at.place.byte at.place.bit at.width) (number_at m at.place at.width) ≡ Some n → n < 2 ^ bit_count at.width
     by true is = local_fits l at.frame at.place.byte at.place.bit at.width n is
@@ -154,9 +154,9 @@ given_fits :
     (p : Param) (frames : List Frame) (m : Areas) (b : Binding) (s : Local) → IsBound kinds.Fc p frames m b
     → input_of (Some b) s m < 2 ^ bit_count p.width
 given_fits p frames m (binding.Bound at width frame) s is =
-    by (number_in (record { place = at; width = width; frame = frame }) s.locals m) refl
+    by (location_number (record { place = at; width = width; frame = frame }) s.locals m) refl
   where
-    by : (o : Option ℕ) → number_in (record { place = at; width = width; frame = frame }) s.locals m ≡ o → unwrap_or o 0 < 2 ^ bit_count p.width
+    by : (o : Option ℕ) → location_number (record { place = at; width = width; frame = frame }) s.locals m ≡ o → unwrap_or o 0 < 2 ^ bit_count p.width
     by None e = power_some p.width
     by (Some n) e = subst (λ (w : Width). n < 2 ^ bit_count w) is.0 (place_fits (record { place = at; width = width; frame = frame }) s.locals m n e)
 given_fits p frames m (binding.Constant value) s is = is.1
@@ -238,9 +238,9 @@ pub function_called_lasts :
     → Caller p w.memory a next → system_function number ≡ Some ps → block_by_id a.running.frame.block p.code_blocks ≡ Some own
     → PassingsFit a.running.frame.block.kind own.params ps xs
     → ((i : ℕ) (q : Param) → slice_get ps i ≡ Some q → is_among i xs ≡ true)
-    → Lasts p w (system_called (Some ps) number xs next a w)
+    → Lasts p w (system_call_made (Some ps) number xs next a w)
 unfolding system_call
 function_called_lasts l p a w next number own ps xs h known own_is fits each =
     let bound = caller_binds p w.memory a own ps next xs own_is h.fits fits in
-    system_lasts l p a w next number ps (bindings_of ps xs (local_of a.running) w.memory) h known (caller_told p w.memory a own ps xs own_is h.fits fits)
-    (function_bound ps (caller a next ∷ a.below) w.memory xs (bindings_of ps xs (local_of a.running) w.memory) each bound)
+    system_lasts l p a w next number ps (param_bindings ps xs (local_of a.running) w.memory) h known (caller_told p w.memory a own ps xs own_is h.fits fits)
+    (function_bound ps (caller a next ∷ a.below) w.memory xs (param_bindings ps xs (local_of a.running) w.memory) each bound)

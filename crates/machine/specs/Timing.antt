@@ -11,22 +11,22 @@ use Rattle.timers_counters.specs.Counter.{Counter, count_up, count_down, set_cou
 use Rattle.frames.specs.declared.running.Running.{Running}
 use Rattle.flat_code.specs.declared.operands.Operand.{Operand}
 use Rattle.machine.specs.ExecState.{Local, then_ok}
-use Rattle.machine.specs.Outcomes.{Answer, IsDone}
+use Rattle.machine.specs.Outcomes.{ErrorAnswer, IsDone}
 use Rattle.machine.specs.Values.{faulty, number_named}
 
 -- the instructions on timers and counters end the logic string: OR 0, /FC 0
-abbrev pub string_ended : Regs → Regs
-string_ended r = record r { status = record r.status { or = false; fc = false } }
+abbrev pub logic_string_ended : Regs → Regs
+logic_string_ended r = record r { status = record r.status { or = false; fc = false } }
 
 -- the word that a start instruction and S take: the low word of accumulator 1
-abbrev pub operation_of : Local → ℕ
-operation_of s = s.regs.a1 % 2 ^ 16
+abbrev pub start_word : Local → ℕ
+start_word s = s.regs.a1 % 2 ^ 16
 
 -- SP SE SD SS SF: the timers afterwards; 26 where there is none of the number, 21 for a bad digit
-unfoldable pub starting : TimerKind → Operand → Local → Areas → List Timer → Result (List Timer) ℕ
-starting how o s m t =
+unfoldable pub timer_start : TimerKind → Operand → Local → Areas → List Timer → Result (List Timer) ℕ
+timer_start how o s m t =
     then_ok (number_named o s m) (λ number.
-    faulty errors.no_timer (change_at_number (start_timer how s.regs.status.rlo (operation_of s)) t number))
+    faulty errors.no_timer (change_at_number (start_timer how s.regs.status.rlo (start_word s)) t number))
 
 -- R of a timer
 unfoldable pub timer_reset : Operand → Local → Areas → List Timer → Result (List Timer) ℕ
@@ -56,7 +56,7 @@ counting_down o s m n =
 unfoldable pub counter_set : Operand → Local → Areas → List Counter → Result (List Counter) ℕ
 counter_set o s m n =
     then_ok (number_named o s m) (λ number.
-    faulty errors.no_counter (change_at_number (set_counter s.regs.status.rlo (operation_of s)) n number))
+    faulty errors.no_counter (change_at_number (set_counter s.regs.status.rlo (start_word s)) n number))
 
 -- R of a counter
 unfoldable pub counter_reset : Operand → Local → Areas → List Counter → Result (List Counter) ℕ
@@ -72,7 +72,7 @@ counter_freed o s m n =
 
 -- an effect on timers or counters: the logic string ends; after an error all is as it was
 abbrev pub Times :
-    {A : Type 0} → Result (List A) ℕ → (old new : Running) (all all' : List A) → Answer → Type 0
+    {A : Type 0} → Result (List A) ℕ → (old new : Running) (all all' : List A) → ErrorAnswer → Type 0
 Times effect old new all all' answer =
-    IsDone effect (λ next. (new ≡ record old { regs = string_ended old.regs }) × (all' ≡ next))
+    IsDone effect (λ next. (new ≡ record old { regs = logic_string_ended old.regs }) × (all' ≡ next))
     ((new ≡ old) × (all' ≡ all)) answer

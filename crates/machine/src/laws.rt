@@ -16,11 +16,11 @@ ghost use Rattle.frames.specs.declared.bindings.Binding.{Binding};
 ghost use Rattle.flat_code.specs.Programs.{Program};
 ghost use Rattle.flat_code.specs.Loading.{Verifies};
 ghost use Rattle.machine.specs.declared.outcomes.Outcome.{Outcome};
-ghost use Rattle.machine.specs.Code.{Code, Head};
+ghost use Rattle.machine.specs.Code.{Code, BlockHead};
 ghost use Rattle.machine.specs.Fitting.{SameSizes, IsMemoryOf};
 ghost use Rattle.machine.specs.Flat.{code_of};
 ghost use Rattle.machine.specs.ImageLaws.{ImageLaws};
-ghost use Rattle.machine.specs.Lasting.{FitsProgram, GoesOn, IsReady, Lasts, LeavesFit, first_frame, ob_block};
+ghost use Rattle.machine.specs.Lasting.{FitsProgram, GoesOnFitting, IsStatementReady, Lasts, LeavesFit, first_frame, ob_block};
 ghost use Rattle.machine.specs.Results.{GivesResult};
 ghost use Rattle.machine.specs.Statement.{World, step_found, statement, IsNotStuck, IsOutcomeOf};
 ghost use Rattle.machine.specs.Moved.{StatementsMove};
@@ -55,7 +55,7 @@ fn what_verifying_gives()
 /// Of a program that verifies an activation that fits is ready: `statement` may be called.
 pub fn what_fits_goes()
     ensures { (p : Program) (m : Areas) (a : Activation)
-        → Verifies p → FitsProgram p m a → IsReady p a }
+        → Verifies p → FitsProgram p m a → IsStatementReady p a }
 {
     what_verifying_gives();
 }
@@ -82,12 +82,12 @@ pub fn what_fits_stays()
 /// Of a program that verifies an organization block begins with an activation that fits, and has
 /// room for its start information in its first 20 local bytes.
 pub fn blocks_begin()
-    ensures fits { (f : Profile) (p : Program) (m : Areas) (class ob : ℕ) (h : Head)
+    ensures fits { (f : Profile) (p : Program) (m : Areas) (class ob : ℕ) (h : BlockHead)
         → Verifies p → IsMemoryOf (code_of p) m → (code_of p).head (ob_block ob) ≡ Some h
         → FitsProgram p m (activation_begun f class ob (first_frame ob h.local_len)) }
-    ensures room { (p : Program) (ob : ℕ) (h : Head)
+    ensures room { (p : Program) (ob : ℕ) (h : BlockHead)
         → Verifies p → (code_of p).head (ob_block ob) ≡ Some h → h.local_len ≤ 1024 }
-    ensures start { (f : Profile) (p : Program) (class ob byte value : ℕ) (h : Head)
+    ensures start { (f : Profile) (p : Program) (class ob byte value : ℕ) (h : BlockHead)
         → Verifies p → (code_of p).head (ob_block ob) ≡ Some h → byte < 20
         → IsSome (with_local_byte 0 byte value (activation_begun f class ob (first_frame ob h.local_len))) }
 {
@@ -108,7 +108,7 @@ pub fn what_fits_may_change()
 /// After RET_VAL was given an activation fits as before.
 pub fn results_fit()
     ensures { (p : Program) (m n : Areas) (a b : Activation) (to : Binding) (value : ℕ)
-        → Verifies p → FitsProgram p m a → GivesResult to value a b m n → GoesOn p m n b }
+        → Verifies p → FitsProgram p m a → GivesResult to value a b m n → GoesOnFitting p m n b }
 {
     what_verifying_gives();
 }

@@ -5,7 +5,7 @@ use Rattle.std.specs.Option.{option_map, option_and_then}
 use Rattle.plc_base.specs.declared.blocks.BlockId.{BlockId}
 use Rattle.flat_code.specs.Programs.{DataBlock, NameEntry, Program}
 use Rattle.image_file.specs.Readers.{is_same_id}
-use Rattle.machine.specs.Code.{Code, Fetched, Head}
+use Rattle.machine.specs.Code.{Code, Fetched, BlockHead}
 use Rattle.machine.specs.Flat.{numbered_bytes, code_of}
 use Rattle.machine.specs.Moved.{Follows}
 use Rattle.stl_codegen.specs.Compiled.{Stated, StatedBlock, ops_in, offset_of, compiled}
@@ -25,7 +25,7 @@ abbrev pub statement_of : StatedBlock → (n : ℕ) → Option Fetched
 statement_of b n = option_map (numbered n) (slice_get b.statements n)
 
 -- the head of a block: its local bytes, the bytes of its instance, its parameters
-abbrev pub stated_head : StatedBlock → Head
+abbrev pub stated_head : StatedBlock → BlockHead
 stated_head b =
     record { local_len = b.local_len; instance_len = b.instance_len; params = b.params }
 

@@ -11,7 +11,7 @@ use Rattle.frames.specs.declared.Activation.{Activation}
 use Rattle.frames.specs.declared.bindings.Binding.{Binding}
 use Rattle.flat_code.specs.Loading.{Verifies}
 use Rattle.flat_code.specs.Programs.{Program}
-use Rattle.machine.specs.Code.{Code, Head}
+use Rattle.machine.specs.Code.{Code, BlockHead}
 use Rattle.machine.specs.Flat.{code_of}
 use Rattle.machine.specs.Statement.{Step, Went, Ended, SyncError, SysCall, Stop as StopsBy, Stuck, statement}
 use Rattle.ob_sched.specs.TickState.{TickState, ob_requested}
@@ -82,7 +82,7 @@ told_stack (value ∷ rest) byte a =
     told_stack rest (byte + 1) (unwrap_or (with_local_byte 0 byte value a) a)
     ∙ byte_stack byte value a
 
-begun_room : (z : Profile) (c : List Bound) (class ob : ℕ) (info : StartInfo) (h : Head)
+begun_room : (z : Profile) (c : List Bound) (class ob : ℕ) (info : StartInfo) (h : BlockHead)
     → RoomFor z (bound_of (ob_block ob) c) [] → Roomy z c (ob_begun z class ob info h)
 unfolding ob_begun
 begun_room z c class ob info h room = (
@@ -91,7 +91,7 @@ begun_room z c class ob info h room = (
       (sym (told_stack info.bytes 0 (activation_begun z class ob (ob_frame ob h)))) (room, tt),
 )
 
-ob_room_by : (z : Profile) (code : Code) (c : List Bound) (class ob : ℕ) (info : StartInfo) (found : Option Head)
+ob_room_by : (z : Profile) (code : Code) (c : List Bound) (class ob : ℕ) (info : StartInfo) (found : Option BlockHead)
     → Certifies z code c → code.head (ob_block ob) ≡ found
     → RoomIf z c (option_map (ob_begun z class ob info) found)
 ob_room_by z code c class ob info None holds is = tt

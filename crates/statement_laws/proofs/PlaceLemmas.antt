@@ -29,13 +29,13 @@ then_same {A = A} {B = B} r r' f g e h = ap (λ z. then_ok z f) e ∙ by r'
     by (Err code) = refl
 
 open_same : (o : Option ℕ) (e byte bit : ℕ) (w : Width)
-    → places.in_register o e byte bit w ≡ own.place_in_open_block o e byte bit w
+    → places.open_block_location o e byte bit w ≡ own.place_in_open_block o e byte bit w
 open_same None e byte bit w = refl
 open_same (Some number) e byte bit w = refl
 
 pub lying_same : (a : Area) (byte bit : ℕ) (w : Width) (p : ExecState)
-    → places.in_area a byte bit w p.local ≡ own.place_in_area a byte bit w p
-unfolding places.in_area own.place_in_area
+    → places.open_area_location a byte bit w p.local ≡ own.place_in_area a byte bit w p
+unfolding places.open_area_location own.place_in_area
 lying_same area.Db byte bit w p = open_same p.local.inner.db 0x32 byte bit w
 lying_same area.Di byte bit w p = open_same p.local.inner.di 0x33 byte bit w
 lying_same area.L byte bit w p = refl
@@ -52,14 +52,14 @@ absent_same Writing area.P = refl
 absent_same Writing _ = refl
 
 pub of_area : (a : Area) (b : Location) (p : ExecState)
-    → (if places.is_local a then local_number p.local.locals b.frame b.place.byte b.place.bit b.width
+    → (if places.is_area_l a then local_number p.local.locals b.frame b.place.byte b.place.bit b.width
     else number_at p.memory b.place b.width)
     ≡ own.number_at_bound a b p
 of_area area.L b p = refl
 of_area _ b p = refl
 
 pub there_same : (access : Access) (b : Location) (p : ExecState)
-    → ok_or (places.number_in b p.local.locals p.memory) (places.absent access b.place.area)
+    → ok_or (places.location_number b p.local.locals p.memory) (places.absent access b.place.area)
     ≡ own.number_or_error access b p
 there_same access b p =
     ap₂ ok_or (of_area b.place.area b p) (absent_same access b.place.area)
@@ -70,10 +70,10 @@ unfolding places.read
 read_same b p = there_same Reading b p
 
 pub standing_same : (from : Area) (byte : ℕ) (w : Width) (p : ExecState)
-    → places.pointer from byte w p.local p.memory ≡ own.stored_number from byte w p
-unfolding places.direct
+    → places.pointer_number from byte w p.local p.memory ≡ own.stored_number from byte w p
+unfolding places.direct_number
 standing_same from byte w p =
-    then_same (places.in_area from byte 0 w p.local) (own.place_in_area from byte 0 w p)
+    then_same (places.open_area_location from byte 0 w p.local) (own.place_in_area from byte 0 w p)
     (λ b. places.read b p.local p.memory) (λ b. own.number_or_error Reading b p)
     (lying_same from byte 0 w p) (λ b. read_same b p)
 
@@ -107,18 +107,18 @@ pointed_same access a w n p =
     (whole_same w n) (lying_same a (own.byte_of n) (own.bit_of n) w p) (ap Err (bit_error access))
 
 peripheral_same : (a : Area) (w : Width)
-    → (places.is_peripheral a && places.is_bit w) ≡ own.is_peripheral_bit a w
+    → (places.is_area_p a && places.is_bit_width w) ≡ own.is_peripheral_bit a w
 peripheral_same area.P widths.Bit = refl
 peripheral_same area.P _ = refl
 peripheral_same _ w = refl
 
 pub fixed_same : (access : Access) (a : Area) (w : Width) (byte bit : ℕ) (p : ExecState)
-    → places.placed access a byte bit w p.local ≡ own.fixed_place access a w byte bit p
+    → places.area_location access a byte bit w p.local ≡ own.fixed_place access a w byte bit p
 unfolding own.fixed_place
 fixed_same access a w byte bit p =
-    if_same (places.is_peripheral a && places.is_bit w) (own.is_peripheral_bit a w)
+    if_same (places.is_area_p a && places.is_bit_width w) (own.is_peripheral_bit a w)
     (Err (places.error_of access 0x24)) (Err (own.bad_area access))
-    (places.in_area a byte bit w p.local) (own.place_in_area a byte bit w p)
+    (places.open_area_location a byte bit w p.local) (own.place_in_area a byte bit w p)
     (peripheral_same a w) (ap Err (area_error access)) (lying_same a byte bit w p)
 
 named_same : (access : Access) (o : Option Place) (w : Width) (n : ℕ) (p : ExecState)
@@ -146,7 +146,7 @@ with_scene p c = record p { local = c.local; memory = c.memory }
 
 written_in_same : (a : Area) (b : Location) (n : ℕ) (p : ExecState)
     → option_map (with_scene p)
-    (if places.is_local a
+    (if places.is_area_l a
     then option_map (λ l. record { local = values.with_locals p.local l; memory = p.memory })
     (local_written p.local.locals b.frame b.place.byte b.place.bit b.width n)
     else option_map (λ m. record { local = p.local; memory = m })

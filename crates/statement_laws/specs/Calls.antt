@@ -25,10 +25,10 @@ use Rattle.block_layout.specs.declared.cells.Element.TheVariants as element
 use Rattle.stl_types.specs.Context.{Context}
 use Rattle.flat_code.specs.Records.{section_out}
 use Rattle.flat_code.specs.declared.programs.Param.{Param}
-use Rattle.machine.specs.Code.{Code, Head}
+use Rattle.machine.specs.Code.{Code, BlockHead}
 use Rattle.machine.specs.Entering.{called_with}
 use Rattle.machine.specs.ExecState.{ExecState, exec_state_of, then_ok}
-use Rattle.machine.specs.Statement.{Step, Stuck, Went, World, after_call, after_system_call, callee_of}
+use Rattle.machine.specs.Statement.{Step, Stuck, Went, World, call_step, after_system_call, called_block}
 use Rattle.machine.specs.SystemCalls.{given_now, system_function}
 use Rattle.machine.specs.declared.places.Access.{Access}
 use Rattle.machine.specs.declared.places.Access.TheVariants.{Reading, Writing}
@@ -185,13 +185,13 @@ at_call r =
 
 -- a block of the program is entered, by its head
 abbrev pub enters_block :
-    Option Head → BlockId → Option ℕ → (List Param → ExecState → Result (List Binding) ℕ) → (next : ℕ)
+    Option BlockHead → BlockId → Option ℕ → (List Param → ExecState → Result (List Binding) ℕ) → (next : ℕ)
     → Activation → World → Step
 enters_block None id instance bind next a w = Stuck
 enters_block (Some h) id instance bind next a w =
-    after_call
+    call_step
     (called_with (bind h.params (exec_state_of a.running w.memory w.timers w.counters))
-    (callee_of id instance h) next a w.memory)
+    (called_block id instance h) next a w.memory)
     next a w
 
 -- a system function is called, by its parameters
