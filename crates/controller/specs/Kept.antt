@@ -14,13 +14,18 @@ use Rattle.controller.specs.declared.controllers.Controller.TheInside.{Inside}
 -- what the last entry showed is kept with what the next one is compared with; and the numbers of data
 -- blocks are the program's, in its order
 pub record IsReplay (a : Inside) : Type 0 where
+  -- the program verifies
   pub verifies : Verifies a.program.program
+  -- the state is the replay of the history at its profile
   pub state : cpu_state a.cpu ≡ replay a.program.profile (code_of a.program.program) (entry_events a.history.entries)
+  -- the state fits the program
   pub fit : IsFit a.program.program (cpu_state a.cpu)
+  -- what the last entry showed, with what the next one is compared with
   pub observer :
       a.observer
       ≡ watched_state (cpu_state a.cpu)
       (last_seen a.program.profile (code_of a.program.program) (entry_events a.history.entries))
+  -- the numbers of the data blocks, in the program's order
   pub numbers :
       a.numbers.items
       ≡ data_block_numbers (code_of a.program.program).blocks

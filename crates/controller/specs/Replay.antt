@@ -15,8 +15,11 @@ use Rattle.controller.specs.declared.observing.Observed.{Observed}
 
 -- the state after an entry, the answer, and what was shown
 pub record Happened : Type 0 where
+  -- the state after the entry
   pub state : State
+  -- what the entry was answered
   pub reply : Reply
+  -- what it showed
   pub seen : Observed
 
 -- what an entry is answered, by the state before it: a request its answer, each other entry that it

@@ -19,8 +19,11 @@ use Rattle.controller.specs.Stopping.{stop_entered_at}
 -- what a system function leaves of the scheduler and the running activation: with a return value, with
 -- none, or before STOP, where the scheduler stays
 pub data Served : Type 0 where
+  -- with a return value
   Returns : (r : Returned) → Served
+  -- without one
   Passes : (sched : Scheduler) (a : Activation) → Served
+  -- before STOP, by its cause
   Stops : (cause : ℕ) (a : Activation) → Served
 
 -- the number of an IN parameter by its place, counted from 0; 0 where there is none

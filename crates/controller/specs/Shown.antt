@@ -63,8 +63,11 @@ entry_shown code before what after =
 
 -- what is kept from one entry to the next: the peripheral outputs and the mode, and what was shown
 pub record Watched : Type 0 where
+  -- the peripheral outputs
   pub outputs : PeripheralBytes
+  -- the operating mode
   pub mode : Mode
+  -- what was shown last
   pub seen : Observed
 
 -- what is kept of a state, with what was shown last

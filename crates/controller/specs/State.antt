@@ -15,14 +15,23 @@ use Rattle.ob_sched.specs.Scheduler.{Scheduler}
 -- start is still to come; the monitored block, if there is one; the last 100 records of diagnostics; and
 -- how many entries there were
 pub record State : Type 0 where
+  -- the profile (docs/SEMANTICS.md, "Memory")
   pub profile : Profile
+  -- memory, timers and counters
   pub world : World
+  -- the operating mode: STARTUP, RUN or STOP
   pub mode : Mode
+  -- the organization blocks that run or are interrupted, the running one first
   pub activations : List Activation
+  -- the scheduler: requests, delays, periods, cycle time
   pub sched : Scheduler
+  -- the first cycle after a start is still to come
   pub first_cycle : Bool
+  -- the block that is monitored, if there is one
   pub monitored : Option BlockId
+  -- the diagnostic buffer: the last 100 records
   pub diagnostics : List DiagRecord
+  -- how many entries there were
   pub entries : ℕ
 
 -- STOP, whatever its cause and its spot are

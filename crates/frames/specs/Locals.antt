@@ -9,7 +9,9 @@ use Rattle.plc_mem.specs.Writing.{put_number}
 
 -- of each frame where its bytes begin, and the bytes
 pub record LocalData : Type 0 where
+  -- where the local data of each frame begin, the outermost frame's first
   pub starts : List ℕ
+  -- the local data of all frames
   pub bytes : List ℕ
 
 -- before the first frame

@@ -28,12 +28,17 @@ frame_bytes_start l frame = unwrap_or (slice_get l.starts frame) (length l.bytes
 -- where those of the frame before it end, which is never before its own begin. So none begin past the
 -- end of all, and without a frame there are none.
 pub record IsLaidOut (l : LocalData) : Type 0 where
+  -- the outermost frame's bytes begin at 0
   pub begins : frame_bytes_start l 0 ≡ 0
+  -- none end before they begin
   pub rises : (frame : ℕ) → frame_bytes_start l frame ≤ frame_bytes_end l frame
 
 -- What a write to a frame leaves: its own bytes as the write to them alone makes them, those of every
 -- other frame as before, and all one behind the other.
 pub record IsOwnWritten (old new : LocalData) (frame at bit : ℕ) (width : Width) (value : ℕ) : Type 0 where
+  -- the frame's own bytes, with the number written
   pub own : frame_bytes new frame ≡ option_and_then (λ bytes. put_number bytes at bit width value) (frame_bytes old frame)
+  -- those of every other frame
   pub others : (other : ℕ) → other ≢ frame → frame_bytes new other ≡ frame_bytes old other
+  -- all lie one behind the other
   pub laid : IsLaidOut new

@@ -12,8 +12,11 @@ use Rattle.image_file.specs.Loaded.{LoadedProgram}
 
 -- bytes are without fault and give a program; it has the profile that their version has or names
 pub record IsImageOf (bytes : List ℕ) (l : LoadedProgram) : Type 0 where
+  -- the version and profile of the image
   pub stamp : Stamp
+  -- the bytes give the program
   pub given : Gives bytes stamp l.program
+  -- the profile is that of the version, or the one that it names
   pub profile : l.profile ≡ profile_of stamp
 
 -- the program again, with the profile of the image that was written; or the program doesn't verify, and the

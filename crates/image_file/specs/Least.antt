@@ -13,7 +13,9 @@ IsFaultAmong f (g ∷ gs) = (g ≡ f) ⊎ IsFaultAmong f gs
 
 -- a fault of the list, and no other is less
 pub record IsLeastFault (f : LoadFault) (fs : List (ℕ × ℕ)) : Type 0 where
+  -- it is one of them
   pub one : IsFaultAmong (f.at, f.code) fs
+  -- none of them is less
   pub least : (g : ℕ × ℕ) → IsFaultAmong g fs → IsUpTo f g
 
 -- a fault is less than the least one so far: by its offset, then by its code

@@ -24,8 +24,13 @@ marks_from n begins (op ∷ ops) =
 
 -- the code of a block stands in bytes, with their marks and the lines of its statements
 pub record IsInPlace (b : CodeBlock) (bytes marks lines : List ℕ) : Type 0 where
+  -- each op is one of the table
   pub ops : are_ops b.code ≡ true
+  -- the bytes are those of the ops
   pub spelled : bytes ≡ code_bytes b.code
+  -- the marks are those of the ops
   pub marked : marks ≡ marks_from 0 true b.code
+  -- the lines are the block's
   pub lined : lines ≡ b.lines
+  -- code and lines are short enough for the marks
   pub small : HasSmallCode b

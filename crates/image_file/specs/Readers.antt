@@ -43,10 +43,15 @@ block_ids p = map (λ b. b.id) p.code_blocks ++ map data_block_id p.data_blocks
 -- what the head of a code block says: the bytes of its local data and of an instance, how many
 -- statements it has, how many bytes its code takes, its parameters
 pub record HeadData : Type 0 where
+  -- the bytes of its local data
   pub local_len : ℕ
+  -- the bytes of its instance
   pub instance_len : ℕ
+  -- how many statements it has
   pub statements : ℕ
+  -- how many bytes its code takes
   pub code_len : ℕ
+  -- its parameters
   pub params : List Param
 
 -- the head of a code block: a statement for each line, and as many bytes of code as its ops take

@@ -32,8 +32,11 @@ field_faults at field = faults_in (noted at (fault_of field))
 
 -- what one pass keeps: the least fault, the code blocks that were read whole, and the data blocks once all were read
 pub record Log : Type 0 where
+  -- the least fault so far
   pub least : Option LoadFault
+  -- the code blocks that were read whole, each with the offset of its code
   pub blocks : List (ℕ × BlockRecord)
+  -- the data blocks, once all were read
   pub datas : Option (List DataBlock)
 
 -- the code blocks so far, and those that notes say were read whole, in their order
@@ -56,7 +59,9 @@ log_after log notes = record { least = with_faults log.least (faults_in notes); 
 
 -- what one pass has in the end: a value and what follows, or that it ended, with what it kept
 pub data Ran (A : Type 0) : Type 0 where
+  -- a value, what follows, and what was kept
   Goes : (x : A) (cur : Cursor) (log : Log) → Ran A
+  -- reading ended at a fault, with what was kept
   Stops : (log : Log) → Ran A
 
 -- what one pass has, by what was found: nothing found means that reading ended at a fault

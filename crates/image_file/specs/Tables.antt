@@ -25,8 +25,11 @@ table_entry (Some place) = place
 
 -- a table of a length has, by offset, the place of the start there
 pub record IsTableOf (starts : List ℕ) (len : ℕ) (table : List ℕ) : Type 0 where
+  -- it has an entry for each offset
   pub size : length table ≡ len
+  -- each place is below the entry that stands for none
   pub few : length starts ≤ no_index
+  -- each entry is the place of the start at that offset
   pub places : (at : ℕ) → at < len → slice_index_or table at no_index ≡ table_entry (start_index at starts)
 
 -- a table finds, by offset, the statements of a block
@@ -52,12 +55,16 @@ found_callee blocks table key = option_map signature_callee (option_and_then (λ
 
 -- a table finds functions and function blocks by number: the first block of a kind and number
 pub record FindsCallees (blocks : List Signature) (table : List ℕ) : Type 0 where
+  -- functions stand at even keys
   pub functions : (number : ℕ) → number < 65536 → found_callee blocks table (2 * number) ≡ block_with 2 number blocks
+  -- function blocks at odd keys
   pub function_blocks : (number : ℕ) → number < 65536 → found_callee blocks table (2 * number + 1) ≡ block_with 3 number blocks
 
 -- a block's code and lines are as short as those of a program
 pub record HasSmallCode (block : CodeBlock) : Type 0 where
+  -- the bytes of its code
   pub code : length (code_bytes block.code) ≤ no_index
+  -- the count of its lines
   pub lines : length block.lines < 65536
 
 -- so are those of each of these blocks
@@ -76,7 +83,9 @@ slot_of id =
 
 -- a table has, by slot, where a block stands in a list
 pub record FindsBlocks (blocks : List CodeBlock) (table : List ℕ) : Type 0 where
+  -- it has an entry for each slot
   pub size : length table ≡ slots
+  -- the entry of a block's slot is the block's place
   pub there : (id : BlockId) (slot : ℕ) → slot_of id ≡ Some slot → slice_get blocks (slice_index_or table slot 0) ≡ block_by_id id blocks
 
 -- each block of a program has a slot

@@ -38,19 +38,28 @@ placed_at at (q ∷ qs) = if q.at == at then Some q else placed_at at qs
 
 -- an op, in its place, of a block of a program that verifies
 pub record IsVerifiedOp (p : Program) (b : CodeBlock) (q : Placed) : Type 0 where
+  -- the program verifies
   pub verifies : Verifies p
+  -- the block, by kind and number
   pub id : BlockId
+  -- it is a block of the program
   pub block : block_by_id id p.code_blocks ≡ Some b
+  -- the op stands there in its code
   pub place : placed_at q.at (places b.code) ≡ Some q
 
 -- ---- places
 
 -- the readers' op is the one in its place
 pub record IsReaderOp (ops : List OpData) (at : ℕ) (op : OpData) (next : ℕ) : Type 0 where
+  -- the op in its place
   pub here : Placed
+  -- it is one of the code's
   pub place : placed_at at (places ops) ≡ Some here
+  -- it begins at the offset
   pub offset : here.at ≡ at
+  -- it is the op that was read
   pub op_is : here.op ≡ op
+  -- the next one begins behind it
   pub next_is : next ≡ at + size op
 
 -- of any ops the one that the readers give at an offset is the one in its place
@@ -76,7 +85,9 @@ CodeGoesOn = (p : Program) (b : CodeBlock) (q : Placed) → IsVerifiedOp p b q �
 
 -- a statement has at most 64 ops; only USEDB and PASS stand before its last one
 pub record StatementIsRight (q : Placed) : Type 0 where
+  -- at most 64 ops with the last one
   pub few : length q.before < 64
+  -- only USEDB and PASS don't end it
   pub ended : q.op.last ≡ not (prepares q.op.code)
 
 -- in a program that verifies a statement has at most 64 ops, all but the last USEDB or PASS
@@ -85,7 +96,9 @@ StatementsAreRight = (p : Program) (b : CodeBlock) (q : Placed) → IsVerifiedOp
 
 -- each statement has a line
 pub record HasLine (b : CodeBlock) (at : ℕ) : Type 0 where
+  -- the source line
   pub line : ℕ
+  -- it is the line of the statement at the offset
   pub is : line_placed 0 true b.code b.lines at ≡ Some line
 
 -- in a program that verifies each statement has a source line, found where its first op begins
@@ -102,17 +115,26 @@ OpsAreOfTable =
 
 -- a block begins with a statement, before which no bracket and no zone stands open
 pub record BlockBegins (b : CodeBlock) : Type 0 where
+  -- the first op, in its place
   pub first : Placed
+  -- it is one of the code's
   pub place : placed_at 0 (places b.code) ≡ Some first
+  -- it begins at offset 0
   pub offset : first.at ≡ 0
+  -- a statement begins with it
   pub statement : begins first ≡ true
+  -- no bracket stands open
   pub closed : first.brackets ≡ []
+  -- no zone stands open
   pub no_zones : first.zones ≡ []
 
 -- a block has at most 1,024 local bytes; an organization block has no parameters, and at least 20
 pub record BlockIsRight (b : CodeBlock) : Type 0 where
+  -- it begins with a statement
   pub begins : BlockBegins b
+  -- at most 1,024 local bytes
   pub room : b.local_len ≤ 1024
+  -- an organization block has its start information, and no parameter
   pub organization : b.id.kind ≡ kinds.Ob → (b.params ≡ []) × (20 ≤ b.local_len)
 
 -- in a program that verifies each code block is so
@@ -125,11 +147,17 @@ BlocksAreRight =
 
 -- a jump's target is a statement of the block, where the same brackets and as many zones stand open
 pub record Lands (b : CodeBlock) (q : Placed) (target : ℕ) : Type 0 where
+  -- the op at the target, in its place
   pub there : Placed
+  -- it is one of the code's
   pub place : placed_at target (places b.code) ≡ Some there
+  -- it begins at the target
   pub offset : there.at ≡ target
+  -- a statement begins with it
   pub statement : begins there ≡ true
+  -- the same brackets stand open
   pub same : bracket_codes q.brackets ≡ bracket_codes there.brackets
+  -- as many zones stand open
   pub same_zones : length q.zones ≡ length there.zones
 
 -- in a program that verifies each jump has such a target, JL and LOOP too
@@ -142,8 +170,11 @@ ListsLead = (p : Program) (b : CodeBlock) (q : Placed) (target : ℕ) → IsVeri
 
 -- at most seven brackets stand open, one of A( to XN( finds room, `)` finds an open one
 pub record BracketsAreRight (q : Placed) : Type 0 where
+  -- at most seven stand open
   pub few : length q.brackets ≤ most_brackets
+  -- one that opens finds room
   pub room : opens q.op.code ≡ true → length q.brackets < most_brackets
+  -- `)` finds an open one
   pub there : q.op.code ≡ code_of operation.Unnest → 0 < length q.brackets
 
 -- in a program that verifies no bracket is an eighth open one, and no `)` lacks an open one
@@ -152,8 +183,11 @@ BracketsFit = (p : Program) (b : CodeBlock) (q : Placed) → IsVerifiedOp p b q 
 
 -- at most eight zones stand open, `MCR(` finds room, `)MCR` finds an open one
 pub record ZonesAreRight (q : Placed) : Type 0 where
+  -- at most eight stand open
   pub few : length q.zones ≤ most_zones
+  -- `MCR(` finds room
   pub room : q.op.code ≡ code_of (operation.Relay relay.Open) → length q.zones < most_zones
+  -- `)MCR` finds an open one
   pub there : q.op.code ≡ code_of (operation.Relay relay.Close) → 0 < length q.zones
 
 -- in a program that verifies no zone is a ninth open one, and no `)MCR` lacks an open one
@@ -169,8 +203,11 @@ LiesWithin b _ w byte = Unit {0}
 
 -- a parameter of the function, of a width
 pub record HasParam (b : CodeBlock) (index : ℕ) (w : Width) (param : Param) : Type 0 where
+  -- the block is a function
   pub kind : b.id.kind ≡ kinds.Fc
+  -- it has the parameter
   pub there : slice_get b.params index ≡ Some param
+  -- the parameter has the width
   pub width : param.width ≡ w
 
 -- the width is one of the instruction's; a bit number stands only where a bit is meant; local places lie
@@ -215,9 +252,13 @@ block_signatures p = map signature_of (map record_of_block p.code_blocks)
 -- what is called is there; a function or system function is passed each parameter; an instance is given
 -- to a function block alone, is there and long enough, and is left out only where there are no parameters
 pub record FitsCall (p : Program) (q : Placed) (kind number instance : ℕ) : Type 0 where
+  -- what is called
   pub called : Callee
+  -- it is a block of the program, or a system function
   pub there : callee (block_signatures p) kind number ≡ Some called
+  -- all but a function block is passed each parameter
   pub all : (called.0 ≡ kind_number kinds.Fb → ⊥) → are_passed 0 called.2 q.before ≡ true
+  -- the instance is one of the callee, or none is needed
   pub instance_fits : is_bad_instance (lens_of p.data_blocks) called instance ≡ false
 
 -- in a program that verifies each CALL, UC and CC has its block, what it passes, and its instance
@@ -226,8 +267,11 @@ CallsFit = (p : Program) (b : CodeBlock) (q : Placed) (kind number instance : �
 
 -- what is passed fits a parameter of what the statement calls
 pub record FitsParameter (p : Program) (b : CodeBlock) (called : Callee) (index : ℕ) (actual : Passed) : Type 0 where
+  -- the parameter to which it is passed
   pub parameter : ParameterRecord
+  -- the callee has it
   pub there : slice_get called.2 index ≡ Some parameter
+  -- what is passed fits it
   pub fits : misfits_parameter (around (Some (lens_of p.data_blocks)) (map record_of_block p.code_blocks) (record_of_block b)) parameter actual ≡ false
 
 -- in a program that verifies each PASS passes what fits that parameter of the called block
@@ -236,8 +280,11 @@ PassedFit = (p : Program) (b : CodeBlock) (q : Placed) (index : ℕ) (actual : P
 
 -- a function or function block that is called is a block of the program
 pub record IsCalledBlock (p : Program) (kind number : ℕ) (called : Callee) : Type 0 where
+  -- the block
   pub block : CodeBlock
+  -- it is a block of the program
   pub there : block_by_id (record { kind = kind_of_number kind; number = number }) p.code_blocks ≡ Some block
+  -- its head is what the call sees
   pub same : called ≡ (kind, block.instance_len, map record_of_param block.params)
 
 -- what a call of a function or function block finds is such a block, whether the program verifies or not

@@ -49,6 +49,9 @@ IsBitmapOf map bins = (n : ℕ) → n < 32 → (bit_at map n ≡ 1) ↔ (0 < len
 
 -- it is the highest bin that holds a request
 pub record IsHighest (bins : List Bin) (n : ℕ) : Type 0 where
+  -- it is one of the 32 bins
   pub within : n < 32
+  -- it holds a request
   pub some : 0 < length (waiting_in bins n)
+  -- no higher one does
   pub none_above : requests_by_rank (drop (suc n) bins) ≡ []

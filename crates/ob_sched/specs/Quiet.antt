@@ -12,7 +12,9 @@ DelayLasts ms (Some left) = ms ≤ left
 
 -- the periods and the cycle time last that long, in RUN
 pub record RunLasts (ms : ℕ) (s : Scheduler) : Type 0 where
+  -- no period ends before
   pub periods : All (λ left. ms ≤ left) s.countdowns.periods
+  -- nor is the cycle time exceeded
   pub cycle : s.cycle.counter + ms ≤ 151
 
 -- in STARTUP and STOP periods and cycle time don't move, and nothing is asked of them
@@ -23,7 +25,9 @@ RunLastsIn (Stop cause at) ms s = Unit {0}
 
 -- nothing ends and nothing is due before so many milliseconds have passed
 pub record NothingDueFor (mode : Mode) (ms : ℕ) (s : Scheduler) : Type 0 where
+  -- no delay ends before
   pub delays : All (DelayLasts ms) s.countdowns.delays
+  -- in RUN no period ends, and the cycle time isn't exceeded
   pub run : RunLastsIn mode ms s
 
 -- what such milliseconds do to the delays: each one that is started has so many less

@@ -9,7 +9,9 @@ use Rattle.ob_sched.specs.declared.requests.Pending.{Pending}
 
 -- a request with its arrival number
 pub record NumberedRequest : Type 0 where
+  -- its arrival number
   pub arrival : ℕ
+  -- the request
   pub request : Request
 
 -- its priority class in an operating mode
@@ -39,8 +41,11 @@ ArrivedBefore number (first ∷ rest) = (first.arrival < number) × ArrivedBefor
 
 -- the pending requests are those of a set, which is listed from the best member on
 pub record StandsFor (mode : Mode) (set : List NumberedRequest) (pending : List Request) : Type 0 where
+  -- each member outranks those behind it
   pub ranked : IsRanked mode set
+  -- the pending requests are the members', in this order
   pub requests : map (λ (one : NumberedRequest). one.request) set ≡ pending
+  -- each is of an OB that can wait
   pub known : list_all (λ (request : Request). can_wait request.0) pending ≡ true
 
 -- a request that arrives last joins the set: the others stay, whatever the mode

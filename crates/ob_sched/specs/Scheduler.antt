@@ -9,22 +9,32 @@ use Rattle.ob_sched.specs.declared.requests.Arrived.TheVariants.{Queued, Dropped
 -- the milliseconds left: of the delay of OB 20, 21, 22 and 23, where it is started, and of the period
 -- of OB 30 to 38
 pub record Countdowns : Type 0 where
+  -- the milliseconds left of the delays of OB 20 to 23, where they are started
   pub delays : List (Option ℕ)
+  -- the milliseconds left of the periods of OB 30 to 38
   pub periods : List ℕ
 
 -- the cycle counter in milliseconds, and the mark that the cycle time was exceeded in this cycle
 pub record CycleTime : Type 0 where
+  -- the milliseconds of this cycle
   pub counter : ℕ
+  -- the cycle time was exceeded in this cycle
   pub exceeded : Bool
 
 -- the loaded OBs; for each OB number whether it is disabled; the pending requests by rank; what counts
 -- down; the clock of TIME_TCK in milliseconds; and the cycle time
 pub record Scheduler : Type 0 where
+  -- the organization blocks that are loaded
   pub loaded : List ℕ
+  -- which are disabled (SFC 39, DIS_IRT), by number
   pub disabled : List Bool
+  -- the pending requests, by rank
   pub pending : List Request
+  -- the delays and periods that count down
   pub countdowns : Countdowns
+  -- the clock of SFC 64, TIME_TCK, in milliseconds
   pub clock : ℕ
+  -- the cycle time
   pub cycle : CycleTime
 
 -- none of the delays of OB 20 to 23 is started

@@ -14,7 +14,9 @@ use Rattle.ob_sched.specs.declared.start_infos.StartEvent.TheVariants.{Missed, Q
 
 -- the scheduler, and what passed so far: milliseconds, stop cause, the last 100 records
 pub record TickState : Type 0 where
+  -- the scheduler
   pub sched : Scheduler
+  -- what passed so far: milliseconds, stop cause, records of diagnostics
   pub passed : TickResult
 
 -- one more record, a code and its detail; of more than 100 the oldest goes

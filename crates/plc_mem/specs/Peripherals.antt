@@ -23,20 +23,26 @@ outputs_cleared m = record m { peripheral_outputs = clear_peripheral }
 
 -- The same, said of bits: each peripheral output is 0, and every other bit is as before.
 pub record AreOutputsCleared (old new : Areas) : Type 0 where
+  -- each peripheral output is 0
   pub outputs :
       (byte bit : ℕ)
       → bit_at new (bit_place PeripheralOutputs byte bit)
       ≡ option_map (λ _. false) (bit_at old (bit_place PeripheralOutputs byte bit))
+  -- every other bit is as before
   pub others :
       (place : BitPlace) → place.region ≢ PeripheralOutputs → bit_at new place ≡ bit_at old place
+  -- the same data blocks are loaded
   pub blocks : SameBlocks old new
 
 -- One byte of the peripheral inputs is the value, and every other bit is as before.
 pub record IsInputSet (old new : Areas) (byte value : ℕ) : Type 0 where
+  -- each bit of the byte is that of the value
   pub input :
       (bit : ℕ) → bit < 8 → bit_at new (bit_place PeripheralInputs byte bit) ≡ Some (is_bit_one value bit)
+  -- every other bit is as before
   pub others :
       (place : BitPlace)
       → place ≢ bit_place PeripheralInputs byte place.bit
       → bit_at new place ≡ bit_at old place
+  -- the same data blocks are loaded
   pub blocks : SameBlocks old new

@@ -17,21 +17,26 @@ memory_refreshed m = record m {
 -- The same, said of bits: each bit of the inputs is that of the peripheral inputs, each of peripheral
 -- outputs 0 to 127 that of the outputs, and every other is as before.
 pub record IsRefreshed (old new : Areas) : Type 0 where
+  -- the process image of the inputs is read
   pub inputs :
       (byte bit : ℕ)
       → byte < process_image_size
       → bit_at new (bit_place Inputs byte bit) ≡ bit_at old (bit_place PeripheralInputs byte bit)
+  -- the process image of the outputs is written
   pub outputs :
       (byte bit : ℕ)
       → byte < process_image_size
       → bit_at new (bit_place PeripheralOutputs byte bit) ≡ bit_at old (bit_place Outputs byte bit)
+  -- peripheral outputs 256 to 767 are as before
   pub upper_outputs :
       (byte bit : ℕ)
       → process_image_size ≤ byte
       → bit_at new (bit_place PeripheralOutputs byte bit) ≡ bit_at old (bit_place PeripheralOutputs byte bit)
+  -- so is every other bit
   pub others :
       (place : BitPlace)
       → place.region ≢ Inputs
       → place.region ≢ PeripheralOutputs
       → bit_at new place ≡ bit_at old place
+  -- no place is added or removed
   pub places : SamePlaces old new

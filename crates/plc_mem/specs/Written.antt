@@ -49,10 +49,13 @@ bit_after_write region at bit width value place before =
 -- that has these bytes.
 pub record IsNumberWrittenIn (old new : Areas) (region : Region) (place : Place) (width : Width) (value : ℕ)
     : Type 0 where
+  -- the operand has the number
   pub number : region_number new region place width ≡ Some value
+  -- each bit is the number's, or as before
   pub bits :
       (at : BitPlace)
       → bit_at new at ≡ option_map (bit_after_write region place.byte place.bit width value at) (bit_at old at)
+  -- the same data blocks are loaded
   pub blocks : SameBlocks old new
 
 -- The same of the region that a place means when it is written.

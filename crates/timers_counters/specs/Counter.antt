@@ -4,10 +4,15 @@ use Rattle.plc_base.specs.Bcd.{unsigned_of_bcd, bcd_digits}
 
 -- the value, 0 to 999, and the edge bits of CU, CD, S and FR
 pub record Counter : Type 0 where
+  -- the count, 0 to 999
   pub value : ℕ
+  -- the RLO of the last CU
   pub up_edge : Bool
+  -- the RLO of the last CD
   pub down_edge : Bool
+  -- the RLO of the last S
   pub set_edge : Bool
+  -- the RLO of the last FR
   pub free_edge : Bool
 
 -- a counter that nothing has touched

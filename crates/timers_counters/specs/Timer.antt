@@ -10,12 +10,19 @@ use Rattle.plc_base.specs.declared.instructions.TimerKind.TheVariants.{Sp, Se, S
 -- the kind of the instruction that started it, the time base, the milliseconds left, whether it
 -- runs, its output, and the edge bits of the start instructions and of FR
 pub record Timer : Type 0 where
+  -- the kind of the instruction that started it: SP, SE, SD, SS or SF
   pub kind : TimerKind
+  -- the time base
   pub base : TimeBase
+  -- the milliseconds left
   pub left : ℕ
+  -- whether it runs
   pub running : Bool
+  -- its output, the bit that A, O and X check
   pub output : Bool
+  -- the RLO of the last start instruction
   pub start_edge : Bool
+  -- the RLO of the last FR
   pub free_edge : Bool
 
 -- a timer that nothing has touched
@@ -135,5 +142,7 @@ time_left timer = s5time_of_units timer.base (units_left timer)
 
 -- a timer that runs has time left, and the time left is an S5TIME of its base
 pub record IsTimer (timer : Timer) : Type 0 where
+  -- one that runs has time left
   pub runs : timer.running ≡ true → 0 < timer.left
+  -- the time left is at most 999 units of its base
   pub fits : timer.left ≤ 999 * unit_of timer.base
