@@ -10,8 +10,8 @@ use Rattle.plc_base.specs.Kinds.{kind_number}
 use Rattle.plc_base.specs.declared.BlockId.{BlockId}
 use Rattle.plc_base.specs.declared.blocks.BlockKind.{BlockKind}
 use Rattle.plc_base.specs.declared.blocks.BlockKind.TheVariants as kinds
-use Rattle.flat_code.specs.Faults.{fault_of, lies_within, unless}
-use Rattle.flat_code.specs.Image.{zero_u16, record_of_block, parts_of_block, code_block, code_blocks, after_block, data_number, instance_field, data_len, contents, data_rows, data_row, fields_of_data, data_block, after_data, data_blocks, records_of, body}
+use Rattle.flat_code.specs.Faults.{field_fault, is_in_range, unless}
+use Rattle.flat_code.specs.Image.{zero_u16, record_of_block, parts_of_block, code_block_layout, code_blocks, after_block, data_number_layout, instance_field, data_length_layout, contents, data_rows, data_row, fields_of_data, data_block_layout, after_data, data_blocks_layout, records_of, body}
 use Rattle.flat_code.specs.Layout.{chain, good_many, is_fine}
 use Rattle.flat_code.specs.Loading.{Verifies}
 use Rattle.flat_code.specs.Programs.{CodeBlock, DataBlock, Program}
@@ -28,28 +28,28 @@ abbrev pub Rise : (before : ℕ) → List DataBlock → Type 0
 Rise before [] = Unit {0}
 Rise before (d ∷ ds) = (before < d.number) × Rise d.number ds
 
-number_rises : (before n : ℕ) → (data_number before).good n ≡ true → before < n
-unfolding data_number fault_of
+number_rises : (before n : ℕ) → (data_number_layout before).good n ≡ true → before < n
+unfolding data_number_layout field_fault
 number_rises before n good =
-    let right = lies_within 1 2047 n && ltb before n in
+    let right = is_in_range 1 2047 n && ltb before n in
     let fine = and_parts (ltb n 65536) (is_fine (unless right 4)) good in
-    ltb-true before n (and_parts (lies_within 1 2047 n) (ltb before n) (unless_fine right 4 fine.1)).1
+    ltb-true before n (and_parts (is_in_range 1 2047 n) (ltb before n) (unless_fine right 4 fine.1)).1
 
-data_rises : (before : ℕ × ℕ) (d : DataBlock) → (data_block before).good d ≡ true → before.0 < d.number
-unfolding data_block data_rows
+data_rises : (before : ℕ × ℕ) (d : DataBlock) → (data_block_layout before).good d ≡ true → before.0 < d.number
+unfolding data_block_layout data_rows
 data_rises before d good =
-    let a = chain_parts (data_number before.0) (λ number. chain instance_field (λ instance. chain (data_len before.1) (λ n. chain zero_u16 (λ zero. contents n)))) (data_row (fields_of_data d)) good in
+    let a = chain_parts (data_number_layout before.0) (λ number. chain instance_field (λ instance. chain (data_length_layout before.1) (λ n. chain zero_u16 (λ zero. contents n)))) (data_row (fields_of_data d)) good in
     number_rises before.0 d.number a.0
 
-datas_rise : (s : ℕ × ℕ) (n : ℕ) (ds : List DataBlock) → good_many data_block after_data s n ds ≡ true → Rise s.0 ds
+datas_rise : (s : ℕ × ℕ) (n : ℕ) (ds : List DataBlock) → good_many data_block_layout after_data s n ds ≡ true → Rise s.0 ds
 datas_rise s n [] h = tt
 datas_rise s zero (d ∷ ds) h = absurd cc
 datas_rise s (suc n) (d ∷ ds) h =
-    let g = and_parts ((data_block s).good d) (good_many data_block after_data (after_data s d) n ds) h in
+    let g = and_parts ((data_block_layout s).good d) (good_many data_block_layout after_data (after_data s d) n ds) h in
     (data_rises s d g.0, datas_rise (after_data s d) n ds g.1)
 
-datas_are : (n : ℕ) (ds : List DataBlock) → (data_blocks n).good ds ≡ true → Rise 0 ds
-unfolding data_blocks
+datas_are : (n : ℕ) (ds : List DataBlock) → (data_blocks_layout n).good ds ≡ true → Rise 0 ds
+unfolding data_blocks_layout
 datas_are n ds good = datas_rise (0, 0) n ds good
 
 pub numbers_rise : (p : Program) → Verifies p → Rise 0 p.data_blocks
@@ -58,7 +58,7 @@ numbers_rise p h = datas_are _ p.data_blocks (good_records true (records_of p) h
 
 -- ---- code blocks are no data blocks
 
-kind_right : (k : BlockKind) → lies_within 1 3 (kind_number k) ≡ true → of_kind.is_data_block k ≡ false
+kind_right : (k : BlockKind) → is_in_range 1 3 (kind_number k) ≡ true → of_kind.is_data_block k ≡ false
 kind_right kinds.Ob h = refl
 kind_right kinds.Fc h = refl
 kind_right kinds.Fb h = refl
@@ -66,7 +66,7 @@ kind_right kinds.Db h = absurd cc
 kind_right kinds.Sfc h = refl
 kind_right kinds.Udt h = refl
 
-block_kind : (s : ℕ × ℕ) (b : CodeBlock) → (code_block true s).good (record_of_block b) ≡ true → is_data_block_id b.id ≡ false
+block_kind : (s : ℕ × ℕ) (b : CodeBlock) → (code_block_layout true s).good (record_of_block b) ≡ true → is_data_block_id b.id ≡ false
 block_kind s b good =
     kind_right b.id.kind (head_kind s (parts_of_block (record_of_block b)).head (good_block_of true s (record_of_block b) good).head_good)
 
@@ -74,12 +74,12 @@ abbrev AreCode : List CodeBlock → Type 0
 AreCode [] = Unit {0}
 AreCode (b ∷ bs) = (is_data_block_id b.id ≡ false) × AreCode bs
 
-blocks_kind : (s : ℕ × ℕ) (n : ℕ) (bs : List CodeBlock) → good_many (code_block true) after_block s n (map record_of_block bs) ≡ true → AreCode bs
+blocks_kind : (s : ℕ × ℕ) (n : ℕ) (bs : List CodeBlock) → good_many (code_block_layout true) after_block s n (map record_of_block bs) ≡ true → AreCode bs
 blocks_kind s n [] h = tt
 blocks_kind s zero (b ∷ bs) h = absurd cc
 blocks_kind s (suc n) (b ∷ bs) h =
     let r = record_of_block b in
-    let g = and_parts ((code_block true s).good r) (good_many (code_block true) after_block (after_block s r) n (map record_of_block bs)) h in
+    let g = and_parts ((code_block_layout true s).good r) (good_many (code_block_layout true) after_block (after_block s r) n (map record_of_block bs)) h in
     (block_kind s b g.0, blocks_kind (after_block s r) n bs g.1)
 
 codes_are : (n : ℕ) (bs : List CodeBlock) → (code_blocks true n).good (map record_of_block bs) ≡ true → AreCode bs

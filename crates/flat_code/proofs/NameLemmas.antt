@@ -17,18 +17,18 @@ use Rattle.plc_base.specs.declared.places.Place.{Place}
 use Rattle.plc_base.specs.declared.places.Width.{Width}
 use Rattle.flat_code.specs.Programs.{NameEntry}
 use Rattle.flat_code.specs.Names.{names_rise, find}
-use Rattle.flat_code.specs.Faults.{is_before, is_upper}
+use Rattle.flat_code.specs.Faults.{is_earlier_name, is_upper}
 
 -- a name stands before another where it compares as less
-pub before_is_less : (a b : List ℕ) (o : Ordering) → o ≡ slice_cmp nat_cmp a b → is_lt o ≡ is_before a b
-before_is_less = same_from_slice_cmp nat_cmp is_lt is_before refl (λ _ _. refl) (λ _ _. refl) (λ x y xs ys o h. grind (arith, nat_tests))
+pub before_is_less : (a b : List ℕ) (o : Ordering) → o ≡ slice_cmp nat_cmp a b → is_lt o ≡ is_earlier_name a b
+before_is_less = same_from_slice_cmp nat_cmp is_lt is_earlier_name refl (λ _ _. refl) (λ _ _. refl) (λ x y xs ys o h. grind (arith, nat_tests))
 
 is_less : (o : Ordering) → is_lt o ≡ true → o ≡ Less
 is_less Less h = refl
 is_less Equal h = absurd cc
 is_less Greater h = absurd cc
 
-less : (a b : List ℕ) → is_before a b ≡ true → slice_cmp nat_cmp a b ≡ Less
+less : (a b : List ℕ) → is_earlier_name a b ≡ true → slice_cmp nat_cmp a b ≡ Less
 less a b h = is_less (slice_cmp nat_cmp a b) (before_is_less a b (slice_cmp nat_cmp a b) refl ∙ h)
 
 pub upper_is_all : (name : List ℕ) → list_all (λ b. not (is_ascii_lowercase b)) name ≡ is_upper name
@@ -55,8 +55,8 @@ record Rises (before : List ℕ) (entry : NameEntry) (entries : List NameEntry) 
 
 parts_of : (before : List ℕ) (entry : NameEntry) (entries : List NameEntry) → names_rise before (entry ∷ entries) ≡ true → Rises before entry entries
 parts_of before entry entries h =
-    let p = and_parts (is_before before entry.name && is_upper entry.name) (names_rise entry.name entries) h in
-    let q = and_parts (is_before before entry.name) (is_upper entry.name) p.0 in
+    let p = and_parts (is_earlier_name before entry.name && is_upper entry.name) (names_rise entry.name entries) h in
+    let q = and_parts (is_earlier_name before entry.name) (is_upper entry.name) p.0 in
     record { after = less before entry.name q.0; upper = q.1; more = p.1 }
 
 -- every name stands after what they rise from

@@ -5,8 +5,8 @@ use Rattle.std.proofs.lemmas.List.{append-nil, take_at, drop_at, take-append-dro
 use Rattle.flat_code.specs.Ops.{OpData, is_op, op_bytes, op_at}
 use Rattle.flat_code.proofs.CodingLemmas.{IsBytes, Takes}
 use Rattle.flat_code.proofs.OpLemmas.{op_again, op_takes, long_enough}
-use Rattle.flat_code.specs.Layout.{Cursor, Read, ended, given}
-use Rattle.flat_code.specs.Codes.{cons_op, ops_next, ops_from, ends, are_ops, code_bytes, only, overlong, first_of, stop_at, read_ops, read_code, is_nowhere, code_of, size, last_place}
+use Rattle.flat_code.specs.Layout.{Cursor, ReadResult, reading_ended, reading_given}
+use Rattle.flat_code.specs.Codes.{cons_op, ops_next, ops_from, ends_by_be, are_ops, code_bytes, only, overlong, first_found, stop_at, read_ops, read_code, is_nowhere, code_layout, size, last_place}
 use Rattle.image_file.specs.Walking.{ops_behind_front, HasReadOps}
 use Rattle.image_file.proofs.LayoutLemmas.{at_place, Finds, Spells, IsLaidOut, given_finds}
 
@@ -43,11 +43,11 @@ ops_again (suc n) (op ∷ ops) good long =
 
 -- ---- the code field
 
-pub cond_finds : {A : Type 0} (b : Bool) (x y : Read A) (v : A) (end : Cursor) (P : Type 0) → Finds A (cond b x y) v end → (b ≡ true → Finds A x v end → P) → (b ≡ false → Finds A y v end → P) → P
+pub cond_finds : {A : Type 0} (b : Bool) (x y : ReadResult A) (v : A) (end : Cursor) (P : Type 0) → Finds A (cond b x y) v end → (b ≡ true → Finds A x v end → P) → (b ≡ false → Finds A y v end → P) → P
 cond_finds true x y v end P h f g = f refl h
 cond_finds false x y v end P h f g = g refl h
 
-pub ended_finds : {A : Type 0} (at code : ℕ) (v : A) (end : Cursor) → Finds A (ended at code) v end → ⊥
+pub ended_finds : {A : Type 0} (at code : ℕ) (v : A) (end : Cursor) → Finds A (reading_ended at code) v end → ⊥
 ended_finds at code v end h = let e = h.found in cc
 
 bytes_taken : (n : ℕ) (bytes : List ℕ) → IsBytes bytes → IsBytes (take n bytes)
@@ -60,11 +60,11 @@ bytes_taken n bytes h i =
 bytes_dropped : (n : ℕ) (bytes : List ℕ) → IsBytes bytes → IsBytes (drop n bytes)
 bytes_dropped n bytes h i = rw get_or-drop (h (n + i))
 
-read_finds : (o : Option ℕ) (at : ℕ) (ops : List OpData) (next : Cursor) (v : List OpData) (end : Cursor) → Finds (List OpData) (read_ops o at ops next) v end → (o ≡ None) × Finds (List OpData) (given ops next) v end
+read_finds : (o : Option ℕ) (at : ℕ) (ops : List OpData) (next : Cursor) (v : List OpData) (end : Cursor) → Finds (List OpData) (read_ops o at ops next) v end → (o ≡ None) × Finds (List OpData) (reading_given ops next) v end
 read_finds None at ops next v end h = (refl, h)
 read_finds (Some offset) at ops next v end h = absurd (ended_finds (at + offset) 5 v end h)
 
-first_some : (o : Option ℕ) (n : ℕ) → first_of o (Some n) ≡ None → ⊥
+first_some : (o : Option ℕ) (n : ℕ) → first_found o (Some n) ≡ None → ⊥
 first_some None n h = cc
 first_some (Some at) n h = cc
 
@@ -77,10 +77,10 @@ pub is_none : (o : Option ℕ) → is_nowhere o ≡ true → o ≡ None
 is_none None h = refl
 is_none (Some at) h = absurd cc
 
-code_takes : (with_code_faults : Bool) (n : ℕ) (cur : Cursor) (ops : List OpData) (end : Cursor) → IsBytes cur.rest → Finds (List OpData) (read_code with_code_faults n cur) ops end → Spells (List OpData) (code_of with_code_faults n) cur ops end
-unfolding code_of
+code_takes : (with_code_faults : Bool) (n : ℕ) (cur : Cursor) (ops : List OpData) (end : Cursor) → IsBytes cur.rest → Finds (List OpData) (read_code with_code_faults n cur) ops end → Spells (List OpData) (code_layout with_code_faults n) cur ops end
+unfolding code_layout
 code_takes with_code_faults n cur ops end are h =
-    cond_finds (ltb (length cur.rest) n) (ended cur.at 3) _ ops end _ h (λ _ k. absurd (ended_finds cur.at 3 ops end k)) (λ long h.
+    cond_finds (ltb (length cur.rest) n) (reading_ended cur.at 3) _ ops end _ h (λ _ k. absurd (ended_finds cur.at 3 ops end k)) (λ long h.
     let r = ops_from n (take n cur.rest) in
     let next : Cursor = record { at = cur.at + n; rest = drop n cur.rest } in
     let f = read_finds (stop_at with_code_faults r.0 r.1) cur.at r.0 next ops end h in
@@ -92,9 +92,9 @@ code_takes with_code_faults n cur ops end are h =
     let size : length (code_bytes r.0) ≡ n = ap length (sym text) ∙ omega (arith, length-take n cur.rest) in
     let whole : cur.rest ≡ code_bytes r.0 ++ drop n cur.rest = sym (take-append-drop n cur.rest) ∙ ap (λ (z : List ℕ). z ++ drop n cur.rest) text in
     let fine : is_nowhere (stop_at with_code_faults r.0 []) ≡ true = ap (λ (z : List ℕ). is_nowhere (stop_at with_code_faults r.0 z)) (sym nothing) ∙ ap is_nowhere f.0 in
-    let here : Spells (List OpData) (code_of with_code_faults n) cur r.0 next =
+    let here : Spells (List OpData) (code_layout with_code_faults n) cur r.0 next =
     record { text = record { parts = whole; rest_fits = bytes_dropped n cur.rest are }; good = and_from (are_ops r.0 && is_nowhere (stop_at with_code_faults r.0 [])) _ (and_from (are_ops r.0) _ t.1 fine) (eq-eqb _ _ size) } in
-    subst (λ (z : List OpData). Spells (List OpData) (code_of with_code_faults n) cur z end) made.0 (subst (λ (z : Cursor). Spells (List OpData) (code_of with_code_faults n) cur r.0 z) made.1 here))
+    subst (λ (z : List OpData). Spells (List OpData) (code_layout with_code_faults n) cur z end) made.0 (subst (λ (z : Cursor). Spells (List OpData) (code_layout with_code_faults n) cur r.0 z) made.1 here))
 
 code_again : (with_code_faults : Bool) (n : ℕ) (ops : List OpData) (at : ℕ) (rest : List ℕ) → (are_ops ops && is_nowhere (stop_at with_code_faults ops []) && eqb (length (code_bytes ops)) n) ≡ true → Finds (List OpData) (read_code with_code_faults n (at_place at (code_bytes ops ++ rest))) ops (at_place (at + length (code_bytes ops)) rest)
 code_again with_code_faults n ops at rest good =
@@ -106,12 +106,12 @@ code_again with_code_faults n ops at rest good =
     let read : ops_from n (take n bytes) ≡ (ops, []) = ap (ops_from n) (take_at (code_bytes ops) rest n size) ∙ ops_again n ops f.0 (omega (arith, size)) in
     let left : drop n bytes ≡ rest = drop_at (code_bytes ops) rest n size in
     let none : stop_at with_code_faults ops [] ≡ None = is_none (stop_at with_code_faults ops []) f.1 in
-    let shape : read_code with_code_faults n (at_place at bytes) ≡ given ops (at_place (at + n) rest) = rw (long, read, left, none) refl in
-    subst (λ (z : Read (List OpData)). Finds (List OpData) z ops (at_place (at + length (code_bytes ops)) rest)) (sym shape)
+    let shape : read_code with_code_faults n (at_place at bytes) ≡ reading_given ops (at_place (at + n) rest) = rw (long, read, left, none) refl in
+    subst (λ (z : ReadResult (List OpData)). Finds (List OpData) z ops (at_place (at + length (code_bytes ops)) rest)) (sym shape)
     (record { found = ap (λ (k : ℕ). Some (ops, at_place (at + k) rest)) (sym size); clean = refl })
 
-pub code_laid : (with_code_faults : Bool) (n : ℕ) → IsLaidOut (List OpData) (code_of with_code_faults n)
-unfolding code_of
+pub code_laid : (with_code_faults : Bool) (n : ℕ) → IsLaidOut (List OpData) (code_layout with_code_faults n)
+unfolding code_layout
 code_laid with_code_faults n = record { again = code_again with_code_faults n; takes = code_takes with_code_faults n }
 
 -- fuel that is enough is as good as any
@@ -172,7 +172,7 @@ last_of from [] op = omega arith
 last_of from (a ∷ []) op = omega (arith, length-append (op_bytes a) [])
 last_of from (a ∷ b ∷ front) op = omega (arith, last_of (from + length (op_bytes a)) (b ∷ front) op, length-append (op_bytes a) (code_bytes (b ∷ front)))
 
-pub ends_at : (front : List OpData) (op : OpData) → ends (front ++ op ∷ []) ≡ (eqb op.code 0x7B && op.last)
+pub ends_at : (front : List OpData) (op : OpData) → ends_by_be (front ++ op ∷ []) ≡ (eqb op.code 0x7B && op.last)
 ends_at [] op = refl
 ends_at (a ∷ []) op = refl
 ends_at (a ∷ b ∷ front) op = ends_at (b ∷ front) op
@@ -217,8 +217,8 @@ read_goes code ops at next last count after ended end op are found lt within not
     }
 
 stop_overlong : (ops : List OpData) (left : List ℕ) (at : ℕ) → overlong 0 0 ops ≡ Some at → stop_at true ops left ≡ Some at
-stop_overlong ops [] at e = ap (λ (o : Option ℕ). first_of o (cond (ends ops) None (Some (last_place 0 ops)))) e
-stop_overlong ops (b ∷ left) at e = ap (λ (o : Option ℕ). first_of o (Some (length (code_bytes ops)))) e
+stop_overlong ops [] at e = ap (λ (o : Option ℕ). first_found o (cond (ends_by_be ops) None (Some (last_place 0 ops)))) e
+stop_overlong ops (b ∷ left) at e = ap (λ (o : Option ℕ). first_found o (Some (length (code_bytes ops)))) e
 
 -- the 65th op of a statement
 pub read_65th : (code : List ℕ) (ops : List OpData) (at next last count : ℕ) (ended : Bool) (op : OpData) → IsBytes code → op_at (drop at code) ≡ Some (op, drop next code) → at < next → next ≤ length code
@@ -230,7 +230,7 @@ read_65th code ops at next last count ended op are found lt within is64 h =
 
 left_stop : (ops : List OpData) (left : List ℕ) (at size : ℕ) → overlong 0 0 ops ≡ None → length (code_bytes ops) ≡ at → 0 < length left → stop_at true ops left ≡ Some at
 left_stop ops [] at size e f lt = absurd (omega (arith, lt))
-left_stop ops (b ∷ left) at size e f lt = ap (λ (o : Option ℕ). first_of o (Some (length (code_bytes ops)))) e ∙ ap (λ (n : ℕ). Some n) f
+left_stop ops (b ∷ left) at size e f lt = ap (λ (o : Option ℕ). first_found o (Some (length (code_bytes ops)))) e ∙ ap (λ (n : ℕ). Some n) f
 
 -- what the code has where no op begins: the ops found, and what is left
 record Ended (code : List ℕ) (ops : List OpData) (at : ℕ) : Type 0 where
@@ -264,7 +264,7 @@ whole_stop : (code : List ℕ) (ops : List OpData) (at last count : ℕ) (ended 
 whole_stop code ops at last count ended none le h =
     let e = read_ended code ops at last count ended none h in
     stop_for code ops at e ∙ ap (stop_at true ops) (none_left code at le)
-    ∙ ap (λ (o : Option ℕ). first_of o (cond (ends ops) None (Some (last_place 0 ops)))) e.few
+    ∙ ap (λ (o : Option ℕ). first_found o (cond (ends_by_be ops) None (Some (last_place 0 ops)))) e.few
     ∙ rw (← h.ended, ← h.last) refl
 
 -- code whose last op isn't BE with the end mark

@@ -10,9 +10,9 @@ use Rattle.flat_code.specs.declared.stamps.Stamp.{Stamp}
 use Rattle.flat_code.specs.Records.{BlockRecord, NameRecord}
 use Rattle.flat_code.specs.declared.programs.DataBlock.{DataBlock as Block}
 use Rattle.flat_code.specs.Layout.{Note, Faulty, Whole, AllBlocks, Cursor, faults_in}
-use Rattle.flat_code.specs.Image.{program_of, read_image, IsProgram, record_of_block, block_of_record, entry_of_name}
-use Rattle.flat_code.specs.Blocks.{Signature, signature_of, Around, block_faults}
-use Rattle.flat_code.specs.Loading.{around, op_faults_of_blocks, lens_of, later, wholes, all_blocks, blocks_of, faults_of, Gives, Verifies}
+use Rattle.flat_code.specs.Image.{program_of_records, read_image, IsProgram, record_of_block, block_of_record, entry_of_name}
+use Rattle.flat_code.specs.Blocks.{BlockSignature, signature_of, Around, block_faults}
+use Rattle.flat_code.specs.Loading.{around_block, op_faults_of_blocks, lens_of, later, wholes, all_blocks, blocks_of, faults_of, Gives, Verifies}
 use Rattle.image_file.specs.declared.faults.LoadFault.{LoadFault}
 use Rattle.image_file.specs.declared.records.Started.{Started}
 use Rattle.image_file.specs.Least.{is_fault_less, fault_of_pair, with_faults}
@@ -32,15 +32,15 @@ use Rattle.image_file.proofs.WholeLemmas.{image_noted, gives_image}
 abbrev Lens : Type 0
 Lens = Option (List (ℕ × ℕ))
 
-abbrev pub around_by : Lens → List Signature → BlockRecord → Around
+abbrev pub around_by : Lens → List BlockSignature → BlockRecord → Around
 around_by lens signatures b = record { kind = b.kind; local_len = b.local_len; params = b.params; blocks = signatures; data_lens = lens }
 
-pub checked_next : (lens : Lens) (signatures : List Signature) (all : List BlockRecord) (bs : List Started) (i : ℕ) (s : Started) (least mid : Option LoadFault) → i < length bs → s ≡ get_or bs i s → signatures ≡ map signature_of all
+pub checked_next : (lens : Lens) (signatures : List BlockSignature) (all : List BlockRecord) (bs : List Started) (i : ℕ) (s : Started) (least mid : Option LoadFault) → i < length bs → s ≡ get_or bs i s → signatures ≡ map signature_of all
     → mid ≡ with_faults least (block_faults (around_by lens signatures s.block) s.start s.block.code) → with_faults mid (op_faults_of_blocks lens all (map started_block (drop (i + 1) bs))) ≡ with_faults least (op_faults_of_blocks lens all (map started_block (drop i bs)))
 checked_next lens signatures all bs i s least mid lt is known m =
-    let here : mid ≡ with_faults least (block_faults (around lens all s.block) s.start s.block.code) = m ∙ ap (λ (z : List Signature). with_faults least (block_faults (around_by lens z s.block) s.start s.block.code)) known in
+    let here : mid ≡ with_faults least (block_faults (around_block lens all s.block) s.start s.block.code) = m ∙ ap (λ (z : List BlockSignature). with_faults least (block_faults (around_by lens z s.block) s.start s.block.code)) known in
     ap (λ (z : Option LoadFault). with_faults z (op_faults_of_blocks lens all (map started_block (drop (i + 1) bs)))) here
-    ∙ sym (with_more least (block_faults (around lens all s.block) s.start s.block.code) (op_faults_of_blocks lens all (map started_block (drop (i + 1) bs))))
+    ∙ sym (with_more least (block_faults (around_block lens all s.block) s.start s.block.code) (op_faults_of_blocks lens all (map started_block (drop (i + 1) bs))))
     ∙ sym (ap (λ (z : List Started). with_faults least (op_faults_of_blocks lens all (map started_block z))) (drop_next bs i s lt is))
 
 pub checked_done : (lens : Lens) (all : List BlockRecord) (bs : List Started) (i : ℕ) (least : Option LoadFault) → length bs ≤ i → least ≡ with_faults least (op_faults_of_blocks lens all (map started_block (drop i bs)))
@@ -97,13 +97,13 @@ stops_found (Some x) log all e = absurd cc
 kept_of : (found : Option (Stamp × List NameRecord)) (r : Reader) (text : List ℕ) → SeesFound found r (run_of_read (read_image text) empty_log) → Kept text (log_of r)
 unfolding run_of_read
 kept_of None r text h = kept_by text (log_of r) (stops_found (read_image text).found (log_of r) (log_after empty_log (read_image text).notes) h).1
-kept_of (Some found) r text h = kept_by text (log_of r) (goes_found (read_image text).found (found.0, program_of h.0) h.1 (log_of r) (log_after empty_log (read_image text).notes) h.2).1
+kept_of (Some found) r text h = kept_by text (log_of r) (goes_found (read_image text).found (found.0, program_of_records h.0) h.1 (log_of r) (log_after empty_log (read_image text).notes) h.2).1
 
 pub found_of : (found : Option (Stamp × List NameRecord)) (r : Reader) (text : List ℕ) → SeesFound found r (run_of_read (read_image text) empty_log) → HasFound text (map started_block r.blocks.items) (option_map (λ v. v.items) r.datas) found
 unfolding run_of_read
 found_of None r text h = (stops_found (read_image text).found (log_of r) (log_after empty_log (read_image text).notes) h).0
 found_of (Some found) r text h =
-    let g = goes_found (read_image text).found (found.0, program_of h.0) h.1 (log_of r) (log_after empty_log (read_image text).notes) h.2 in
+    let g = goes_found (read_image text).found (found.0, program_of_records h.0) h.1 (log_of r) (log_after empty_log (read_image text).notes) h.2 in
     let k = kept_by text (log_of r) g.1 in
     (h.0, h.1, g.0, h.3, k.blocks, k.datas)
 
@@ -153,13 +153,13 @@ pub record Loads (text : List ℕ) (bs : List (ℕ × BlockRecord)) (stamp : Sta
 
 pub has_datas : (text : List ℕ) (bs : List (ℕ × BlockRecord)) (found : Stamp × List NameRecord) → IsBytes text → faults_of text ≡ [] → HasFound text bs None (Some found) → ⊥
 has_datas text bs found are none h =
-    let m = image_noted text found.0 (program_of h.0) h.1 are h.2 (fields_clean text none) in
-    let e : ◌≡◌ {A = Option (List DataBlock)} None (Some (program_of h.0).data_blocks) = h.5 ∙ m.datas in
+    let m = image_noted text found.0 (program_of_records h.0) h.1 are h.2 (fields_clean text none) in
+    let e : ◌≡◌ {A = Option (List DataBlock)} None (Some (program_of_records h.0).data_blocks) = h.5 ∙ m.datas in
     cc
 
 pub loads : (text : List ℕ) (bs : List (ℕ × BlockRecord)) (ds : List DataBlock) (stamp : Stamp) (ns : List NameRecord) → IsBytes text → faults_of text ≡ [] → HasFound text bs (Some ds) (Some (stamp, ns)) → Loads text bs stamp (program_from bs ds ns)
 loads text bs ds stamp ns are none h =
-    let p = program_of h.0 in
+    let p = program_of_records h.0 in
     let gives : Gives text stamp p = record { end = h.1; found = h.2; clean = none } in
     let is = gives_image text stamp p are gives in
     let m = image_noted text stamp p h.1 are h.2 (fields_clean text none) in

@@ -1,8 +1,8 @@
 -- One pass over a chain of layouts is a pass over each.
 use Rattle.std.proofs.Common.{◌≡◌, ℕ, suc, ◌+◌, ◌-◌, ◌<◌, ◌≤◌, List, [], ◌∷◌, ◌++◌, map, Option, Some, None, Err, refl, sym, ap, ◌∙◌, append_assoc, arith, true}
 use Rattle.std.proofs.lemmas.List.{append-nil, map-append}
-use Rattle.flat_code.specs.Image.{code_block_at, plain_block, code_block, whole_at, after_block}
-use Rattle.flat_code.specs.Layout.{Note, Faulty, Whole, AllBlocks, Cursor, Read, Layout, ended, given, go_on, bind, chain, checked, located, seen_as, remembered, noted, read_many, many, faults_in}
+use Rattle.flat_code.specs.Image.{code_block_at, plain_block, code_block_layout, whole_note, after_block}
+use Rattle.flat_code.specs.Layout.{Note, Faulty, Whole, AllBlocks, Cursor, ReadResult, Layout, reading_ended, reading_given, go_on, bind, chain, checked_layout, located_layout, seen_as, noted_layout, fault_note, read_many, many, faults_in}
 use Rattle.flat_code.specs.Programs.{DataBlock}
 use Rattle.flat_code.specs.Records.{BlockRecord}
 use Rattle.image_file.specs.declared.faults.LoadFault.{LoadFault}
@@ -39,10 +39,10 @@ unfolding log_after
 log_more log a b =
     logs (ap (with_faults log.least) (faults-append a b) ∙ with_more log.least (faults_in a) (faults_in b)) (wholes_more log.blocks a b) (all_more log.datas a b)
 
-ran_of : {A : Type 0} → Read A → Log → Ran A
+ran_of : {A : Type 0} → ReadResult A → Log → Ran A
 ran_of r least = run_result r.found (log_after least r.notes)
 
-go_runs : {A B : Type 0} (notes : List Note) (o : Option (A × Cursor)) (f : A → Cursor → Read B) (g : A → Cursor → Log → Ran B) (least : Log)
+go_runs : {A B : Type 0} (notes : List Note) (o : Option (A × Cursor)) (f : A → Cursor → ReadResult B) (g : A → Cursor → Log → Ran B) (least : Log)
     → ((x : A) (cur : Cursor) (mid : Log) → ran_of (f x cur) mid ≡ g x cur mid)
     → ran_of (go_on notes o f) least ≡ then_run (run_result o (log_after least notes)) g
 unfolding ran_of
@@ -55,15 +55,15 @@ pub run_chain : {A B : Type 0} (l : Layout A) (m : A → Layout B) (cur : Cursor
     → run_layout (chain l m) cur least ≡ then_run (run_layout l cur least) (λ x next mid. then_run (run_layout (m x) next mid) (λ y end last. Goes (x, y) end last))
 unfolding run_layout ran_of log_after with_faults
 run_chain {A = A} {B = B} l m cur least =
-    go_runs (l.read cur).notes (l.read cur).found (λ x next. bind ((m x).read next) (λ y end. given (x, y) end)) (λ x next mid. then_run (run_layout (m x) next mid) (λ y end last. Goes (x, y) end last)) least
-    (λ x next mid. go_runs ((m x).read next).notes ((m x).read next).found (λ y end. given (x, y) end) (λ y end last. Goes (x, y) end last) mid (λ y end last. refl))
+    go_runs (l.read cur).notes (l.read cur).found (λ x next. bind ((m x).read next) (λ y end. reading_given (x, y) end)) (λ x next mid. then_run (run_layout (m x) next mid) (λ y end last. Goes (x, y) end last)) least
+    (λ x next mid. go_runs ((m x).read next).notes ((m x).read next).found (λ y end. reading_given (x, y) end) (λ y end last. Goes (x, y) end last) mid (λ y end last. refl))
 
 pub run_more : {S A : Type 0} (l : S → Layout A) (next : S → A → S) (s : S) (n : ℕ) (cur : Cursor) (least : Log)
     → run_layout (many l next s (suc n)) cur least ≡ then_run (run_layout (l s) cur least) (λ x at mid. then_run (run_layout (many l next (next s x) n) at mid) (λ xs end last. Goes (x ∷ xs) end last))
 unfolding run_layout ran_of log_after with_faults
 run_more {S = S} {A = A} l next s n cur least =
-    go_runs ((l s).read cur).notes ((l s).read cur).found (λ x after. bind (read_many l next (next s x) n after) (λ xs end. given (x ∷ xs) end)) (λ x at mid. then_run (run_layout (many l next (next s x) n) at mid) (λ xs end last. Goes (x ∷ xs) end last)) least
-    (λ x after mid. go_runs (read_many l next (next s x) n after).notes (read_many l next (next s x) n after).found (λ xs end. given (x ∷ xs) end) (λ xs end last. Goes (x ∷ xs) end last) mid (λ xs end last. refl))
+    go_runs ((l s).read cur).notes ((l s).read cur).found (λ x after. bind (read_many l next (next s x) n after) (λ xs end. reading_given (x ∷ xs) end)) (λ x at mid. then_run (run_layout (many l next (next s x) n) at mid) (λ xs end last. Goes (x ∷ xs) end last)) least
+    (λ x after mid. go_runs (read_many l next (next s x) n after).notes (read_many l next (next s x) n after).found (λ xs end. reading_given (x ∷ xs) end) (λ xs end last. Goes (x ∷ xs) end last) mid (λ xs end last. refl))
 
 -- a step of a loop over many
 fronts : {A : Type 0} (xs : List A) (x : A) (r : Ran (List A)) → with_front xs (then_run r (λ ys end last. Goes (x ∷ ys) end last)) ≡ with_front (xs ++ x ∷ []) r
@@ -100,35 +100,35 @@ more_done {S = S} {A = A} l next s count i cur least xs all le so_far =
 pub run_seen : {A B : Type 0} (to : A → B) (from : B → A) (l : Layout A) (cur : Cursor) (log : Log)
     → run_layout (seen_as to from l) cur log ≡ then_run (run_layout l cur log) (λ x end mid. Goes (to x) end mid)
 unfolding run_layout ran_of log_after with_faults
-run_seen {A = A} {B = B} to from l cur log = go_runs (l.read cur).notes (l.read cur).found (λ x end. given (to x) end) (λ x end mid. Goes (to x) end mid) log (λ x end mid. refl)
+run_seen {A = A} {B = B} to from l cur log = go_runs (l.read cur).notes (l.read cur).found (λ x end. reading_given (to x) end) (λ x end mid. Goes (to x) end mid) log (λ x end mid. refl)
 
 pub run_remembered : {A : Type 0} (note : A → Note) (l : Layout A) (cur : Cursor) (log : Log)
-    → run_layout (remembered note l) cur log ≡ then_run (run_layout l cur log) (λ x end mid. Goes x end (log_after mid (note x ∷ [])))
+    → run_layout (noted_layout note l) cur log ≡ then_run (run_layout l cur log) (λ x end mid. Goes x end (log_after mid (note x ∷ [])))
 unfolding run_layout ran_of
 run_remembered {A = A} note l cur log = go_runs (l.read cur).notes (l.read cur).found (λ x end. record { notes = note x ∷ []; found = Some (x, end) }) (λ x end mid. Goes x end (log_after mid (note x ∷ []))) log (λ x end mid. refl)
 
 pub run_checked : {A : Type 0} (at : ℕ) (fault : Option ℕ) (l : Layout A) (cur : Cursor) (log : Log)
-    → run_layout (checked at fault l) cur log ≡ run_layout l cur (log_after log (noted at fault))
+    → run_layout (checked_layout at fault l) cur log ≡ run_layout l cur (log_after log (fault_note at fault))
 unfolding run_layout
-run_checked {A = A} at fault l cur log = ap (λ (z : Log). run_result (l.read cur).found z) (log_more log (noted at fault) (l.read cur).notes)
+run_checked {A = A} at fault l cur log = ap (λ (z : Log). run_result (l.read cur).found z) (log_more log (fault_note at fault) (l.read cur).notes)
 
-pub run_located : {A : Type 0} (l : ℕ → Layout A) (cur : Cursor) (log : Log) → run_layout (located l) cur log ≡ run_layout (l cur.at) cur log
+pub run_located : {A : Type 0} (l : ℕ → Layout A) (cur : Cursor) (log : Log) → run_layout (located_layout l) cur log ≡ run_layout (l cur.at) cur log
 unfolding run_layout
 run_located {A = A} l cur log = refl
 
 pub block_kept : (before : ℕ × ℕ) (cur : Cursor) (log : Log)
-    → run_layout (code_block true before) cur log ≡ then_run (run_layout (plain_block true before cur.at) cur log) (λ x end mid. Goes x end (log_after mid (whole_at cur.at x ∷ [])))
-unfolding code_block
-block_kept before cur log = run_located (code_block_at true before) cur log ∙ run_remembered (whole_at cur.at) (plain_block true before cur.at) cur log
+    → run_layout (code_block_layout true before) cur log ≡ then_run (run_layout (plain_block true before cur.at) cur log) (λ x end mid. Goes x end (log_after mid (whole_note cur.at x ∷ [])))
+unfolding code_block_layout
+block_kept before cur log = run_located (code_block_at true before) cur log ∙ run_remembered (whole_note cur.at) (plain_block true before cur.at) cur log
 
 -- a block that couldn't be read
-pub block_stops : {X : Type 0} (view : X → BlockRecord) (e : Stop) (r : Reader) (before : ℕ × ℕ) (cur : Cursor) (log : Log) → Sees view (Err e) r (run_layout (plain_block true before cur.at) cur log) → SeesBlock (Err e) r (run_layout (code_block true before) cur log)
-block_stops view stop.AtFault r before cur log h = ap (λ (z : Ran BlockRecord). then_run z (λ x end mid. Goes x end (log_after mid (whole_at cur.at x ∷ [])))) h ∙ sym (block_kept before cur log)
+pub block_stops : {X : Type 0} (view : X → BlockRecord) (e : Stop) (r : Reader) (before : ℕ × ℕ) (cur : Cursor) (log : Log) → Sees view (Err e) r (run_layout (plain_block true before cur.at) cur log) → SeesBlock (Err e) r (run_layout (code_block_layout true before) cur log)
+block_stops view stop.AtFault r before cur log h = ap (λ (z : Ran BlockRecord). then_run z (λ x end mid. Goes x end (log_after mid (whole_note cur.at x ∷ [])))) h ∙ sym (block_kept before cur log)
 block_stops view stop.NoMemory r before cur log h = tt
 
-pub block_goes : (b : BlockRecord) (end : Cursor) (mid after : Log) (before : ℕ × ℕ) (cur : Cursor) (log : Log) → Goes b end mid ≡ run_layout (plain_block true before cur.at) cur log → after ≡ log_after mid (whole_at cur.at b ∷ [])
-    → Goes b end after ≡ run_layout (code_block true before) cur log
-block_goes b end mid after before cur log h is = ap (λ (z : Log). Goes b end z) is ∙ ap (λ (z : Ran BlockRecord). then_run z (λ x end mid. Goes x end (log_after mid (whole_at cur.at x ∷ [])))) h ∙ sym (block_kept before cur log)
+pub block_goes : (b : BlockRecord) (end : Cursor) (mid after : Log) (before : ℕ × ℕ) (cur : Cursor) (log : Log) → Goes b end mid ≡ run_layout (plain_block true before cur.at) cur log → after ≡ log_after mid (whole_note cur.at b ∷ [])
+    → Goes b end after ≡ run_layout (code_block_layout true before) cur log
+block_goes b end mid after before cur log h is = ap (λ (z : Log). Goes b end z) is ∙ ap (λ (z : Ran BlockRecord). then_run z (λ x end mid. Goes x end (log_after mid (whole_note cur.at x ∷ [])))) h ∙ sym (block_kept before cur log)
 
 -- what is kept with one block more
 pub kept_one : (least : Option LoadFault) (old new : List Started) (datas : Option (List DataBlock)) (start : ℕ) (block : BlockRecord) (s : Started) → new ≡ old ++ s ∷ [] → started_block s ≡ (start, block)
@@ -153,8 +153,8 @@ sees_stops view views stop.AtFault r l next s count i cur log xs all lt h so_far
 sees_stops view views stop.NoMemory r l next s count i cur log xs all lt h so_far = tt
 
 pub blocks_stop : (e : Stop) (r : Reader) (s : ℕ × ℕ) (count i : ℕ) (cur : Cursor) (log : Log) (xs : List BlockRecord) (all : Ran (List BlockRecord))
-    → i < count → SeesBlock (Err e) r (run_layout (code_block true s) cur log) → with_front xs (run_layout (many (code_block true) after_block s (count - i)) cur log) ≡ all → SeesBlocks (Err e) r all
-blocks_stop stop.AtFault r s count i cur log xs all lt h so_far = more_stops (code_block true) after_block s count i cur log (log_of r) xs all lt h so_far
+    → i < count → SeesBlock (Err e) r (run_layout (code_block_layout true s) cur log) → with_front xs (run_layout (many (code_block_layout true) after_block s (count - i)) cur log) ≡ all → SeesBlocks (Err e) r all
+blocks_stop stop.AtFault r s count i cur log xs all lt h so_far = more_stops (code_block_layout true) after_block s count i cur log (log_of r) xs all lt h so_far
 blocks_stop stop.NoMemory r s count i cur log xs all lt h so_far = tt
 
 -- ---- what a chain comes to, by what its parts come to
@@ -177,7 +177,7 @@ seen_goes {A = A} {B = B} to from l x end cur mid log p = sym (run_seen to from 
 pub seen_ends : {A B : Type 0} (to : A → B) (from : B → A) (l : Layout A) (cur : Cursor) (mid log : Log) → ◌≡◌ {A = Ran A} (Stops mid) (run_layout l cur log) → ◌≡◌ {A = Ran B} (Stops mid) (run_layout (seen_as to from l) cur log)
 seen_ends {A = A} {B = B} to from l cur mid log p = sym (run_seen to from l cur log ∙ sym (ap (λ (r : Ran A). then_run r (λ x end mid. Goes (to x) end mid)) p))
 
-pub go_read : {A B : Type 0} (r : Read A) (f : A → Cursor → Read B) (log : Log) → run_of_read (bind r f) log ≡ then_run (run_of_read r log) (λ x cur mid. run_of_read (f x cur) mid)
+pub go_read : {A B : Type 0} (r : ReadResult A) (f : A → Cursor → ReadResult B) (log : Log) → run_of_read (bind r f) log ≡ then_run (run_of_read r log) (λ x cur mid. run_of_read (f x cur) mid)
 unfolding run_of_read ran_of
 go_read {A = A} {B = B} r f log = go_runs r.notes r.found f (λ x cur mid. run_of_read (f x cur) mid) log (λ x cur mid. refl)
 
@@ -185,11 +185,11 @@ pub run_is_read : {A : Type 0} (l : Layout A) (cur : Cursor) (log : Log) → run
 unfolding run_layout run_of_read
 run_is_read l cur log = refl
 
-pub ended_read : {A : Type 0} (at code : ℕ) (log : Log) → ◌≡◌ {A = Ran A} (run_of_read (ended at code) log) (Stops (log_after log (Faulty at code ∷ [])))
+pub ended_read : {A : Type 0} (at code : ℕ) (log : Log) → ◌≡◌ {A = Ran A} (run_of_read (reading_ended at code) log) (Stops (log_after log (Faulty at code ∷ [])))
 unfolding run_of_read
 ended_read {A = A} at code log = refl
 
 -- notes in front of a reading
-pub noted_read : {A : Type 0} (notes : List Note) (r : Read A) (log : Log) → run_of_read {A = A} (record { notes = notes ++ r.notes; found = r.found }) log ≡ run_of_read r (log_after log notes)
+pub noted_read : {A : Type 0} (notes : List Note) (r : ReadResult A) (log : Log) → run_of_read {A = A} (record { notes = notes ++ r.notes; found = r.found }) log ≡ run_of_read r (log_after log notes)
 unfolding run_of_read
 noted_read {A = A} notes r log = ap (λ (z : Log). run_result r.found z) (log_more log notes r.notes)

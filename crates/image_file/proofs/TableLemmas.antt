@@ -8,8 +8,8 @@ use Rattle.plc_base.proofs.ListLemmas.{get_past}
 use Rattle.flat_code.specs.Ops.{OpData}
 use Rattle.flat_code.specs.Codes.{size, code_bytes}
 use Rattle.flat_code.specs.declared.image_fields.OpenBracket.{OpenBracket}
-use Rattle.flat_code.specs.Blocks.{Signature, block_with, data_len}
-use Rattle.flat_code.specs.Placed.{Spot, spots, spots_from, spot_at, few, opened, zones_behind}
+use Rattle.flat_code.specs.Blocks.{BlockSignature, block_with, length_of_data}
+use Rattle.flat_code.specs.Placed.{StatementSpot, spots, spots_from, spot_at, few, brackets_after, zones_behind_op}
 use Rattle.image_file.specs.Tables.{start_index, no_index, table_entry, IsTableOf, FindsStatements, FindsLens, call_key, signature_callee, found_callee, FindsCallees}
 use Rattle.image_file.proofs.CheckLemmas.{code_len}
 use Rattle.image_file.proofs.MarkLemmas.{two_bytes}
@@ -76,11 +76,11 @@ by_table {A = A} xs keys len table t count key within =
     by (Some place) e = ap (λ (k : ℕ). slice_get xs k) e
 
 -- a statement at its place
-spot_moved : (s : Spot) (ss : List Spot) (o : Option ℕ) → option_and_then (λ place. slice_get (s ∷ ss) place) (option_map suc o) ≡ option_and_then (λ place. slice_get ss place) o
+spot_moved : (s : StatementSpot) (ss : List StatementSpot) (o : Option ℕ) → option_and_then (λ place. slice_get (s ∷ ss) place) (option_map suc o) ≡ option_and_then (λ place. slice_get ss place) o
 spot_moved s ss None = refl
 spot_moved s ss (Some k) = refl
 
-spots_found : (ss : List Spot) (at : ℕ) → option_and_then (λ place. slice_get ss place) (start_index at (map (λ z. z.at) ss)) ≡ spot_at ss at
+spots_found : (ss : List StatementSpot) (at : ℕ) → option_and_then (λ place. slice_get ss place) (start_index at (map (λ z. z.at) ss)) ≡ spot_at ss at
 spots_found [] at = refl
 spots_found (s ∷ ss) at = by (eqb s.at at) (spots_found ss at)
   where
@@ -94,16 +94,16 @@ spots_end from begin brackets zones [] at past = refl
 spots_end from begin brackets zones (op ∷ ops) at past =
     let len = code_len op ops in
     let p = two_bytes op in
-    by begin (ne_eqb from at (λ e. omega (arith, e, p, len, past))) (spots_end (from + size op) op.last (opened from op.code brackets) (zones_behind from op.code zones) ops at (omega (arith, len, past)))
+    by begin (ne_eqb from at (λ e. omega (arith, e, p, len, past))) (spots_end (from + size op) op.last (brackets_after from op.code brackets) (zones_behind_op from op.code zones) ops at (omega (arith, len, past)))
   where
-    behind : List Spot
-    behind = spots_from (from + size op) op.last (opened from op.code brackets) (zones_behind from op.code zones) ops
+    behind : List StatementSpot
+    behind = spots_from (from + size op) op.last (brackets_after from op.code brackets) (zones_behind_op from op.code zones) ops
 
     by : (b : Bool) → eqb from at ≡ false → spot_at behind at ≡ None → spot_at (cond b (record { at = from; codes = few brackets; zones = length zones } ∷ behind) behind) at ≡ None
     by true f more = rw f more
     by false f more = more
 
-pub finds_statements : (ops : List OpData) (ss : List Spot) (keys : List ℕ) (len : ℕ) (table : List ℕ) → ss ≡ spots ops → keys ≡ map (λ z. z.at) ss → len ≡ length (code_bytes ops) → IsTableOf keys len table → FindsStatements ss table
+pub finds_statements : (ops : List OpData) (ss : List StatementSpot) (keys : List ℕ) (len : ℕ) (table : List ℕ) → ss ≡ spots ops → keys ≡ map (λ z. z.at) ss → len ≡ length (code_bytes ops) → IsTableOf keys len table → FindsStatements ss table
 finds_statements ops ss keys len table is keys_is len_is t at = by (cases_lt at len)
   where
     by : (at < len) ⊎ (len ≤ at) → option_and_then (λ place. slice_get ss place) (slice_get table at) ≡ spot_at ss at
@@ -113,19 +113,19 @@ finds_statements ops ss keys len table is keys_is len_is t at = by (cases_lt at 
         ∙ spots_found ss at
     by (inr past) =
         ap (λ (o : Option ℕ). option_and_then (λ place. slice_get ss place) o) (get_past table at (omega (arith, past, t.size)))
-        ∙ sym (ap (λ (z : List Spot). spot_at z at) is ∙ spots_end 0 true [] [] ops at (omega (arith, past, len_is)))
+        ∙ sym (ap (λ (z : List StatementSpot). spot_at z at) is ∙ spots_end 0 true [] [] ops at (omega (arith, past, len_is)))
 
 -- a length at its place
 len_moved : (d : ℕ × ℕ) (ds : List (ℕ × ℕ)) (o : Option ℕ) → option_map (λ z. z.1) (option_and_then (λ place. slice_get (d ∷ ds) place) (option_map suc o)) ≡ option_map (λ z. z.1) (option_and_then (λ place. slice_get ds place) o)
 len_moved d ds None = refl
 len_moved d ds (Some k) = refl
 
-lens_found : (ds : List (ℕ × ℕ)) (number : ℕ) → option_map (λ z. z.1) (option_and_then (λ place. slice_get ds place) (start_index number (map (λ z. z.0) ds))) ≡ data_len number ds
+lens_found : (ds : List (ℕ × ℕ)) (number : ℕ) → option_map (λ z. z.1) (option_and_then (λ place. slice_get ds place) (start_index number (map (λ z. z.0) ds))) ≡ length_of_data number ds
 lens_found [] number = refl
 lens_found (d ∷ ds) number = by (eqb d.0 number) (lens_found ds number)
   where
-    by : (b : Bool) → option_map (λ z. z.1) (option_and_then (λ place. slice_get ds place) (start_index number (map (λ z. z.0) ds))) ≡ data_len number ds
-        → option_map (λ z. z.1) (option_and_then (λ place. slice_get (d ∷ ds) place) (cond b (Some 0) (option_map suc (start_index number (map (λ z. z.0) ds))))) ≡ cond b (Some d.1) (data_len number ds)
+    by : (b : Bool) → option_map (λ z. z.1) (option_and_then (λ place. slice_get ds place) (start_index number (map (λ z. z.0) ds))) ≡ length_of_data number ds
+        → option_map (λ z. z.1) (option_and_then (λ place. slice_get (d ∷ ds) place) (cond b (Some 0) (option_map suc (start_index number (map (λ z. z.0) ds))))) ≡ cond b (Some d.1) (length_of_data number ds)
     by true more = refl
     by false more = len_moved d ds (start_index number (map (λ z. z.0) ds)) ∙ more
 
@@ -136,11 +136,11 @@ finds_lens ds keys len table keys_is room t number small =
     ∙ lens_found ds number
 
 -- a block at its place
-callee_moved : (b : Signature) (bs : List Signature) (o : Option ℕ) → option_map signature_callee (option_and_then (λ place. slice_get (b ∷ bs) place) (option_map suc o)) ≡ option_map signature_callee (option_and_then (λ place. slice_get bs place) o)
+callee_moved : (b : BlockSignature) (bs : List BlockSignature) (o : Option ℕ) → option_map signature_callee (option_and_then (λ place. slice_get (b ∷ bs) place) (option_map suc o)) ≡ option_map signature_callee (option_and_then (λ place. slice_get bs place) o)
 callee_moved b bs None = refl
 callee_moved b bs (Some k) = refl
 
-callees_found : (bs : List Signature) (kind number key : ℕ) → ((b : Signature) → eqb (call_key b) key ≡ (eqb b.kind kind && eqb b.number number)) → option_map signature_callee (option_and_then (λ place. slice_get bs place) (start_index key (map call_key bs))) ≡ block_with kind number bs
+callees_found : (bs : List BlockSignature) (kind number key : ℕ) → ((b : BlockSignature) → eqb (call_key b) key ≡ (eqb b.kind kind && eqb b.number number)) → option_map signature_callee (option_and_then (λ place. slice_get bs place) (start_index key (map call_key bs))) ≡ block_with kind number bs
 callees_found [] kind number key tell = refl
 callees_found (b ∷ bs) kind number key tell = by (eqb (call_key b) key) (tell b) (callees_found bs kind number key tell)
   where
@@ -155,7 +155,7 @@ same_tests true false f g = sym (f refl)
 same_tests false true f g = g refl
 same_tests false false f g = refl
 
-function_told : (number : ℕ) → number < 65536 → (b : Signature) → eqb (call_key b) (2 * number) ≡ (eqb b.kind 2 && eqb b.number number)
+function_told : (number : ℕ) → number < 65536 → (b : BlockSignature) → eqb (call_key b) (2 * number) ≡ (eqb b.kind 2 && eqb b.number number)
 function_told number small b = by (eqb b.kind 2) (eqb b.kind 3)
   where
     by : (f g : Bool) → eqb (cond f (2 * b.number) (cond g (2 * b.number + 1) 131072)) (2 * number) ≡ (f && eqb b.number number)
@@ -165,7 +165,7 @@ function_told number small b = by (eqb b.kind 2) (eqb b.kind 3)
     by false true = ne_eqb (2 * b.number + 1) (2 * number) (λ e. omega (arith, e))
     by false false = ne_eqb 131072 (2 * number) (λ e. omega (arith, e, small))
 
-function_block_told : (number : ℕ) → number < 65536 → (b : Signature) → eqb (call_key b) (2 * number + 1) ≡ (eqb b.kind 3 && eqb b.number number)
+function_block_told : (number : ℕ) → number < 65536 → (b : BlockSignature) → eqb (call_key b) (2 * number + 1) ≡ (eqb b.kind 3 && eqb b.number number)
 function_block_told number small b = by_kind (eqb b.kind 2) refl
   where
     by_block : (g : Bool) → eqb (cond g (2 * b.number + 1) 131072) (2 * number + 1) ≡ (g && eqb b.number number)
@@ -181,13 +181,13 @@ function_block_told number small b = by_kind (eqb b.kind 2) refl
         rw other (ne_eqb (2 * b.number) (2 * number + 1) (λ z. omega (arith, z)))
     by_kind false e = by_block (eqb b.kind 3)
 
-pub finds_callees : (bs : List Signature) (keys table : List ℕ) → keys ≡ map call_key bs → IsTableOf keys 131072 table → FindsCallees bs table
+pub finds_callees : (bs : List BlockSignature) (keys table : List ℕ) → keys ≡ map call_key bs → IsTableOf keys 131072 table → FindsCallees bs table
 finds_callees bs keys table keys_is t = record {
   functions = λ number small. found 2 number (2 * number) (omega (arith, small)) (function_told number small);
   function_blocks = λ number small. found 3 number (2 * number + 1) (omega (arith, small)) (function_block_told number small);
 }
   where
-    found : (kind number key : ℕ) → key < 131072 → ((b : Signature) → eqb (call_key b) key ≡ (eqb b.kind kind && eqb b.number number)) → found_callee bs table key ≡ block_with kind number bs
+    found : (kind number key : ℕ) → key < 131072 → ((b : BlockSignature) → eqb (call_key b) key ≡ (eqb b.kind kind && eqb b.number number)) → found_callee bs table key ≡ block_with kind number bs
     found kind number key small tell =
         ap (option_map signature_callee) (by_table bs keys 131072 table t (sym (ap length keys_is ∙ length-map bs call_key)) key small)
         ∙ ap (λ (z : List ℕ). option_map signature_callee (option_and_then (λ place. slice_get bs place) (start_index key z))) keys_is

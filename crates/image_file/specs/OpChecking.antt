@@ -4,7 +4,7 @@ use Rattle.std.specs.Option.{option_map}
 use Rattle.std.specs.Borrow.{Bor}
 use Rattle.flat_code.specs.declared.image_fields.OpenBracket.{OpenBracket}
 use Rattle.flat_code.specs.declared.image_fields.ParameterRecord.{ParameterRecord}
-use Rattle.flat_code.specs.Blocks.{Around, Callee}
+use Rattle.flat_code.specs.Blocks.{Around, CalleeSeen}
 use Rattle.flat_code.specs.Ops.{OpData}
 use Rattle.flat_code.specs.Placed.{Placed}
 use Rattle.image_file.specs.declared.surroundings.Surroundings.{Surroundings}
@@ -15,7 +15,7 @@ abbrev pub around_of : Surroundings → Around
 around_of s = record { kind = s.kind; local_len = s.local_len; params = s.params.now; blocks = s.blocks.now; data_lens = option_map (λ d. d.now) s.data_lens }
 
 -- what is called, by its kind, its instance bytes and its parameters as the code finds them
-abbrev pub callee_values : ℕ × ℕ × Bor (List ParameterRecord) → Callee
+abbrev pub callee_values : ℕ × ℕ × Bor (List ParameterRecord) → CalleeSeen
 callee_values r = (r.0, r.1, r.2.now)
 
 -- all brackets stand at most at an offset

@@ -3,11 +3,11 @@ use Rattle.std.specs.Prelude.{◌≡◌, ℕ, List, [], ◌∷◌, ◌++◌, map
 use Rattle.std.specs.Option.{option_map}
 use Rattle.std.specs.Borrow.{Bor}
 use Rattle.flat_code.specs.declared.image_fields.Field.{Field}
-use Rattle.flat_code.specs.Faults.{fault_of}
-use Rattle.flat_code.specs.Layout.{Note, Faulty, Whole, AllBlocks, Cursor, Read, Layout, noted, faults_in}
+use Rattle.flat_code.specs.Faults.{field_fault}
+use Rattle.flat_code.specs.Layout.{Note, Faulty, Whole, AllBlocks, Cursor, ReadResult, Layout, fault_note, faults_in}
 use Rattle.flat_code.specs.Records.{BlockRecord, NameRecord, Records}
 use Rattle.flat_code.specs.Programs.{DataBlock, Program}
-use Rattle.flat_code.specs.Image.{Head, Counts, Front, program_of, read_image}
+use Rattle.flat_code.specs.Image.{Head, Counts, Front, program_of_records, read_image}
 use Rattle.flat_code.specs.declared.stamps.Stamp.{Stamp}
 use Rattle.flat_code.specs.Loading.{lens_of, wholes, all_blocks, blocks_of, op_faults_of_blocks, faults_of}
 use Rattle.image_file.specs.declared.faults.LoadFault.{LoadFault}
@@ -28,7 +28,7 @@ use Rattle.image_file.specs.Typing.{program_from}
 
 -- the faults of a field that begins at an offset: one, or none
 abbrev pub field_faults : ℕ → Field → List (ℕ × ℕ)
-field_faults at field = faults_in (noted at (fault_of field))
+field_faults at field = faults_in (fault_note at (field_fault field))
 
 -- what one pass keeps: the least fault, the code blocks that were read whole, and the data blocks once all were read
 pub record Log : Type 0 where
@@ -160,12 +160,12 @@ abbrev pub found_values : FoundRead → Stamp × List NameRecord
 found_values f = (f.stamp, f.names.items)
 
 -- what reading as a whole comes to, behind a log
-unfoldable pub run_of_read : {A : Type 0} → Read A → Log → Ran A
+unfoldable pub run_of_read : {A : Type 0} → ReadResult A → Log → Ran A
 run_of_read r log = run_result r.found (log_after log r.notes)
 
 -- an image was read whole, or reading ended at a fault
 abbrev pub SeesFound : Option (Stamp × List NameRecord) → Reader → Ran (Stamp × Program) → Type 0
-SeesFound (Some found) r all = (x : Records) × (end : Cursor) × (Goes (found.0, program_of x) end (log_of r) ≡ all) × (x.names ≡ found.1)
+SeesFound (Some found) r all = (x : Records) × (end : Cursor) × (Goes (found.0, program_of_records x) end (log_of r) ≡ all) × (x.names ≡ found.1)
 SeesFound None r all = Stops (log_of r) ≡ all
 
 -- an image was read whole, and its version and profile and its names are answered, or reading ended at a
@@ -178,7 +178,7 @@ SeesImage (Err stop.NoMemory) r all = Unit {0}
 -- what was kept is what bytes hold, as far as they could be read
 abbrev pub HasFound : List ℕ → List (ℕ × BlockRecord) → Option (List DataBlock) → Option (Stamp × List NameRecord) → Type 0
 HasFound text blocks datas None = (read_image text).found ≡ None
-HasFound text blocks datas (Some found) = (x : Records) × (end : Cursor) × ((read_image text).found ≡ Some ((found.0, program_of x), end)) × (x.names ≡ found.1) × (blocks ≡ wholes (read_image text).notes) × (datas ≡ all_blocks (read_image text).notes)
+HasFound text blocks datas (Some found) = (x : Records) × (end : Cursor) × ((read_image text).found ≡ Some ((found.0, program_of_records x), end)) × (x.names ≡ found.1) × (blocks ≡ wholes (read_image text).notes) × (datas ≡ all_blocks (read_image text).notes)
 
 -- the faults of the ops of the blocks that were read, by what one pass keeps
 abbrev pub checked_faults : Log → List (ℕ × ℕ)

@@ -4,8 +4,8 @@ use Rattle.std.specs.Option.{option_map, option_and_then}
 use Rattle.plc_base.specs.Kinds.{kind_order}
 use Rattle.plc_base.specs.declared.blocks.BlockId.{BlockId}
 use Rattle.flat_code.specs.Codes.{code_bytes}
-use Rattle.flat_code.specs.Blocks.{Signature, Callee, block_with, data_len}
-use Rattle.flat_code.specs.Placed.{Spot, spot_at}
+use Rattle.flat_code.specs.Blocks.{BlockSignature, CalleeSeen, block_with, length_of_data}
+use Rattle.flat_code.specs.Placed.{StatementSpot, spot_at}
 use Rattle.flat_code.specs.Programs.{CodeBlock}
 use Rattle.image_file.specs.Readers.{block_by_id}
 
@@ -33,28 +33,28 @@ pub record IsTableOf (starts : List ℕ) (len : ℕ) (table : List ℕ) : Type 0
   pub places : (at : ℕ) → at < len → slice_index_or table at no_index ≡ table_entry (start_index at starts)
 
 -- a table finds, by offset, the statements of a block
-abbrev pub FindsStatements : List Spot → List ℕ → Type 0
+abbrev pub FindsStatements : List StatementSpot → List ℕ → Type 0
 FindsStatements spots table = (at : ℕ) → option_and_then (λ place. slice_get spots place) (slice_get table at) ≡ spot_at spots at
 
 -- a table finds, by number, the lengths of data blocks
 abbrev pub FindsLens : List (ℕ × ℕ) → List ℕ → Type 0
-FindsLens lens table = (number : ℕ) → number < 65536 → option_map (λ d. d.1) (option_and_then (λ place. slice_get lens place) (slice_get table number)) ≡ data_len number lens
+FindsLens lens table = (number : ℕ) → number < 65536 → option_map (λ d. d.1) (option_and_then (λ place. slice_get lens place) (slice_get table number)) ≡ length_of_data number lens
 
 -- the number by which a block is found that may be called: twice its own, and one more for a function
 -- block; other blocks have one past those
-abbrev pub call_key : Signature → ℕ
+abbrev pub call_key : BlockSignature → ℕ
 call_key b = if b.kind == 2 then 2 * b.number else if b.kind == 3 then 2 * b.number + 1 else 131072
 
 -- what a CALL sees of a block, without its number
-abbrev pub signature_callee : Signature → Callee
+abbrev pub signature_callee : BlockSignature → CalleeSeen
 signature_callee b = (b.kind, b.instance_len, b.params)
 
 -- the block that a table finds by a key, as a CALL sees it; none where the table has none for it
-abbrev pub found_callee : List Signature → List ℕ → ℕ → Option Callee
+abbrev pub found_callee : List BlockSignature → List ℕ → ℕ → Option CalleeSeen
 found_callee blocks table key = option_map signature_callee (option_and_then (λ place. slice_get blocks place) (slice_get table key))
 
 -- a table finds functions and function blocks by number: the first block of a kind and number
-pub record FindsCallees (blocks : List Signature) (table : List ℕ) : Type 0 where
+pub record FindsCallees (blocks : List BlockSignature) (table : List ℕ) : Type 0 where
   -- functions stand at even keys
   pub functions : (number : ℕ) → number < 65536 → found_callee blocks table (2 * number) ≡ block_with 2 number blocks
   -- function blocks at odd keys

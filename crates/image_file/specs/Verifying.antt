@@ -5,9 +5,9 @@ use Rattle.plc_base.specs.declared.blocks.BlockId.{BlockId}
 use Rattle.flat_code.specs.declared.image_fields.Field.TheVariants as field_of
 use Rattle.flat_code.specs.Codes.{code_fault, is_nowhere}
 use Rattle.flat_code.specs.Blocks.{Around, at_offset, block_faults}
-use Rattle.flat_code.specs.Faults.{fault_of}
+use Rattle.flat_code.specs.Faults.{field_fault}
 use Rattle.flat_code.specs.Image.{end_marks, record_of_block}
-use Rattle.flat_code.specs.Loading.{lens_of, around}
+use Rattle.flat_code.specs.Loading.{lens_of, around_block}
 use Rattle.flat_code.specs.Programs.{CodeBlock, DataBlock, Program}
 use Rattle.flat_code.specs.Records.{BlockRecord}
 use Rattle.image_file.specs.declared.refusing.VerifyError.{VerifyError}
@@ -19,12 +19,12 @@ use Rattle.image_file.specs.Least.{IsLeastFault}
 abbrev pub line_faults : ℕ → List ℕ → List (ℕ × ℕ)
 line_faults before [] = []
 line_faults before (line ∷ lines) =
-    at_offset 0 (fault_of (field_of.Line before line)) ++ line_faults line lines
+    at_offset 0 (field_fault (field_of.Line before line)) ++ line_faults line lines
 
 -- 9, at 0: another number of statements than end marks
 abbrev pub count_faults : BlockRecord → List (ℕ × ℕ)
 count_faults b =
-    at_offset 0 (fault_of (field_of.StatementCount (end_marks b.code) (length b.lines)))
+    at_offset 0 (field_fault (field_of.StatementCount (end_marks b.code) (length b.lines)))
 
 -- 5 alone, where the code has one; else 9, and those of the ops
 abbrev pub faults_unless : Option ℕ → Around → BlockRecord → List (ℕ × ℕ)
@@ -54,7 +54,7 @@ lens_checked p = lens_where (are_whole (map record_of_block p.code_blocks)) p.da
 abbrev pub faults_among :
     Option (List (ℕ × ℕ)) → List BlockRecord → CodeBlock → List (ℕ × ℕ)
 faults_among lens all b =
-    faults_of_block (around lens all (record_of_block b)) (record_of_block b)
+    faults_of_block (around_block lens all (record_of_block b)) (record_of_block b)
 
 -- the first block with a fault, and the least of its faults
 abbrev pub DecidesFor : BlockId → VerifyFault → List (ℕ × ℕ) → Type 0 → Type 0

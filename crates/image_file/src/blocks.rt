@@ -1,7 +1,7 @@
 //! The code blocks of an image.
 ghost use Rattle.std.specs.Prelude.{true, ◌≡◌, ◌+◌, ◌*◌, ◌<◌, ◌≤◌, ◌^◌, length, OnOk, IfOk, vec_len};
-ghost use Rattle.flat_code.specs.Codes.{code_of, code_bytes};
-ghost use Rattle.flat_code.specs.Image.{Head, head, parameter, parameters, end_marks, lines_of, line_field, line_after, code_and_lines, plain_block, code_block, code_blocks};
+ghost use Rattle.flat_code.specs.Codes.{code_layout, code_bytes};
+ghost use Rattle.flat_code.specs.Image.{Head, head_layout, parameter_layout, parameters, end_marks, lines_layout, line_field, line_after, code_and_lines, plain_block, code_block_layout, code_blocks};
 ghost use Rattle.flat_code.specs.Layout.{many, chain};
 ghost use Rattle.image_file.specs.Running.{reader_run, run_layout, reader_cursor, log_of, head_values, Sees, SeesBlock, SeesBlocks};
 
@@ -43,11 +43,11 @@ fn code_start(at: u32, block: &BlockRead) -> u32
 }
 
 impl Reader<'_> {
-    #[tactic(auto, unfolding(flat_code::specs::Image::head, flat_code::specs::Image::head_rows), using(crate::proofs::RunLemmas::run_seen, crate::proofs::RunLemmas::run_chain))]
+    #[tactic(auto, unfolding(flat_code::specs::Image::head_layout, flat_code::specs::Image::head_rows), using(crate::proofs::RunLemmas::run_seen, crate::proofs::RunLemmas::run_chain))]
     fn head(&mut self, kind_before: u8, before: u16) -> Result<HeadRead, Ended>
         requires { self.old.at + length self.old.rest.now < 2 ^ 32 }
         ensures read { reader_run head_values result self.new
-            ≡ run_layout (head (kind_before, before)) (reader_cursor self.old) (log_of self.old) }
+            ≡ run_layout (head_layout (kind_before, before)) (reader_cursor self.old) (log_of self.old) }
         ensures all { self.new.at + length self.new.rest.now
             ≡ self.old.at + length self.old.rest.now }
         ensures step { OnOk result (self.new.at ≡ self.old.at + 16) }
@@ -72,11 +72,11 @@ impl Reader<'_> {
         })
     }
 
-    #[tactic(auto, unfolding(flat_code::specs::Image::parameter, flat_code::specs::Image::parameter_rows), using(crate::proofs::RunLemmas::run_seen, crate::proofs::RunLemmas::run_chain))]
+    #[tactic(auto, unfolding(flat_code::specs::Image::parameter_layout, flat_code::specs::Image::parameter_rows), using(crate::proofs::RunLemmas::run_seen, crate::proofs::RunLemmas::run_chain))]
     fn parameter(&mut self, kind: u8, instance: u16) -> Result<ParameterRecord, Ended>
         requires { self.old.at + length self.old.rest.now < 2 ^ 32 }
         ensures read { reader_run (λ p. p) result self.new
-            ≡ run_layout (parameter kind instance) (reader_cursor self.old) (log_of self.old) }
+            ≡ run_layout (parameter_layout kind instance) (reader_cursor self.old) (log_of self.old) }
         ensures all { self.new.at + length self.new.rest.now
             ≡ self.old.at + length self.old.rest.now }
         ensures step { OnOk result (self.new.at ≡ self.old.at + 6) }
@@ -114,10 +114,10 @@ impl Reader<'_> {
     }
 
     /// The code of a block.
-    #[tactic(auto, unfolding(crate::specs::Running::run_layout, crate::specs::Running::log_after, crate::specs::Least::with_faults, flat_code::specs::Codes::code_of))]
+    #[tactic(auto, unfolding(crate::specs::Running::run_layout, crate::specs::Running::log_after, crate::specs::Least::with_faults, flat_code::specs::Codes::code_layout))]
     fn code(&mut self, alloc: Global, size: u32) -> Result<Vec<Op>, Stop>
         requires { self.old.at + length self.old.rest.now < 2 ^ 32 }
-        ensures read { Sees (λ v. v.items) result self.new (run_layout (code_of true size)
+        ensures read { Sees (λ v. v.items) result self.new (run_layout (code_layout true size)
             (reader_cursor self.old) (log_of self.old)) }
         ensures all { OnOk result (self.new.at + length self.new.rest.now
             ≡ self.old.at + length self.old.rest.now) }
@@ -161,7 +161,7 @@ impl Reader<'_> {
     }
 
     /// The statement count, which is checked now, and the lines.
-    #[tactic(auto, unfolding(flat_code::specs::Image::lines_of), using(crate::proofs::RunLemmas::run_checked))]
+    #[tactic(auto, unfolding(flat_code::specs::Image::lines_layout), using(crate::proofs::RunLemmas::run_checked))]
     fn counted_lines(
         &mut self,
         alloc: Global,
@@ -171,7 +171,7 @@ impl Reader<'_> {
     ) -> Result<Vec<u32>, Stop>
         requires fits { self.old.at + length self.old.rest.now < 2 ^ 32 }
         requires room { start + 8 < 2 ^ 32 }
-        ensures read { Sees (λ v. v.items) result self.new (run_layout (lines_of true start
+        ensures read { Sees (λ v. v.items) result self.new (run_layout (lines_layout true start
             (head_values head) ops.now) (reader_cursor self.old) (log_of self.old)) }
         ensures all { OnOk result (self.new.at + length self.new.rest.now
             ≡ self.old.at + length self.old.rest.now) }
@@ -244,10 +244,10 @@ impl Reader<'_> {
     }
 
     /// A code block, which is kept. Its kind and number are answered.
-    #[tactic(auto, unfolding(flat_code::specs::Image::code_block, crate::specs::Running::log_after, crate::specs::Least::with_faults), using(crate::proofs::RunLemmas::run_located, crate::proofs::RunLemmas::run_remembered))]
+    #[tactic(auto, unfolding(flat_code::specs::Image::code_block_layout, crate::specs::Running::log_after, crate::specs::Least::with_faults), using(crate::proofs::RunLemmas::run_located, crate::proofs::RunLemmas::run_remembered))]
     fn code_block(&mut self, alloc: Global, kind_before: u8, before: u16) -> Result<(u8, u16), Stop>
         requires { self.old.at + length self.old.rest.now + 2000 < 2 ^ 32 }
-        ensures read { SeesBlock result self.new (run_layout (code_block true (kind_before, before))
+        ensures read { SeesBlock result self.new (run_layout (code_block_layout true (kind_before, before))
             (reader_cursor self.old) (log_of self.old)) }
         ensures all { OnOk result (self.new.at + length self.new.rest.now
             ≡ self.old.at + length self.old.rest.now) }

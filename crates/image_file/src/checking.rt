@@ -2,7 +2,7 @@
 ghost use Rattle.std.specs.Prelude.{◌≡◌, ◌+◌, ◌<◌, ◌≤◌, ◌^◌, [], length, drop, OnOk, IfOk};
 ghost use Rattle.std.specs.Option.{option_map};
 ghost use Rattle.flat_code.specs.Codes.{size, code_bytes};
-ghost use Rattle.flat_code.specs.Placed.{Placed, is_empty, opened, zones_behind, before_next, few, spot_at, spots, open_behind, places};
+ghost use Rattle.flat_code.specs.Placed.{Placed, is_empty_list, brackets_after, zones_behind_op, before_next, few, spot_at, spots, open_behind, code_places};
 ghost use Rattle.flat_code.specs.Blocks.{seven_if, same_codes, target_fault, jump_fault, operand_fault, call_fault, mark_fault, bracket_fault, zone_fault, at_offset, op_faults, faults_over, open_faults, block_faults};
 ghost use Rattle.image_file.specs.OpChecking.{AllUpTo, around_of};
 ghost use Rattle.image_file.specs.Least.{with_faults};
@@ -27,9 +27,9 @@ pub(crate) struct Statement {
 
 impl Model for Statement {
     ghost use Rattle.std.specs.Option.{option_map};
-    ghost use Rattle.flat_code.specs.Placed.{Spot};
+    ghost use Rattle.flat_code.specs.Placed.{StatementSpot};
 
-    ghost Value = { Spot };
+    ghost Value = { StatementSpot };
 
     ghost view = { λ s. record {
       at = s.at;
@@ -61,9 +61,9 @@ impl Nesting {
     /// Goes on behind an op at an offset.
     pub(crate) fn pass(&mut self, at: u32, op: &Op) -> Result<(), NoMemory>
         ensures brackets { OnOk result (self.new.brackets.items
-            ≡ opened at op.now.code self.old.brackets.items) }
+            ≡ brackets_after at op.now.code self.old.brackets.items) }
         ensures zones { OnOk result (self.new.zones.items
-            ≡ zones_behind at op.now.code self.old.zones.items) }
+            ≡ zones_behind_op at op.now.code self.old.zones.items) }
     {
         pass_brackets(&mut self.brackets, at, op.code)?;
         pass_zones(&mut self.zones, at, op.code)
@@ -86,7 +86,7 @@ pub(crate) fn few(brackets: &[OpenBracket]) -> Option<ArrayVec<u8, 7>>
 
 /// The open brackets behind an op.
 fn pass_brackets(brackets: &mut Vec<OpenBracket>, at: u32, code: u8) -> Result<(), NoMemory>
-    ensures { OnOk result (brackets.new.items ≡ opened at code brackets.old.items) }
+    ensures { OnOk result (brackets.new.items ≡ brackets_after at code brackets.old.items) }
 {
     if NEST_A <= code && code <= NEST_XN {
         brackets.push(OpenBracket { at, code })?;
@@ -100,7 +100,7 @@ fn pass_brackets(brackets: &mut Vec<OpenBracket>, at: u32, code: u8) -> Result<(
 
 /// The open zones behind an op.
 fn pass_zones(zones: &mut Vec<u32>, at: u32, code: u8) -> Result<(), NoMemory>
-    ensures { OnOk result (zones.new.items ≡ zones_behind at code zones.old.items) }
+    ensures { OnOk result (zones.new.items ≡ zones_behind_op at code zones.old.items) }
 {
     if code == OPEN_ZONE {
         zones.push(at)?;
@@ -187,7 +187,7 @@ pub(crate) fn zone_fault(code: u8, zones: &[u32]) -> Option<u16>
 }
 
 fn is_none<T>(open: &[T]) -> bool
-    ensures { result ≡ is_empty open.now }
+    ensures { result ≡ is_empty_list open.now }
 {
     match open {
         [] => true,

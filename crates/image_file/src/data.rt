@@ -1,7 +1,7 @@
 //! The data blocks and the names of an image.
 ghost use Rattle.std.specs.Prelude.{true, ◌≡◌, ◌+◌, ◌≤◌, ◌<◌, ◌^◌, length, [], OnOk, IfOk, vec_len};
 ghost use Rattle.flat_code.specs.Faults.{name_fault};
-ghost use Rattle.flat_code.specs.Image.{instance_of_number, contents, data_block, plain_data_blocks, name_bytes, name_record, after_name};
+ghost use Rattle.flat_code.specs.Image.{instance_of_number, contents, data_block_layout, plain_data_blocks, name_bytes, name_record, after_name};
 ghost use Rattle.flat_code.specs.Layout.{many};
 ghost use Rattle.image_file.specs.Running.{reader_run, run_layout, reader_cursor, log_of, name_values, Sees};
 
@@ -58,10 +58,10 @@ impl<'a> Reader<'a> {
     }
 
     /// A data block behind another one and so many bytes of data blocks together.
-    #[tactic(auto, unfolding(flat_code::specs::Image::data_block, flat_code::specs::Image::data_rows), using(crate::proofs::RunLemmas::run_seen, crate::proofs::RunLemmas::run_chain))]
+    #[tactic(auto, unfolding(flat_code::specs::Image::data_block_layout, flat_code::specs::Image::data_rows), using(crate::proofs::RunLemmas::run_seen, crate::proofs::RunLemmas::run_chain))]
     fn data_block(&mut self, alloc: Global, before: u16, sum: u32) -> Result<DataBlock, Stop>
         requires { self.old.at + length self.old.rest.now < 2 ^ 32 }
-        ensures read { Sees (λ d. d) result self.new (run_layout (data_block (before, sum))
+        ensures read { Sees (λ d. d) result self.new (run_layout (data_block_layout (before, sum))
             (reader_cursor self.old) (log_of self.old)) }
         ensures all { OnOk result (self.new.at + length self.new.rest.now
             ≡ self.old.at + length self.old.rest.now) }

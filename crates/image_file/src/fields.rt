@@ -1,6 +1,6 @@
 //! The fields of an image, each read and checked.
 ghost use Rattle.std.specs.Prelude.{true, ◌≡◌, ◌+◌, ◌<◌, ◌^◌, length, min, OnOk};
-ghost use Rattle.flat_code.specs.Image.{plain_u16, plain_u32, zero_u8, zero_u16, width_field, section_field, parameter_byte, parameter_bit, kind_field, parameter_count, block_number, local_bytes, instance_bytes, line_field, data_number, instance_field, data_len, name_len, name_area, name_bit, data_count, magic_field, version_field, profile_field};
+ghost use Rattle.flat_code.specs.Image.{plain_u16, plain_u32, zero_u8, zero_u16, width_field, section_field, parameter_byte, parameter_bit, kind_field, parameter_count_layout, block_number_layout, local_length_layout, instance_bytes, line_field, data_number_layout, instance_field, data_length_layout, name_len, name_area, name_bit, data_count, magic_field, version_field, profile_field};
 ghost use Rattle.image_file.specs.Running.{reader_run, run_layout, reader_cursor, log_of};
 
 use crate::reader::Reader;
@@ -163,11 +163,11 @@ impl Reader<'_> {
         Ok(number)
     }
 
-    #[tactic(auto, unfolding(crate::specs::Running::run_layout, crate::specs::Running::log_after, crate::specs::Least::with_faults, flat_code::specs::Image::parameter_count))]
+    #[tactic(auto, unfolding(crate::specs::Running::run_layout, crate::specs::Running::log_after, crate::specs::Least::with_faults, flat_code::specs::Image::parameter_count_layout))]
     pub(crate) fn parameter_count(&mut self, kind: u8) -> Result<u8, Ended>
         requires { self.old.at + length self.old.rest.now < 2 ^ 32 }
         ensures read { reader_run (λ n. n) result self.new
-            ≡ run_layout (parameter_count kind) (reader_cursor self.old) (log_of self.old) }
+            ≡ run_layout (parameter_count_layout kind) (reader_cursor self.old) (log_of self.old) }
         ensures all { self.new.at + length self.new.rest.now
             ≡ self.old.at + length self.old.rest.now }
         ensures step { OnOk result (self.new.at ≡ self.old.at + 1) }
@@ -184,7 +184,7 @@ impl Reader<'_> {
         Ok(number)
     }
 
-    #[tactic(auto, unfolding(crate::specs::Running::run_layout, crate::specs::Running::log_after, crate::specs::Least::with_faults, flat_code::specs::Image::block_number))]
+    #[tactic(auto, unfolding(crate::specs::Running::run_layout, crate::specs::Running::log_after, crate::specs::Least::with_faults, flat_code::specs::Image::block_number_layout))]
     pub(crate) fn block_number(
         &mut self,
         kind_before: u8,
@@ -193,7 +193,7 @@ impl Reader<'_> {
     ) -> Result<u16, Ended>
         requires { self.old.at + length self.old.rest.now < 2 ^ 32 }
         ensures read { reader_run (λ n. n) result self.new
-            ≡ run_layout (block_number kind_before before kind) (reader_cursor self.old) (log_of self.old) }
+            ≡ run_layout (block_number_layout kind_before before kind) (reader_cursor self.old) (log_of self.old) }
         ensures all { self.new.at + length self.new.rest.now
             ≡ self.old.at + length self.old.rest.now }
         ensures step { OnOk result (self.new.at ≡ self.old.at + 2) }
@@ -212,11 +212,11 @@ impl Reader<'_> {
         Ok(number)
     }
 
-    #[tactic(auto, unfolding(crate::specs::Running::run_layout, crate::specs::Running::log_after, crate::specs::Least::with_faults, flat_code::specs::Image::local_bytes))]
+    #[tactic(auto, unfolding(crate::specs::Running::run_layout, crate::specs::Running::log_after, crate::specs::Least::with_faults, flat_code::specs::Image::local_length_layout))]
     pub(crate) fn local_bytes(&mut self, kind: u8) -> Result<u16, Ended>
         requires { self.old.at + length self.old.rest.now < 2 ^ 32 }
         ensures read { reader_run (λ n. n) result self.new
-            ≡ run_layout (local_bytes kind) (reader_cursor self.old) (log_of self.old) }
+            ≡ run_layout (local_length_layout kind) (reader_cursor self.old) (log_of self.old) }
         ensures all { self.new.at + length self.new.rest.now
             ≡ self.old.at + length self.old.rest.now }
         ensures step { OnOk result (self.new.at ≡ self.old.at + 2) }
@@ -274,11 +274,11 @@ impl Reader<'_> {
         Ok(number)
     }
 
-    #[tactic(auto, unfolding(crate::specs::Running::run_layout, crate::specs::Running::log_after, crate::specs::Least::with_faults, flat_code::specs::Image::data_number))]
+    #[tactic(auto, unfolding(crate::specs::Running::run_layout, crate::specs::Running::log_after, crate::specs::Least::with_faults, flat_code::specs::Image::data_number_layout))]
     pub(crate) fn data_number(&mut self, before: u16) -> Result<u16, Ended>
         requires { self.old.at + length self.old.rest.now < 2 ^ 32 }
         ensures read { reader_run (λ n. n) result self.new
-            ≡ run_layout (data_number before) (reader_cursor self.old) (log_of self.old) }
+            ≡ run_layout (data_number_layout before) (reader_cursor self.old) (log_of self.old) }
         ensures all { self.new.at + length self.new.rest.now
             ≡ self.old.at + length self.old.rest.now }
     {
@@ -302,11 +302,11 @@ impl Reader<'_> {
         Ok(number)
     }
 
-    #[tactic(auto, unfolding(crate::specs::Running::run_layout, crate::specs::Running::log_after, crate::specs::Least::with_faults, flat_code::specs::Image::data_len))]
+    #[tactic(auto, unfolding(crate::specs::Running::run_layout, crate::specs::Running::log_after, crate::specs::Least::with_faults, flat_code::specs::Image::data_length_layout))]
     pub(crate) fn data_len(&mut self, before: u32) -> Result<u16, Ended>
         requires { self.old.at + length self.old.rest.now < 2 ^ 32 }
         ensures read { reader_run (λ n. n) result self.new
-            ≡ run_layout (data_len before) (reader_cursor self.old) (log_of self.old) }
+            ≡ run_layout (data_length_layout before) (reader_cursor self.old) (log_of self.old) }
         ensures all { self.new.at + length self.new.rest.now
             ≡ self.old.at + length self.old.rest.now }
     {

@@ -1,9 +1,9 @@
 //! The bytes of an image, read from left to right: numbers and runs of bytes.
 ghost use Rattle.std.specs.Prelude.{◌≡◌, ◌+◌, ◌<◌, ◌^◌, length, min, IfOk, OnOk};
 ghost use Rattle.flat_code.specs.Coding.{u8 as a_byte, u16 as a_word, u32 as a_dword};
-ghost use Rattle.flat_code.specs.Faults.{fault_of};
-ghost use Rattle.flat_code.specs.Image.{plain, contents, bytes};
-ghost use Rattle.flat_code.specs.Layout.{field, noted};
+ghost use Rattle.flat_code.specs.Faults.{field_fault};
+ghost use Rattle.flat_code.specs.Image.{no_fault, contents, bytes};
+ghost use Rattle.flat_code.specs.Layout.{field, fault_note};
 ghost use Rattle.image_file.specs.Least.{with_fault, with_faults};
 ghost use Rattle.image_file.specs.Running.{reader_run, run_layout, reader_cursor, log_of, log_after};
 
@@ -53,7 +53,7 @@ impl<'a> Reader<'a> {
     /// Notes the fault of a field at an offset, if it has one.
     #[tactic(auto, unfolding(crate::specs::Least::with_faults, crate::specs::Running::log_after))]
     pub(crate) fn check(&mut self, at: u32, field: Field)
-        ensures log { log_of self.new ≡ log_after (log_of self.old) (noted at (fault_of field)) }
+        ensures log { log_of self.new ≡ log_after (log_of self.old) (fault_note at (field_fault field)) }
         ensures at { self.new.at ≡ self.old.at }
         ensures rest { self.new.rest.now ≡ self.old.rest.now }
     {
@@ -67,7 +67,7 @@ impl<'a> Reader<'a> {
     pub(crate) fn u8(&mut self) -> Result<u8, Ended>
         requires { self.old.at + length self.old.rest.now < 2 ^ 32 }
         ensures read { reader_run (λ n. n) result self.new
-            ≡ run_layout (field a_byte plain) (reader_cursor self.old) (log_of self.old) }
+            ≡ run_layout (field a_byte no_fault) (reader_cursor self.old) (log_of self.old) }
         ensures all { self.new.at + length self.new.rest.now
             ≡ self.old.at + length self.old.rest.now }
         ensures step { OnOk result (self.new.at ≡ self.old.at + 1) }
@@ -89,7 +89,7 @@ impl<'a> Reader<'a> {
     pub(crate) fn u16(&mut self) -> Result<u16, Ended>
         requires { self.old.at + min 4 (length self.old.rest.now) < 2 ^ 32 }
         ensures read { reader_run (λ n. n) result self.new
-            ≡ run_layout (field a_word plain) (reader_cursor self.old) (log_of self.old) }
+            ≡ run_layout (field a_word no_fault) (reader_cursor self.old) (log_of self.old) }
         ensures all { self.new.at + length self.new.rest.now
             ≡ self.old.at + length self.old.rest.now }
         ensures step { OnOk result (self.new.at ≡ self.old.at + 2) }
@@ -112,7 +112,7 @@ impl<'a> Reader<'a> {
     pub(crate) fn u32(&mut self) -> Result<u32, Ended>
         requires { self.old.at + min 4 (length self.old.rest.now) < 2 ^ 32 }
         ensures read { reader_run (λ n. n) result self.new
-            ≡ run_layout (field a_dword plain) (reader_cursor self.old) (log_of self.old) }
+            ≡ run_layout (field a_dword no_fault) (reader_cursor self.old) (log_of self.old) }
         ensures all { self.new.at + length self.new.rest.now
             ≡ self.old.at + length self.old.rest.now }
         ensures step { OnOk result (self.new.at ≡ self.old.at + 4) }

@@ -20,10 +20,10 @@ pub(crate) struct Statements {
 
 impl Model for Statements {
     ghost use Rattle.std.specs.Prelude.{List};
-    ghost use Rattle.flat_code.specs.Placed.{Spot};
+    ghost use Rattle.flat_code.specs.Placed.{StatementSpot};
     ghost use Rattle.image_file.specs.Tables.{FindsStatements};
 
-    ghost Value = { List Spot };
+    ghost Value = { List StatementSpot };
 
     ghost view = { λ s. s.list.items };
 

@@ -22,9 +22,9 @@ pub(crate) struct SignatureRead {
 }
 
 impl Model for SignatureRead {
-    ghost use Rattle.flat_code.specs.Blocks.{Signature};
+    ghost use Rattle.flat_code.specs.Blocks.{BlockSignature};
 
-    ghost Value = { Signature };
+    ghost Value = { BlockSignature };
 
     ghost view = { λ s. record {
       kind = s.kind;
@@ -54,10 +54,10 @@ pub(crate) struct Signatures {
 
 impl Model for Signatures {
     ghost use Rattle.std.specs.Prelude.{List};
-    ghost use Rattle.flat_code.specs.Blocks.{Signature};
+    ghost use Rattle.flat_code.specs.Blocks.{BlockSignature};
     ghost use Rattle.image_file.specs.Tables.{FindsCallees};
 
-    ghost Value = { List Signature };
+    ghost Value = { List BlockSignature };
 
     ghost view = { λ s. s.list.items };
 
@@ -228,11 +228,11 @@ fn len_at(lens: &[(u16, usize)], place: usize) -> Option<usize>
 }
 
 impl DataLens {
-    ghost use Rattle.flat_code.specs.Blocks.{data_len};
+    ghost use Rattle.flat_code.specs.Blocks.{length_of_data};
 
     /// The length of the first data block of a number.
     pub(crate) fn of(&self, number: u16) -> Option<usize>
-        ensures { result ≡ data_len number self.now }
+        ensures { result ≡ length_of_data number self.now }
     {
         let place = place_at(self.table.as_slice(), u32::from(number))?;
         len_at(self.list.as_slice(), place)

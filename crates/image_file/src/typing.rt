@@ -1,6 +1,6 @@
 //! A program made of the records that were read.
 ghost use Rattle.std.specs.Prelude.{◌≡◌, ◌≤◌, length, map, IfOk};
-ghost use Rattle.flat_code.specs.Image.{param_of, block_of_record, entry_of_name, IsProgram};
+ghost use Rattle.flat_code.specs.Image.{param_of_record, block_of_record, entry_of_name, IsProgram};
 ghost use Rattle.flat_code.specs.Loading.{blocks_of};
 ghost use Rattle.image_file.specs.Running.{started_block};
 ghost use Rattle.image_file.specs.Typing.{AreFew, program_from};
@@ -16,7 +16,7 @@ use std::alloc::Global;
 
 /// Parameters, if they are at most 60.
 fn params_of(parameters: &[ParameterRecord]) -> ArrayVec<Param, 60>
-    ensures { length parameters.now ≤ 60 → result.items ≡ map param_of parameters.now }
+    ensures { length parameters.now ≤ 60 → result.items ≡ map param_of_record parameters.now }
 {
     let mut params = ArrayVec::new();
     for parameter in parameters {

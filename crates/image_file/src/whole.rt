@@ -1,6 +1,6 @@
 //! An image as a whole.
 ghost use Rattle.std.specs.Prelude.{true, ◌≡◌, ◌+◌, ◌<◌, ◌≤◌, ◌^◌, length, take, [], ◌∷◌, if◌then◌else◌, OnOk, IfOk};
-ghost use Rattle.flat_code.specs.Image.{counts, data_blocks, names, records, front, cut, read_image};
+ghost use Rattle.flat_code.specs.Image.{counts_layout, data_blocks_layout, names, records, front, cut, read_image};
 ghost use Rattle.flat_code.specs.Layout.{Faulty};
 ghost use Rattle.image_file.specs.Running.{reader_run, run_layout, run_of_read, log_after, reader_cursor, log_of, counts_values, front_values, Sees, SeesDatas, SeesRecords, SeesImage};
 
@@ -19,11 +19,11 @@ fn up_to(bytes: &[u8], count: usize) -> &[u8]
 }
 
 impl Reader<'_> {
-    #[tactic(auto, unfolding(flat_code::specs::Image::counts, flat_code::specs::Image::count_rows), using(crate::proofs::RunLemmas::run_seen, crate::proofs::RunLemmas::run_chain))]
+    #[tactic(auto, unfolding(flat_code::specs::Image::counts_layout, flat_code::specs::Image::count_rows), using(crate::proofs::RunLemmas::run_seen, crate::proofs::RunLemmas::run_chain))]
     fn counts(&mut self) -> Result<CountsRead, Ended>
         requires { self.old.at + length self.old.rest.now < 2 ^ 32 }
         ensures read { reader_run counts_values result self.new
-            ≡ run_layout counts (reader_cursor self.old) (log_of self.old) }
+            ≡ run_layout counts_layout (reader_cursor self.old) (log_of self.old) }
         ensures all { self.new.at + length self.new.rest.now
             ≡ self.old.at + length self.old.rest.now }
     {
@@ -40,10 +40,10 @@ impl Reader<'_> {
     }
 
     /// All data blocks, which are kept.
-    #[tactic(auto, unfolding(flat_code::specs::Image::data_blocks, crate::specs::Running::log_after, crate::specs::Least::with_faults), using(crate::proofs::RunLemmas::run_remembered))]
+    #[tactic(auto, unfolding(flat_code::specs::Image::data_blocks_layout, crate::specs::Running::log_after, crate::specs::Least::with_faults), using(crate::proofs::RunLemmas::run_remembered))]
     fn data_blocks(&mut self, alloc: Global, count: u16) -> Result<(), Stop>
         requires { self.old.at + length self.old.rest.now < 2 ^ 32 }
-        ensures read { SeesDatas result self.new (run_layout (data_blocks count) (reader_cursor self.old)
+        ensures read { SeesDatas result self.new (run_layout (data_blocks_layout count) (reader_cursor self.old)
             (log_of self.old)) }
         ensures all { OnOk result (self.new.at + length self.new.rest.now
             ≡ self.old.at + length self.old.rest.now) }

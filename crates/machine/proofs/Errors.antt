@@ -30,7 +30,7 @@ use Rattle.flat_code.specs.declared.operations.RelayOperation.{RelayOperation}
 use Rattle.flat_code.specs.declared.operations.RelayOperation.TheVariants as relay
 use Rattle.flat_code.specs.declared.operations.Operation.{Operation}
 use Rattle.flat_code.specs.declared.operations.Operation.TheVariants as operation
-use Rattle.flat_code.specs.Placed.{is_empty, most_zones}
+use Rattle.flat_code.specs.Placed.{is_empty_list, most_zones}
 use Rattle.flat_code.specs.Table.{admits, takes_of_operation, takes_timer, takes_counter}
 use Rattle.machine.specs.declared.places.Access.{Access}
 use Rattle.machine.specs.declared.places.Access.TheVariants.{Reading, Writing}
@@ -548,7 +548,7 @@ zone_room s room = by (length s.inner.relay.zones == most_zones) refl
     by true e = absurd (room (eqb-true (length s.inner.relay.zones) most_zones e))
     by false e = refl
 
-pub zone_there : (zones : List Bool) → (zones ≡ [] → ⊥) → is_empty zones ≡ false
+pub zone_there : (zones : List Bool) → (zones ≡ [] → ⊥) → is_empty_list zones ≡ false
 zone_there [] room = absurd (room refl)
 zone_there (value ∷ around) room = refl
 

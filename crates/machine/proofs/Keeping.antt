@@ -18,7 +18,7 @@ use Rattle.frames.specs.FrameData.{FrameData}
 use Rattle.frames.specs.Relay.{outer_zones, zone_opened, zone_ended}
 use Rattle.frames.specs.declared.relay.Relay.{Relay}
 use Rattle.frames.specs.Locals.{LocalData, local_written, local_operand_start}
-use Rattle.flat_code.specs.Placed.{is_empty, most_zones}
+use Rattle.flat_code.specs.Placed.{is_empty_list, most_zones}
 use Rattle.flat_code.specs.declared.operands.Operand.{Operand}
 use Rattle.flat_code.specs.declared.operands.Operand.TheVariants as operand
 use Rattle.flat_code.specs.declared.operations.PointerOperation.{PointerOperation}
@@ -364,7 +364,7 @@ outer_count (value ∷ around) = omega arith
 
 ending_zone_keeps : (p : ExecState) → IfDone (Keeps (operation.Relay relay.Close) p) (on_local p (ending_zone p.local))
 unfolding ending_zone
-ending_zone_keeps p = by (is_empty p.local.inner.relay.zones)
+ending_zone_keeps p = by (is_empty_list p.local.inner.relay.zones)
   where
     by : (none : Bool)
         → IfDone (Keeps (operation.Relay relay.Close) p) (on_local p (if none then Err no_operand

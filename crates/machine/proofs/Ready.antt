@@ -11,14 +11,14 @@ use Rattle.plc_base.specs.declared.blocks.BlockKind.TheVariants as kinds
 use Rattle.plc_mem.specs.Areas.{Areas}
 use Rattle.frames.specs.declared.Activation.{Activation}
 use Rattle.frames.specs.declared.frame.Frame.{Frame}
-use Rattle.flat_code.specs.Blocks.{Callee, callee, system_params}
-use Rattle.flat_code.specs.Image.{param_of, kind_of_number}
+use Rattle.flat_code.specs.Blocks.{CalleeSeen, callee, system_params}
+use Rattle.flat_code.specs.Image.{param_of_record, kind_of_number}
 use Rattle.flat_code.specs.Instr.{Does, Passing}
-use Rattle.flat_code.specs.Kinds.{jump_of}
+use Rattle.flat_code.specs.Kinds.{jump_of_number}
 use Rattle.flat_code.specs.Loading.{Verifies}
 use Rattle.flat_code.specs.Ops.{OpData, is_op}
 use Rattle.flat_code.specs.Table.{admits, takes_of}
-use Rattle.flat_code.specs.Placed.{op_placed, line_placed, places}
+use Rattle.flat_code.specs.Placed.{op_placed, line_placed, code_places}
 use Rattle.flat_code.specs.Programs.{CodeBlock, Program}
 use Rattle.flat_code.specs.Operations.{operation_of}
 use Rattle.flat_code.specs.declared.operands.Operand.{Operand}
@@ -30,7 +30,7 @@ use Rattle.image_file.specs.Readers.{block_by_id}
 use Rattle.image_file.specs.Verified.{placed_at, IsVerifiedOp, IsReaderOp, OpsArePlaced, OpsAreOfTable, FitsCall, CallsFit, IsCalledBlock, CalledAreThere, block_signatures}
 use Rattle.machine.specs.Code.{Code, BlockHead}
 use Rattle.machine.specs.Fitting.{OpenCodes, FrameFits, FramesFit, FitsBlock, ActivationFits}
-use Rattle.flat_code.specs.Forms.{is_callable, kind_of_code, payload_fits}
+use Rattle.flat_code.specs.Forms.{is_callable_number, kind_of_code, payload_fits}
 use Rattle.machine.specs.Flat.{OpRun, op_run_at, run_with, with_op, most_ops, code_of, block_head_of, call_by_number, instr_of, fetched_of, use_db_of, passings_of, statement_fetched}
 use Rattle.machine.specs.Statement.{World, statement, IsNotStuck}
 use Rattle.machine.specs.There.{is_callee, is_there, is_complete}
@@ -90,7 +90,7 @@ head_there :
 head_there p number found kind b e h = rw (sym e) (rw h refl)
 
 fc_there :
-    (p : Program) (kind number : ℕ) (called : Callee) → CalledAreThere → kind ≡ 2
+    (p : Program) (kind number : ℕ) (called : CalleeSeen) → CalledAreThere → kind ≡ 2
     → callee (block_signatures p) kind number ≡ Some called → There p number kinds.Fc
 fc_there p kind number called law e h =
     let is : IsCalledBlock p kind number called = law p kind number called (inl e) h
@@ -98,7 +98,7 @@ fc_there p kind number called law e h =
     in head_there p number (kind_of_number kind) kinds.Fc is.block same is.there
 
 fb_there :
-    (p : Program) (kind number : ℕ) (called : Callee) → CalledAreThere → kind ≡ 3
+    (p : Program) (kind number : ℕ) (called : CalleeSeen) → CalledAreThere → kind ≡ 3
     → callee (block_signatures p) kind number ≡ Some called → There p number kinds.Fb
 fb_there p kind number called law e h =
     let is : IsCalledBlock p kind number called = law p kind number called (inr e) h
@@ -106,28 +106,28 @@ fb_there p kind number called law e h =
     in head_there p number (kind_of_number kind) kinds.Fb is.block same is.there
 
 sfc_there :
-    (p : Program) (kind number : ℕ) (called : Callee) → kind ≡ 5
+    (p : Program) (kind number : ℕ) (called : CalleeSeen) → kind ≡ 5
     → callee (block_signatures p) kind number ≡ Some called → There p number kinds.Sfc
 unfolding callee
 sfc_there p kind number called e h =
-    some_below (system_params number) (λ params. (5, 0, params)) (map param_of) called (rw e at h)
+    some_below (system_params number) (λ params. (5, 0, params)) (map param_of_record) called (rw e at h)
 
-pub kind_callable : (code kind number instance : ℕ) → is_op code (operand.Called kind number instance) ≡ true → is_callable kind ≡ true
+pub kind_callable : (code kind number instance : ℕ) → is_op code (operand.Called kind number instance) ≡ true → is_callable_number kind ≡ true
 unfolding is_op
 kind_callable code kind number instance right =
     let fits = (and_parts (ltb code 128 && admits (takes_of code) (operand.Called kind number instance)) (payload_fits (operand.Called kind number instance)) right).1 in
-    let first = (and_parts (ltb kind 256 && is_callable kind) (ltb number 65536 && ltb instance 65536) fits).0 in
-    (and_parts (ltb kind 256) (is_callable kind) first).1
+    let first = (and_parts (ltb kind 256 && is_callable_number kind) (ltb number 65536 && ltb instance 65536) fits).0 in
+    (and_parts (ltb kind 256) (is_callable_number kind) first).1
 
 -- only functions, function blocks and system functions are called
 abbrev pub IsCallable : ℕ → Type 0
 IsCallable kind = (kind ≡ kind_number kinds.Fc) ⊎ ((kind ≡ kind_number kinds.Fb) ⊎ (kind ≡ kind_number kinds.Sfc))
 
-pub callable_kind : (kind : ℕ) → is_callable kind ≡ true → IsCallable kind
+pub callable_kind : (kind : ℕ) → is_callable_number kind ≡ true → IsCallable kind
 callable_kind kind h = grind (arith, nat_tests, h)
 
 called_there :
-    (p : Program) (kind number : ℕ) (called : Callee) (k : BlockKind) → IsCallable kind → CalledAreThere
+    (p : Program) (kind number : ℕ) (called : CalleeSeen) (k : BlockKind) → IsCallable kind → CalledAreThere
     → callee (block_signatures p) kind number ≡ Some called → kind_of_code kind ≡ Some k → There p number k
 called_there p kind number called k (inl e) law h is =
     rw (sym (same_Some kinds.Fc k (sym (ap kind_of_code e) ∙ is))) (fc_there p kind number called law e h)
@@ -147,7 +147,7 @@ last_calls :
     → CallsThere p b op.operand
 last_calls p own b from next op verifies placed_law table_law calls_law called_law block placed kind number instance k o is =
     let read : IsReaderOp b.code from op next = placed_law b.code from op next placed
-    in let there : placed_at read.here.at (places b.code) ≡ Some read.here = ap (λ z. placed_at z (places b.code)) read.offset ∙ read.place
+    in let there : placed_at read.here.at (code_places b.code) ≡ Some read.here = ap (λ z. placed_at z (code_places b.code)) read.offset ∙ read.place
     in let isop : IsVerifiedOp p b read.here = record { verifies = verifies; id = own; block = block; place = there }
     in let fit : FitsCall p read.here kind number instance =
     calls_law p b read.here kind number instance isop (ap (λ (z : OpData). z.operand) read.op_is ∙ o)
@@ -214,7 +214,7 @@ op_there p b own operation.Jump (operand.Parameter index width) use_db passings 
 op_there p b own operation.Jump (operand.Numbered kind number) use_db passings next ops calls head = refl
 op_there p b own operation.Jump (operand.NumberedBy kind from byte) use_db passings next ops calls head = refl
 op_there p b own operation.Jump (operand.Jump kind target) use_db passings next ops calls head =
-    jump_is_there (code_of p) own (jump_of kind) target next ops
+    jump_is_there (code_of p) own (jump_of_number kind) target next ops
 op_there p b own operation.Jump (operand.OfStatus condition) use_db passings next ops calls head = refl
 op_there p b own operation.Jump (operand.UseDb number) use_db passings next ops calls head = refl
 op_there p b own operation.Jump (operand.Pass index actual) use_db passings next ops calls head = refl

@@ -11,10 +11,10 @@ use Rattle.flat_code.specs.declared.operations.Operation.TheVariants as operatio
 use Rattle.flat_code.specs.Blocks.{prepares}
 use Rattle.flat_code.specs.Codes.{size}
 use Rattle.flat_code.specs.Loading.{Verifies}
-use Rattle.flat_code.specs.OpCodes.{code_of as op_code}
+use Rattle.flat_code.specs.OpCodes.{op_code_of as op_code}
 use Rattle.flat_code.specs.Ops.{OpData}
 use Rattle.flat_code.specs.declared.operands.Operand.TheVariants as operand
-use Rattle.flat_code.specs.Placed.{Placed, placed, places, op_placed, line_placed, begins, is_empty, opened, zones_behind, before_next, ending, last_op}
+use Rattle.flat_code.specs.Placed.{Placed, ops_placed, code_places, op_placed, line_placed, begins, is_empty_list, brackets_after, zones_behind_op, before_next, ending_op, last_op}
 use Rattle.flat_code.specs.Programs.{CodeBlock, Program}
 use Rattle.flat_code.specs.Operations.{operation_of}
 use Rattle.image_file.specs.Readers.{block_by_id}
@@ -28,17 +28,17 @@ use Rattle.machine.proofs.OpenBehind.{same_open, prepared_same, prepared_zones, 
 
 -- ---- ops in their places
 
-pub op_here : (from : ℕ) (brackets : List OpenBracket) (zones : List ℕ) (before ops : List OpData) (at : ℕ) (q : Placed) → placed_at at (placed from brackets zones before ops) ≡ Some q → op_placed from ops at ≡ Some (q.op, q.at + size q.op)
+pub op_here : (from : ℕ) (brackets : List OpenBracket) (zones : List ℕ) (before ops : List OpData) (at : ℕ) (q : Placed) → placed_at at (ops_placed from brackets zones before ops) ≡ Some q → op_placed from ops at ≡ Some (q.op, q.at + size q.op)
 op_here from brackets zones before [] at q found = absurd cc
 op_here from brackets zones before (o ∷ ops) at q found =
     by (eqb from at) found
-    (λ e. op_here (from + size o) (opened from o.code brackets) (zones_behind from o.code zones) (before_next o before) ops at q e)
+    (λ e. op_here (from + size o) (brackets_after from o.code brackets) (zones_behind_op from o.code zones) (before_next o before) ops at q e)
   where
     here : Placed
     here = record { at = from; brackets = brackets; zones = zones; before = before; op = o; rest = ops }
 
     behind : Option Placed
-    behind = placed_at at (placed (from + size o) (opened from o.code brackets) (zones_behind from o.code zones) (before_next o before) ops)
+    behind = placed_at at (ops_placed (from + size o) (brackets_after from o.code brackets) (zones_behind_op from o.code zones) (before_next o before) ops)
 
     by : (t : Bool) → cond t (Some here) behind ≡ Some q → (behind ≡ Some q → op_placed (from + size o) ops at ≡ Some (q.op, q.at + size q.op)) → cond t (Some (o, from + size o)) (op_placed (from + size o) ops at) ≡ Some (q.op, q.at + size q.op)
     by true e more = ap (λ (z : Placed). Some (z.op, z.at + size z.op)) (same_Some here q e)
@@ -105,7 +105,7 @@ append_nil : (xs : List OpData) → xs ≡ xs ++ []
 append_nil [] = refl
 append_nil (x ∷ xs) = ap (λ (z : List OpData). x ∷ z) (append_nil xs)
 
-pub ends_here : (op : OpData) (rest : List OpData) → op.last ≡ true → ending op rest ≡ op
+pub ends_here : (op : OpData) (rest : List OpData) → op.last ≡ true → ending_op op rest ≡ op
 ends_here op [] is = refl
 ends_here op (n ∷ rest) is = rw is refl
 
@@ -141,7 +141,7 @@ run_is l p b (suc most) q r h e =
 
     longer : (op : OpData) (rest : List OpData) (s : OpRun) → q.op.last ≡ false → q.rest ≡ op ∷ rest → Ran p b (behind_op q op rest) s → Ran p b q (with_op q.op s)
     longer op rest s is split ran =
-        let ends : last_op q ≡ s.last = ap (λ (z : List OpData). ending q.op z) split ∙ ap (λ (t : Bool). cond t q.op (ending op rest)) is ∙ ran.ends in
+        let ends : last_op q ≡ s.last = ap (λ (z : List OpData). ending_op q.op z) split ∙ ap (λ (t : Bool). cond t q.op (ending_op op rest)) is ∙ ran.ends in
         record {
           last = ran.last;
           op = ran.op;
@@ -149,7 +149,7 @@ run_is l p b (suc most) q r h e =
           next = ran.next;
           ended = ran.ended;
           held = ran.held
-              ∙ same_open (checks_of (opened q.at q.op.code q.brackets)) (checks_of q.brackets) (length (zones_behind q.at q.op.code q.zones)) (length q.zones)
+              ∙ same_open (checks_of (brackets_after q.at q.op.code q.brackets)) (checks_of q.brackets) (length (zones_behind_op q.at q.op.code q.zones)) (length q.zones)
               (ap checks_of (prepared_same q.at q.op.code q.brackets (prepared is)))
               (ap length (prepared_zones q.at q.op.code q.zones (prepared is)));
           before = ran.before ∙ ap (λ (z : List OpData). z ++ s.before) (more_before is) ∙ append_assoc q.before (q.op ∷ []) s.before;
@@ -182,7 +182,7 @@ pub record Stood (p : Program) (block : BlockId) (at : ℕ) (held : OpenAt) : Ty
   pub begun : begins q ≡ true
   pub same : open_at q ≡ held
 
-pub none_before : (before : List OpData) → is_empty before ≡ true → before ≡ []
+pub none_before : (before : List OpData) → is_empty_list before ≡ true → before ≡ []
 none_before [] e = refl
 none_before (op ∷ before) e = absurd cc
 
@@ -225,7 +225,7 @@ pub opens_there :
     (p : Program) (block : BlockId) (at : ℕ) (held : OpenAt) → Stood p block at held
     → open_codes p block at ≡ Some held
 opens_there p block at held s =
-    let place : placed_at at (places s.b.code) ≡ Some s.q = ap (λ (k : ℕ). placed_at k (places s.b.code)) (sym s.offset) ∙ s.op.place in
+    let place : placed_at at (code_places s.b.code) ≡ Some s.q = ap (λ (k : ℕ). placed_at k (code_places s.b.code)) (sym s.offset) ∙ s.op.place in
     rw (s.found, place, s.begun) (ap (λ (z : OpenAt). Some z) s.same)
 
 place_offset : (qs : List Placed) (at : ℕ) (q : Placed) → placed_at at qs ≡ Some q → q.at ≡ at
@@ -241,10 +241,10 @@ pub stood_there :
     → Stood p block at held
 stood_there p block at held verifies h = by_block (block_by_id block p.code_blocks) refl h
   where
-    begun : (b : CodeBlock) (q : Placed) (t : Bool) → block_by_id block p.code_blocks ≡ Some b → placed_at at (places b.code) ≡ Some q → begins q ≡ t
+    begun : (b : CodeBlock) (q : Placed) (t : Bool) → block_by_id block p.code_blocks ≡ Some b → placed_at at (code_places b.code) ≡ Some q → begins q ≡ t
         → cond t (Some (open_at q)) None ≡ Some held → Stood p block at held
     begun b q true found place is e =
-        let offset = place_offset (places b.code) at q place in
+        let offset = place_offset (code_places b.code) at q place in
         record {
           b = b;
           q = q;
@@ -253,7 +253,7 @@ stood_there p block at held verifies h = by_block (block_by_id block p.code_bloc
             verifies = verifies;
             id = block;
             block = found;
-            place = ap (λ (k : ℕ). placed_at k (places b.code)) offset ∙ place;
+            place = ap (λ (k : ℕ). placed_at k (code_places b.code)) offset ∙ place;
           };
           offset = offset;
           begun = is;
@@ -261,13 +261,13 @@ stood_there p block at held verifies h = by_block (block_by_id block p.code_bloc
         }
     begun b q false found place is e = absurd cc
 
-    by_place : (b : CodeBlock) (o : Option Placed) → block_by_id block p.code_blocks ≡ Some b → placed_at at (places b.code) ≡ o → open_before o ≡ Some held → Stood p block at held
+    by_place : (b : CodeBlock) (o : Option Placed) → block_by_id block p.code_blocks ≡ Some b → placed_at at (code_places b.code) ≡ o → open_before o ≡ Some held → Stood p block at held
     by_place b None found place e = absurd cc
     by_place b (Some q) found place e = begun b q (begins q) found place refl e
 
     by_block : (o : Option CodeBlock) → block_by_id block p.code_blocks ≡ o → option_and_then (λ b. open_in b at) o ≡ Some held → Stood p block at held
     by_block None found e = absurd cc
-    by_block (Some b) found e = by_place b (placed_at at (places b.code)) found refl e
+    by_block (Some b) found e = by_place b (placed_at at (code_places b.code)) found refl e
 
 -- ---- where a statement leads
 
@@ -303,7 +303,7 @@ target_stood l p block at held s kind target is =
         verifies = s.ran.op.verifies;
         id = s.ran.op.id;
         block = s.ran.op.block;
-        place = ap (λ (k : ℕ). placed_at k (places s.stood.b.code)) lands.offset ∙ lands.place;
+        place = ap (λ (k : ℕ). placed_at k (code_places s.stood.b.code)) lands.offset ∙ lands.place;
       };
       offset = lands.offset;
       begun = lands.statement;
@@ -329,7 +329,7 @@ entry_stood l p block b verifies found =
         verifies = verifies;
         id = block;
         block = found;
-        place = ap (λ (k : ℕ). placed_at k (places b.code)) begun.offset ∙ begun.place;
+        place = ap (λ (k : ℕ). placed_at k (code_places b.code)) begun.offset ∙ begun.place;
       };
       offset = begun.offset;
       begun = begun.statement;

@@ -5,7 +5,7 @@ use Rattle.std.specs.Option.{option_map, option_and_then}
 use Rattle.plc_base.specs.declared.blocks.BlockKind.{BlockKind}
 use Rattle.flat_code.specs.Instr.{Instr, Does, Jumps, JumpsByList, Calls, Returns, Passing}
 use Rattle.flat_code.specs.Forms.{kind_of_code}
-use Rattle.flat_code.specs.Kinds.{jump_of}
+use Rattle.flat_code.specs.Kinds.{jump_of_number}
 use Rattle.flat_code.specs.Ops.{OpData}
 use Rattle.flat_code.specs.Placed.{op_placed, line_placed}
 use Rattle.flat_code.specs.Programs.{CodeBlock, DataBlock, Program}
@@ -110,7 +110,7 @@ call_by_number (Some kind) how number instance passings other =
 abbrev pub instr_of :
     Operation → Operand → (use_db : Option ℕ) → List Passing → (next : ℕ) → List OpData → Instr
 instr_of operation.Jump (operand.Jump kind target) use_db passings next ops =
-    jump_by_operation (jump_of kind) target next ops
+    jump_by_operation (jump_of_number kind) target next ops
 instr_of (operation.Call how) (operand.Called kind number instance) use_db passings next ops =
     call_by_number (kind_of_code kind) how number instance passings
     (Does use_db (operation.Call how) (operand.Called kind number instance))

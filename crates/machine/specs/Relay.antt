@@ -4,7 +4,7 @@ use Rattle.std.specs.Prelude.{ℕ, ◌==◌, Bool, true, false, ◌&&◌, not, l
 use Rattle.status_word.specs.Store.{stored}
 use Rattle.frames.specs.Relay.{is_zone_closed, zone_opened, zone_ended}
 use Rattle.frames.specs.declared.relay.Relay.{Relay}
-use Rattle.flat_code.specs.Placed.{is_empty, most_zones}
+use Rattle.flat_code.specs.Placed.{is_empty_list, most_zones}
 use Rattle.flat_code.specs.declared.operations.RelayOperation.{RelayOperation}
 use Rattle.flat_code.specs.declared.operations.RelayOperation.TheVariants as relay
 use Rattle.machine.specs.ExecState.{Local}
@@ -39,7 +39,7 @@ opening_zone s =
 -- )MCR ends the last zone; one without an open zone stands in no program that is loaded
 unfoldable pub ending_zone : Local → Result Local ℕ
 ending_zone s =
-    if is_empty s.inner.relay.zones then Err no_operand
+    if is_empty_list s.inner.relay.zones then Err no_operand
     else Ok (with_relay_zones (zone_ended s.inner.relay) s)
 
 -- each by its name

@@ -8,7 +8,7 @@ use Rattle.frames.specs.declared.bindings.Binding.{Binding}
 use Rattle.frames.specs.declared.bindings.Binding.TheVariants as binding
 use Rattle.flat_code.specs.declared.programs.Param.{Param}
 use Rattle.flat_code.specs.Blocks.{system_params}
-use Rattle.flat_code.specs.Image.{param_of}
+use Rattle.flat_code.specs.Image.{param_of_record}
 use Rattle.flat_code.specs.Instr.{Passing}
 use Rattle.flat_code.specs.Records.{section_in, section_out}
 use Rattle.machine.specs.ExecState.{Local, local_of, then_ok}
@@ -17,7 +17,7 @@ use Rattle.machine.specs.Bindings.{param_bindings}
 
 -- the parameters of a system function: IN by their order, then RET_VAL if it has one
 abbrev pub system_function : ℕ → Option (List Param)
-system_function number = option_map (map param_of) (system_params number)
+system_function number = option_map (map param_of_record) (system_params number)
 
 -- a system call: the numbers of its IN parameters, and what RET_VAL is bound to
 pub record Given : Type 0 where

@@ -1,7 +1,7 @@
 //! Along the ops of a statement.
 ghost use Rattle.std.specs.Prelude.{◌≡◌, ◌≤◌, length, MatchResult, Ok, Err};
 ghost use Rattle.std.specs.Option.{option_map};
-ghost use Rattle.flat_code.specs.Kinds.{jump_of as jump_of_kind};
+ghost use Rattle.flat_code.specs.Kinds.{jump_of_number as jump_of_kind};
 ghost use Rattle.flat_code.specs.Placed.{op_placed};
 ghost use Rattle.machine.specs.ExecState.{local_of};
 ghost use Rattle.machine.specs.Flat.{op_run_at, most_ops, list_of, most_listed};
@@ -144,7 +144,7 @@ pub(crate) fn pick(code: &LoadedCode<'_>, target: u32, next: u32, r: &Regs) -> u
 }
 
 /// The jump of a kind.
-#[tactic(auto, unfolding(flat_code::specs::Kinds::jump_of))]
+#[tactic(auto, unfolding(flat_code::specs::Kinds::jump_of_number))]
 pub(crate) fn jump_of(kind: u8) -> JumpOperation
     ensures { result ≡ jump_of_kind kind }
 {

@@ -10,7 +10,7 @@ use Rattle.flat_code.specs.Instr.{Instr, Calls, Does, Jumps, JumpsByList, Return
 use Rattle.flat_code.specs.Ops.{OpData}
 use Rattle.flat_code.specs.Placed.{op_placed, line_placed}
 use Rattle.flat_code.specs.Programs.{CodeBlock}
-use Rattle.flat_code.specs.Kinds.{jump_of}
+use Rattle.flat_code.specs.Kinds.{jump_of_number}
 use Rattle.flat_code.specs.Operations.{operation_of}
 use Rattle.flat_code.specs.declared.kinds.JumpOperation.{JumpOperation}
 use Rattle.flat_code.specs.declared.operands.Operand.{Operand}
@@ -227,8 +227,8 @@ called_is operation.Jump (operand.NumberedBy x0 x1 x2) use_db passings next ops 
 called_is (operation.Call a) (operand.NumberedBy x0 x1 x2) use_db passings next ops call block named given is =
     absurd (never (Does use_db (operation.Call a) (operand.NumberedBy x0 x1 x2)) (Calls call block named given) tt is)
 called_is operation.Jump (operand.Jump x0 x1) use_db passings next ops call block named given is =
-    absurd (never (jump_by_operation (jump_of x0) x1 next ops) (Calls call block named given)
-    (jump_never (jump_of x0) x1 next ops) is)
+    absurd (never (jump_by_operation (jump_of_number x0) x1 next ops) (Calls call block named given)
+    (jump_never (jump_of_number x0) x1 next ops) is)
 called_is (operation.Call a) (operand.Jump x0 x1) use_db passings next ops call block named given is =
     absurd (never (Does use_db (operation.Call a) (operand.Jump x0 x1)) (Calls call block named given) tt is)
 called_is operation.Jump (operand.OfStatus x0) use_db passings next ops call block named given is =

@@ -23,7 +23,7 @@ use Rattle.timers_counters.specs.Timer.{Timer}
 use Rattle.timers_counters.specs.declared.faults.TimerFault.{TimerFault}
 use Rattle.timers_counters.specs.declared.faults.TimerFault.TheVariants.{BadBcd, NoNumber}
 use Rattle.frames.specs.Relay.{zone_ended, zone_opened}
-use Rattle.flat_code.specs.Placed.{is_empty}
+use Rattle.flat_code.specs.Placed.{is_empty_list}
 use Rattle.flat_code.specs.declared.operands.Operand.{Operand}
 use Rattle.flat_code.specs.declared.operations.Adding.TheVariants as adding
 use Rattle.flat_code.specs.declared.operations.Logic.{Logic}
@@ -362,7 +362,7 @@ unfolding does.effect zones.ending_zone
 end_zone_same o p = by p.local.inner.relay.zones
   where
     by : (open_zones : List Bool)
-        → does.on_local p (if is_empty open_zones then Err 0
+        → does.on_local p (if is_empty_list open_zones then Err 0
         else Ok (zones.with_relay_zones (zone_ended p.local.inner.relay) p.local))
         ≡ own.ends_zone_of open_zones p
     by [] = refl

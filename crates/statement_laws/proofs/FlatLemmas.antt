@@ -13,7 +13,7 @@ use Rattle.timers_counters.specs.Timer.{Timer, time_left, units_left}
 use Rattle.timers_counters.specs.declared.faults.TimerFault.TheVariants.{NoNumber}
 use Rattle.frames.specs.declared.bindings.Binding.{Binding}
 use Rattle.frames.specs.declared.bindings.Binding.TheVariants as binding
-use Rattle.flat_code.specs.Kinds.{condition_of, flag_of}
+use Rattle.flat_code.specs.Kinds.{condition_number, flag_of}
 use Rattle.flat_code.specs.declared.operands.Operand.{Operand}
 use Rattle.flat_code.specs.declared.operands.Operand.TheVariants as flat
 use Rattle.machine.specs.ExecState.{ExecState, then_ok}
@@ -55,7 +55,7 @@ flat_of (named.PlaceIn block w byte bit) = flat.Direct area.Db w byte bit
 flat_of (named.Parameter index w) = flat.Parameter index w
 flat_of (named.Constant value) = flat.Literal (own.bits value)
 flat_of (named.Pointer value) = flat.Literal value
-flat_of (named.Condition f) = flat.OfStatus (condition_of f)
+flat_of (named.Condition f) = flat.OfStatus (condition_number f)
 flat_of (named.Timer n) = flat_number 1 n
 flat_of (named.Counter n) = flat_number 2 n
 flat_of (named.DataBlock di n) = flat_block di n
@@ -175,7 +175,7 @@ faulty_same {A = A} code read all n = by (slice_get all n)
     by (Some x) = refl
 
 -- a condition by its number in the code
-flag_same : (f : Flag) → flag_of (condition_of f) ≡ f
+flag_same : (f : Flag) → flag_of (condition_number f) ≡ f
 unfolding flag_of
 flag_same flag.Br = refl
 flag_same flag.Ov = refl

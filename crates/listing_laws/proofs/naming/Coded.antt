@@ -16,7 +16,7 @@ use Rattle.plc_base.specs.declared.places.Area.TheVariants as area
 use Rattle.plc_base.specs.declared.places.Place.{Place}
 use Rattle.plc_base.specs.declared.places.Width.{Width}
 use Rattle.flat_code.specs.Instr.{Calls, Does, Instr, Jumps, JumpsByList, Passing, Returns}
-use Rattle.flat_code.specs.OpCodes.{code_of}
+use Rattle.flat_code.specs.OpCodes.{op_code_of}
 use Rattle.flat_code.specs.Ops.{OpData}
 use Rattle.flat_code.specs.declared.kinds.JumpOperation.TheVariants as jump
 use Rattle.flat_code.specs.declared.kinds.JumpOperation.{JumpOperation}
@@ -297,7 +297,7 @@ OperandActs (flat.Called kind number instance) = ⊥
 OperandActs _ = Unit {0}
 
 abbrev IsCallTo : (how : CallOperation) (id : BlockId) (instance : Option ℕ) → List Passing → Type 0
-IsCallTo how id instance ps = IsCallBy (passing ps) (code_of (operation.Call how)) (kind_number id.kind) (instance_number instance)
+IsCallTo how id instance ps = IsCallBy (passing ps) (op_code_of (operation.Call how)) (kind_number id.kind) (instance_number instance)
 
 abbrev InstrIsNamed : Instr → Type 0
 InstrIsNamed (Does use_db w o) = OperandActs o
@@ -458,8 +458,8 @@ passing_prepares [] h = tt
 passing_prepares (p ∷ ps) (one, more) = (one, passing_prepares ps more)
 
 run_named : (f : ℕ → ℕ) (i : Instr) → InstrIsNamed i → RunIsNoBit (run_of f i)
-run_named f (Does None w o) h = record { prepares = tt; acts = aimed_acts f [] (code_of w) o h }
-run_named f (Does (Some n) w o) h = record { prepares = (tt, tt); acts = aimed_acts f _ (code_of w) o h }
+run_named f (Does None w o) h = record { prepares = tt; acts = aimed_acts f [] (op_code_of w) o h }
+run_named f (Does (Some n) w o) h = record { prepares = (tt, tt); acts = aimed_acts f _ (op_code_of w) o h }
 run_named f (Jumps how to) h = record { prepares = tt; acts = tt }
 run_named f (JumpsByList targets otherwise) h = record { prepares = tt; acts = tt }
 run_named f (Calls how id instance passings) h = record { prepares = passing_prepares passings h.1; acts = h.0 }

@@ -11,7 +11,7 @@ use Rattle.plc_base.specs.Kinds.{is_function_block}
 use Rattle.plc_base.specs.Widths.{width_number}
 use Rattle.plc_base.specs.declared.places.Width.TheVariants as width
 use Rattle.plc_base.specs.declared.blocks.BlockKind.{BlockKind}
-use Rattle.flat_code.specs.Blocks.{input, output, system_params}
+use Rattle.flat_code.specs.Blocks.{in_record, out_record, system_params}
 use Rattle.flat_code.specs.Image.{record_of_param}
 use Rattle.flat_code.specs.declared.image_fields.ParameterRecord.{ParameterRecord}
 use Rattle.flat_code.specs.declared.programs.Param.{Param}
@@ -513,12 +513,12 @@ formals_by a b c d e f g h i =
 
 abbrev params_by : (a b c d e f g h i : Bool) → Option (List ParameterRecord)
 params_by a b c d e f g h i =
-    if a then Some (input width.Word ∷ input width.Dword ∷ input width.Word ∷ output width.Word ∷ [])
-    else if b then Some (input width.Word ∷ output width.Word ∷ [])
-    else if c || d then Some (input width.Byte ∷ input width.Word ∷ output width.Word ∷ [])
-    else if e || f then Some (output width.Word ∷ [])
+    if a then Some (in_record width.Word ∷ in_record width.Dword ∷ in_record width.Word ∷ out_record width.Word ∷ [])
+    else if b then Some (in_record width.Word ∷ out_record width.Word ∷ [])
+    else if c || d then Some (in_record width.Byte ∷ in_record width.Word ∷ out_record width.Word ∷ [])
+    else if e || f then Some (out_record width.Word ∷ [])
     else if g || h then Some []
-    else if i then Some (output width.Dword ∷ [])
+    else if i then Some (out_record width.Dword ∷ [])
     else None
 
 record IsSystemBy (o : Option (List ParameterRecord)) (formals : List Formal) : Type 0 where
@@ -535,22 +535,22 @@ system_by : (a b c d e f g h i : Bool) (formals : List Formal)
     → IsSystemBy (params_by a b c d e f g h i) formals
 system_by true b c d e f g h i formals s =
     subst (λ (fs : List Formal). IsSystemBy (params_by true b c d e f g h i) fs) (some_list (ob_nr ∷ dtime ∷ sign ∷ returns simple.Int ∷ []) formals s)
-    (record { params = input width.Word ∷ input width.Dword ∷ input width.Word ∷ output width.Word ∷ []; is = refl; matched = ((refl, refl, refl), ((refl, refl, refl), ((refl, refl, refl), ((refl, refl, refl), tt)))); fresh = (refl, (refl, (refl, (refl, tt)))) })
+    (record { params = in_record width.Word ∷ in_record width.Dword ∷ in_record width.Word ∷ out_record width.Word ∷ []; is = refl; matched = ((refl, refl, refl), ((refl, refl, refl), ((refl, refl, refl), ((refl, refl, refl), tt)))); fresh = (refl, (refl, (refl, (refl, tt)))) })
 system_by false true c d e f g h i formals s =
     subst (λ (fs : List Formal). IsSystemBy (params_by false true c d e f g h i) fs) (some_list (ob_nr ∷ returns simple.Int ∷ []) formals s)
-    (record { params = input width.Word ∷ output width.Word ∷ []; is = refl; matched = ((refl, refl, refl), ((refl, refl, refl), tt)); fresh = (refl, (refl, tt)) })
+    (record { params = in_record width.Word ∷ out_record width.Word ∷ []; is = refl; matched = ((refl, refl, refl), ((refl, refl, refl), tt)); fresh = (refl, (refl, tt)) })
 system_by false false true d e f g h i formals s =
     subst (λ (fs : List Formal). IsSystemBy (params_by false false true d e f g h i) fs) (some_list (mode ∷ ob_nr ∷ returns simple.Int ∷ []) formals s)
-    (record { params = input width.Byte ∷ input width.Word ∷ output width.Word ∷ []; is = refl; matched = ((refl, refl, refl), ((refl, refl, refl), ((refl, refl, refl), tt))); fresh = (refl, (refl, (refl, tt))) })
+    (record { params = in_record width.Byte ∷ in_record width.Word ∷ out_record width.Word ∷ []; is = refl; matched = ((refl, refl, refl), ((refl, refl, refl), ((refl, refl, refl), tt))); fresh = (refl, (refl, (refl, tt))) })
 system_by false false false true e f g h i formals s =
     subst (λ (fs : List Formal). IsSystemBy (params_by false false false true e f g h i) fs) (some_list (mode ∷ ob_nr ∷ returns simple.Int ∷ []) formals s)
-    (record { params = input width.Byte ∷ input width.Word ∷ output width.Word ∷ []; is = refl; matched = ((refl, refl, refl), ((refl, refl, refl), ((refl, refl, refl), tt))); fresh = (refl, (refl, (refl, tt))) })
+    (record { params = in_record width.Byte ∷ in_record width.Word ∷ out_record width.Word ∷ []; is = refl; matched = ((refl, refl, refl), ((refl, refl, refl), ((refl, refl, refl), tt))); fresh = (refl, (refl, (refl, tt))) })
 system_by false false false false true f g h i formals s =
     subst (λ (fs : List Formal). IsSystemBy (params_by false false false false true f g h i) fs) (some_list (returns simple.Int ∷ []) formals s)
-    (record { params = output width.Word ∷ []; is = refl; matched = ((refl, refl, refl), tt); fresh = (refl, tt) })
+    (record { params = out_record width.Word ∷ []; is = refl; matched = ((refl, refl, refl), tt); fresh = (refl, tt) })
 system_by false false false false false true g h i formals s =
     subst (λ (fs : List Formal). IsSystemBy (params_by false false false false false true g h i) fs) (some_list (returns simple.Int ∷ []) formals s)
-    (record { params = output width.Word ∷ []; is = refl; matched = ((refl, refl, refl), tt); fresh = (refl, tt) })
+    (record { params = out_record width.Word ∷ []; is = refl; matched = ((refl, refl, refl), tt); fresh = (refl, tt) })
 system_by false false false false false false true h i formals s =
     subst (λ (fs : List Formal). IsSystemBy (params_by false false false false false false true h i) fs) (some_list [] formals s)
     (record { params = []; is = refl; matched = tt; fresh = tt })
@@ -559,7 +559,7 @@ system_by false false false false false false false true i formals s =
     (record { params = []; is = refl; matched = tt; fresh = tt })
 system_by false false false false false false false false true formals s =
     subst (λ (fs : List Formal). IsSystemBy (params_by false false false false false false false false true) fs) (some_list (returns simple.Time ∷ []) formals s)
-    (record { params = output width.Dword ∷ []; is = refl; matched = ((refl, refl, refl), tt); fresh = (refl, tt) })
+    (record { params = out_record width.Dword ∷ []; is = refl; matched = ((refl, refl, refl), tt); fresh = (refl, tt) })
 system_by false false false false false false false false false formals s = absurd cc
 
 pub system_matched : (n : ℕ) (formals : List Formal) → system_formals n ≡ Some formals

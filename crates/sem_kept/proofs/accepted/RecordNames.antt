@@ -15,7 +15,7 @@ use Rattle.plc_base.specs.declared.places.Place.{Place}
 use Rattle.plc_base.specs.declared.places.Width.{Width}
 use Rattle.plc_base.specs.declared.places.Width.TheVariants as width
 use Rattle.flat_code.specs.Checking.{good_names}
-use Rattle.flat_code.specs.Faults.{is_before, is_upper, ends_blank, lies_within, fault_of, name_fault}
+use Rattle.flat_code.specs.Faults.{is_earlier_name, is_upper, ends_blank, is_in_range, field_fault, name_fault}
 use Rattle.flat_code.specs.Image.{bytes_fit, name_record, name_rows, name_len, name_area, name_bit, width_field, plain_u16, name_of_entry, number_of_area, after_name}
 use Rattle.flat_code.specs.Layout.{is_fine}
 use Rattle.flat_code.specs.Programs.{NameEntry}
@@ -145,7 +145,7 @@ upper_is : (name : List ℕ) → is_upper (upper_case_name name) ≡ true
 upper_is [] = refl
 upper_is (b ∷ bs) = and_from _ _ (here b) (upper_is bs)
   where
-    here : (b : ℕ) → not (lies_within 97 122 (to_ascii_uppercase b)) ≡ true
+    here : (b : ℕ) → not (is_in_range 97 122 (to_ascii_uppercase b)) ≡ true
     here b = grind (arith, nat_tests)
 
 upper_ends : (name : List ℕ) → ends_blank (upper_case_name name) ≡ ends_blank name
@@ -191,23 +191,23 @@ entries_of (s ∷ symbols) h =
 -- ---- their order
 
 -- of two names neither comes first only where they are the same
-alike : (a b : List ℕ) → is_before a b ≡ false → is_before b a ≡ false → a ≡ b
+alike : (a b : List ℕ) → is_earlier_name a b ≡ false → is_earlier_name b a ≡ false → a ≡ b
 alike [] [] h k = refl
 alike [] (y ∷ ys) h k = absurd cc
 alike (x ∷ xs) [] h k = absurd cc
 alike (x ∷ xs) (y ∷ ys) h k =
     let same : x ≡ y = grind (arith, nat_tests) in
-    let less : is_before xs ys ≡ false = behind x y (is_before xs ys) same h in
-    let more : is_before ys xs ≡ false = behind y x (is_before ys xs) (sym same) k in
+    let less : is_earlier_name xs ys ≡ false = behind x y (is_earlier_name xs ys) same h in
+    let more : is_earlier_name ys xs ≡ false = behind y x (is_earlier_name ys xs) (sym same) k in
     let rest : xs ≡ ys = alike xs ys less more in cc
   where
     behind : (x y : ℕ) (t : Bool) → x ≡ y → (ltb x y || eqb x y && t) ≡ false → t ≡ false
     behind x y t same h = grind (arith, nat_tests)
 
-apart_names : (a b : List ℕ) → bytes_eq b a ≡ false → (is_before a b || is_before b a) ≡ true
-apart_names a b other = by (is_before a b) (is_before b a) refl refl
+apart_names : (a b : List ℕ) → bytes_eq b a ≡ false → (is_earlier_name a b || is_earlier_name b a) ≡ true
+apart_names a b other = by (is_earlier_name a b) (is_earlier_name b a) refl refl
   where
-    by : (p q : Bool) → is_before a b ≡ p → is_before b a ≡ q → (p || q) ≡ true
+    by : (p q : Bool) → is_earlier_name a b ≡ p → is_earlier_name b a ≡ q → (p || q) ≡ true
     by true q e f = refl
     by false true e f = refl
     by false false e f =
@@ -267,11 +267,11 @@ entries_apart (s ∷ symbols) h = by s.target (entries_apart symbols h.1)
 -- ---- the fields of a record
 
 len_good : (n : ℕ) → 1 ≤ n → n ≤ 24 → name_len.good n ≡ true
-unfolding name_len fault_of
+unfolding name_len field_fault
 len_good n some few = grind (arith, nat_tests)
 
 area_good : (number : ℕ) (a : Area) → number ≡ 0 → has_name a ≡ true → name_area.good (number_of_area number a) ≡ true
-unfolding name_area fault_of
+unfolding name_area field_fault
 area_good zero area.I none h = refl
 area_good zero area.Q none h = refl
 area_good zero area.M none h = refl
@@ -282,7 +282,7 @@ area_good zero area.L none h = absurd cc
 area_good (suc n) a none h = absurd (omega (arith, none))
 
 pub width_good : (w : Width) → width_field.good (width_number w) ≡ true
-unfolding width_field fault_of
+unfolding width_field field_fault
 width_good width.Bit = refl
 width_good width.Byte = refl
 width_good width.Word = refl
@@ -293,7 +293,7 @@ unfolding plain_u16
 word_good n low = and_from _ _ (lt-ltb n 65536 low) refl
 
 bit_good : (w n : ℕ) → n ≤ 7 → (eqb w 1 || eqb n 0) ≡ true → (name_bit w).good n ≡ true
-unfolding name_bit fault_of
+unfolding name_bit field_fault
 bit_good w n few whole = grind (arith, nat_tests)
 
 fine : (a b c : Bool) → a ≡ true → b ≡ true → c ≡ false → (a && b && not c) ≡ true
@@ -302,12 +302,12 @@ fine true true true h k l = absurd cc
 fine true false c h k l = absurd cc
 fine false b c h k l = absurd cc
 
-text_right : (before : List ℕ) (e : NameEntry) → IsEntry e → is_before before e.name ≡ true
+text_right : (before : List ℕ) (e : NameEntry) → IsEntry e → is_earlier_name before e.name ≡ true
     → is_fine (name_fault before e.name) ≡ true
 unfolding name_fault
-text_right before e h rises = rw (fine (is_before before e.name) (is_upper e.name) (ends_blank e.name) rises h.upper h.ends) refl
+text_right before e h rises = rw (fine (is_earlier_name before e.name) (is_upper e.name) (ends_blank e.name) rises h.upper h.ends) refl
 
-entry_good : (before : List ℕ) (e : NameEntry) → IsEntry e → is_before before e.name ≡ true
+entry_good : (before : List ℕ) (e : NameEntry) → IsEntry e → is_earlier_name before e.name ≡ true
     → (name_record before).good (name_of_entry e) ≡ true
 unfolding name_record name_rows
 entry_good before e h rises =
@@ -317,7 +317,7 @@ entry_good before e h rises =
     (and_from _ _ (width_good e.width)
     (and_from _ _ (word_good e.place.byte h.place.byte) (bit_good (width_number e.width) e.place.bit h.place.bit h.place.whole)))))
 
-first_name : (name : List ℕ) → 1 ≤ length name → is_before [] name ≡ true
+first_name : (name : List ℕ) → 1 ≤ length name → is_earlier_name [] name ≡ true
 first_name [] some = absurd (omega (arith, some))
 first_name (b ∷ bs) some = refl
 

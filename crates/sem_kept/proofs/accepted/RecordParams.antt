@@ -56,8 +56,8 @@ use Rattle.block_layout.specs.declared.cells.Element.TheVariants as element
 use Rattle.block_layout.specs.Sizes.{largest}
 use Rattle.block_layout.specs.declared.members.Member.{Member}
 use Rattle.flat_code.specs.Checking.{good_params}
-use Rattle.flat_code.specs.Faults.{fault_of}
-use Rattle.flat_code.specs.Image.{parameter, parameter_bit, parameter_byte, parameter_rows, record_of_param, section_field}
+use Rattle.flat_code.specs.Faults.{field_fault}
+use Rattle.flat_code.specs.Image.{parameter_layout, parameter_bit, parameter_byte, parameter_rows, record_of_param, section_field}
 use Rattle.flat_code.specs.declared.programs.Param.{Param}
 use Rattle.flat_code.proofs.CheckLemmas.{zero_byte_good}
 use Rattle.stl_codegen.specs.Generated.{instance_len, offset_named, param_here, param_of, params_of, section_number}
@@ -598,24 +598,24 @@ record IsGood (kind instance : ℕ) (p : Param) : Type 0 where
   whole : (eqb kind 3 || eqb p.bit 0) ≡ true
 
 section_good : (n : ℕ) → 1 ≤ n → n ≤ 3 → section_field.good n ≡ true
-unfolding section_field fault_of
+unfolding section_field field_fault
 section_good n low high = grind (arith, nat_tests)
 
 byte_good : (kind instance : ℕ) (w : Width) (byte : ℕ) → byte < 65536
     → (if eqb kind 3 then leb (byte + byte_count w) instance else eqb byte 0) ≡ true
     → (parameter_byte kind instance (width_number w)).good byte ≡ true
-unfolding parameter_byte fault_of
+unfolding parameter_byte field_fault
 byte_good kind instance width.Bit byte near h = and_from _ _ (lt-ltb byte 65536 near) (rw h refl)
 byte_good kind instance width.Byte byte near h = and_from _ _ (lt-ltb byte 65536 near) (rw h refl)
 byte_good kind instance width.Word byte near h = and_from _ _ (lt-ltb byte 65536 near) (rw h refl)
 byte_good kind instance width.Dword byte near h = and_from _ _ (lt-ltb byte 65536 near) (rw h refl)
 
 bit_good : (kind bit : ℕ) → bit ≤ 7 → (eqb kind 3 || eqb bit 0) ≡ true → (parameter_bit kind).good bit ≡ true
-unfolding parameter_bit fault_of
+unfolding parameter_bit field_fault
 bit_good kind bit few whole = grind (arith, nat_tests)
 
-param_good : (kind instance : ℕ) (p : Param) → IsGood kind instance p → (parameter kind instance).good (record_of_param p) ≡ true
-unfolding parameter parameter_rows
+param_good : (kind instance : ℕ) (p : Param) → IsGood kind instance p → (parameter_layout kind instance).good (record_of_param p) ≡ true
+unfolding parameter_layout parameter_rows
 param_good kind instance p h =
     and_from _ _ (section_good p.section h.low h.high)
     (and_from _ _ (width_good p.width)
