@@ -6,7 +6,7 @@ use Rattle.s7_cli.specs.Says.{RefusedProgram}
 use Rattle.s7_cli.specs.Texts.{symbols_of}
 use Rattle.s7_cli.specs.Translating.{IsSourceImage}
 use Rattle.s7_cli.proofs.SaysLemmas.{program-refused}
-use Rattle.s7_cli.proofs.judging.judge_image.Goals as goal
+use Rattle.s7_cli.proofs.command_checks.check_image.Goals as goal
 
 pub returns-then-german-clause-keeps : goal.returns-then-german-clause-keeps
 returns-then-german-clause-keeps c =

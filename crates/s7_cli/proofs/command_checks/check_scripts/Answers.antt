@@ -3,7 +3,7 @@ use Rattle.plc_base.proofs.ListLemmas.{drop_next}
 use Rattle.var_access.specs.declared.Entry.{Entry}
 use Rattle.event_text.specs.Texts.{script_of}
 use Rattle.s7_cli.proofs.LiveLemmas.{judged-next, map-behind}
-use Rattle.s7_cli.proofs.judging.judge_scripts.Goals as goal
+use Rattle.s7_cli.proofs.command_checks.check_scripts.Goals as goal
 
 abbrev bytes_of : Vec ℕ Global → List ℕ
 bytes_of v = v.items

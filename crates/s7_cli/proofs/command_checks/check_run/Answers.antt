@@ -6,7 +6,7 @@ use Rattle.var_access.specs.History.{History}
 use Rattle.event_text.specs.TextFault.{IsTextFault}
 use Rattle.event_text.specs.Texts.{history_of}
 use Rattle.s7_cli.proofs.SaysLemmas.{image-refused, run-refused}
-use Rattle.s7_cli.proofs.judging.judge_run.Goals as goal
+use Rattle.s7_cli.proofs.command_checks.check_run.Goals as goal
 
 pub returns-in_err-program-clause-refused : goal.returns-in_err-program-clause-refused
 returns-in_err-program-clause-refused c =

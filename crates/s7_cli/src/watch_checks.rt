@@ -7,7 +7,7 @@ ghost use Rattle.s7_cli.specs.WatchTexts.{FindsWatch, IsWatchText, TellsVars, Wa
 ghost use Rattle.s7_cli.specs.Watching.{reading};
 
 use crate::failures::{Failure, File, failure_of_text};
-use crate::judging::{judge_scripts, loaded};
+use crate::command_checks::{check_scripts, loaded};
 use crate::watch_files::WatchText;
 use event_text::{read_stimuli, read_vars};
 use flat_code::Names;
@@ -25,7 +25,7 @@ pub struct WatchWork {
 }
 
 /// Checks the variables of a watch, with the names of a program.
-fn judge_vars(bytes: &[u8], names: &Names) -> Result<Vars, Failure>
+fn check_vars(bytes: &[u8], names: &Names) -> Result<Vars, Failure>
     requires { length bytes.now ≤ 1048576 }
     ensures spells { IfOk result (λ vars. vars_of names.now bytes.now ≡ Ok vars) }
     ensures regular { IfOk result (λ vars. IsRegularOf 6 (reading 6 vars)) }
@@ -42,7 +42,7 @@ fn judge_vars(bytes: &[u8], names: &Names) -> Result<Vars, Failure>
 
 /// Checks an image, then stimuli, the variables, and the scripts in their order; variables and
 /// scripts may name those whose names stand in the image.
-pub fn judge_watch(alloc: Global, text: &WatchText) -> Result<WatchWork, Failure>
+pub fn check_watch(alloc: Global, text: &WatchText) -> Result<WatchWork, Failure>
     requires { IsWatchText text.now }
     ensures finds { IfOk result (λ w. FindsWatch text.now w.program w.stimuli.items w.vars
         (map (λ x. x.items) w.scripts.items)) }
@@ -53,8 +53,8 @@ pub fn judge_watch(alloc: Global, text: &WatchText) -> Result<WatchWork, Failure
         Ok(entries) => entries,
         Err(fault) => return Err(failure_of_text(File::Stimuli, fault)),
     };
-    let vars = judge_vars(&text.vars, program.names())?;
-    let scripts = judge_scripts(alloc, &text.scripts, program.names())?;
+    let vars = check_vars(&text.vars, program.names())?;
+    let scripts = check_scripts(alloc, &text.scripts, program.names())?;
     Ok(WatchWork {
         program,
         stimuli,

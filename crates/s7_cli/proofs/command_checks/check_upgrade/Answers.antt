@@ -1,7 +1,7 @@
 use Rattle.std.proofs.Common.{◌∙◌, ap, ℕ, Vec, Global, Err}
 use Rattle.std.proofs.lemmas.Result.{err_from_is_err_and}
 use Rattle.s7_cli.proofs.UpgradeLemmas.{upgrade-refused}
-use Rattle.s7_cli.proofs.judging.judge_upgrade.Goals as goal
+use Rattle.s7_cli.proofs.command_checks.check_upgrade.Goals as goal
 
 pub returns-in_err-loaded-clause-refused : goal.returns-in_err-loaded-clause-refused
 returns-in_err-loaded-clause-refused c =

@@ -2,7 +2,7 @@ use Rattle.std.proofs.Common.{◌∙◌, ap, Err}
 use Rattle.std.proofs.lemmas.Result.{err_from_is_err_and}
 use Rattle.s7_cli.specs.declared.bound_command.Told.{Told}
 use Rattle.s7_cli.proofs.BoundLemmas.{bound-refused}
-use Rattle.s7_cli.proofs.bound_command.judge_bound.Goals as goal
+use Rattle.s7_cli.proofs.bound_command.check_bound.Goals as goal
 
 pub returns-in_err-loaded-clause-refused : goal.returns-in_err-loaded-clause-refused
 returns-in_err-loaded-clause-refused c =

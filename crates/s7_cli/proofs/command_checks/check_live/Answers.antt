@@ -5,13 +5,13 @@ use Rattle.flat_code.specs.Programs.{NameEntry}
 use Rattle.image_file.specs.Refusing.{IsLoadError}
 use Rattle.event_text.specs.TextFault.{IsTextFault}
 use Rattle.event_text.specs.Texts.{stimuli_of}
-use Rattle.s7_cli.specs.declared.judging.LiveWork.{LiveWork}
+use Rattle.s7_cli.specs.declared.command_checks.LiveWork.{LiveWork}
 use Rattle.s7_cli.specs.LiveSays.{scripts_from}
 use Rattle.s7_cli.specs.LiveTexts.{TellsScript, scripts_of}
 use Rattle.s7_cli.specs.Loads.{LoadsAs}
 use Rattle.s7_cli.proofs.LiveLemmas.{live-image-refused, scripts-refused, stimuli-refused}
 use Rattle.s7_cli.proofs.PassLemmas.{length_items}
-use Rattle.s7_cli.proofs.judging.judge_live.Goals as goal
+use Rattle.s7_cli.proofs.command_checks.check_live.Goals as goal
 
 abbrev all_bytes : List (Vec ℕ Global) → List (List ℕ)
 all_bytes texts = map (λ t. t.items) texts

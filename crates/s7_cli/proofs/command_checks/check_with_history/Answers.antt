@@ -10,7 +10,7 @@ use Rattle.s7_cli.specs.Says.{GoSays, RefusedProgram}
 use Rattle.s7_cli.specs.Texts.{symbols_of}
 use Rattle.s7_cli.proofs.RefusedLemmas.{refused-more}
 use Rattle.s7_cli.proofs.SaysLemmas.{history-refused, refused-goes}
-use Rattle.s7_cli.proofs.judging.judge.Goals as goal
+use Rattle.s7_cli.proofs.command_checks.check_with_history.Goals as goal
 
 pub returns-in_err-program-clause-refused : goal.returns-in_err-program-clause-refused
 returns-in_err-program-clause-refused c =

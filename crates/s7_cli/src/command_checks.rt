@@ -29,7 +29,7 @@ use std::alloc::Global;
 use var_access::{Entries, Entry};
 
 /// Checks a source with its symbols, which are German where `german` says so.
-pub fn judge_program(alloc: Global, text: &ProgramText, german: bool) -> Result<(), Failure>
+pub fn check_program(alloc: Global, text: &ProgramText, german: bool) -> Result<(), Failure>
     requires { IsWithin text.now }
     ensures accepted { IfOk result
         (λ done. HasProgramOf german text.now.source.items (symbols_of text.now)) }
@@ -43,7 +43,7 @@ pub fn judge_program(alloc: Global, text: &ProgramText, german: bool) -> Result<
 }
 
 /// Checks a source with its symbols, and makes the image of its program.
-pub fn judge_image(alloc: Global, text: &ProgramText, german: bool) -> Result<Vec<u8>, Failure>
+pub fn check_image(alloc: Global, text: &ProgramText, german: bool) -> Result<Vec<u8>, Failure>
     requires { IsWithin text.now }
     ensures keeps { IfOk result
         (λ v. IsSourceImage german v.items text.now.source.items (symbols_of text.now)) }
@@ -57,7 +57,7 @@ pub fn judge_image(alloc: Global, text: &ProgramText, german: bool) -> Result<Ve
 }
 
 /// The loaded program of a source with its symbols.
-fn judge_loaded(alloc: Global, text: &ProgramText, german: bool) -> Result<Loaded, Failure>
+fn check_loaded(alloc: Global, text: &ProgramText, german: bool) -> Result<Loaded, Failure>
     requires { IsWithin text.now }
     ensures keeps { IfOk result
         (λ l. KeepsText german text.now.source.items (symbols_of text.now) l.program) }
@@ -72,7 +72,7 @@ fn judge_loaded(alloc: Global, text: &ProgramText, german: bool) -> Result<Loade
 }
 
 /// Checks a source with its symbols, and then a history, which may name the symbols' variables.
-pub fn judge(
+pub fn check_with_history(
     alloc: Global,
     text: &ProgramText,
     german: bool,
@@ -90,7 +90,7 @@ pub fn judge(
     ensures refused { RefusedBy
         (GoSays german text.now.source.items (symbols_of text.now) history.now) result }
 {
-    let program = judge_loaded(alloc, text, german)?;
+    let program = check_loaded(alloc, text, german)?;
     let entries = read_history(alloc, history, program.names())?;
     Ok((program, entries))
 }
@@ -105,7 +105,7 @@ pub(crate) fn loaded(alloc: Global, image: &[u8]) -> Result<Loaded, LoadError>
 }
 
 /// Checks an image, and then a history, which may name the variables whose names stand in it.
-pub fn judge_run(alloc: Global, image: &[u8], history: &[u8]) -> Result<(Loaded, Entries), Failure>
+pub fn check_run(alloc: Global, image: &[u8], history: &[u8]) -> Result<(Loaded, Entries), Failure>
     requires { length history.now ≤ 4194304 }
     ensures loads { IfOk result (λ v. LoadsAs image.now (Ok v.0)) }
     ensures spells { IfOk result
@@ -128,7 +128,7 @@ fn image_again(alloc: Global, loaded: &Loaded) -> Result<Vec<u8>, NoMemory>
 }
 
 /// Checks an image, and makes the image of version 2 of its program, names and profile.
-pub fn judge_upgrade(alloc: Global, image: &[u8]) -> Result<Vec<u8>, Failure>
+pub fn check_upgrade(alloc: Global, image: &[u8]) -> Result<Vec<u8>, Failure>
     ensures upgrades { IfOk result (λ v. IsUpgraded v.items image.now) }
     ensures refused { RefusedBy (UpgradeSays image.now) result }
 {
@@ -145,7 +145,7 @@ pub struct LiveWork {
 }
 
 /// Checks the scripts of operators, in their order.
-pub(crate) fn judge_scripts(
+pub(crate) fn check_scripts(
     alloc: Global,
     texts: &[Vec<u8>],
     names: &Names,
@@ -173,7 +173,7 @@ pub(crate) fn judge_scripts(
 
 /// Checks an image, then stimuli, and then the scripts in their order, which may name the variables
 /// whose names stand in the image.
-pub fn judge_live(alloc: Global, text: &LiveText) -> Result<LiveWork, Failure>
+pub fn check_live(alloc: Global, text: &LiveText) -> Result<LiveWork, Failure>
     requires { IsLiveText text.now }
     ensures finds { IfOk result (λ w. Finds text.now w.program w.stimuli.items
         (map (λ x. x.items) w.scripts.items)) }
@@ -184,7 +184,7 @@ pub fn judge_live(alloc: Global, text: &LiveText) -> Result<LiveWork, Failure>
         Ok(entries) => entries,
         Err(fault) => return Err(failure_of_text(File::Stimuli, fault)),
     };
-    let scripts = judge_scripts(alloc, &text.scripts, program.names())?;
+    let scripts = check_scripts(alloc, &text.scripts, program.names())?;
     Ok(LiveWork {
         program,
         stimuli,

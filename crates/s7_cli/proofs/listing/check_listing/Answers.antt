@@ -2,7 +2,7 @@ use Rattle.std.proofs.Common.{◌∙◌, ap, Err}
 use Rattle.std.proofs.lemmas.Result.{IfOk-weaker, err_from_is_err_and}
 use Rattle.stl_list.specs.declared.listing.Listing.{Listing}
 use Rattle.s7_cli.proofs.ListLemmas.{list-refused, listing-refused}
-use Rattle.s7_cli.proofs.listing.judge_listing.Goals as goal
+use Rattle.s7_cli.proofs.listing.check_listing.Goals as goal
 
 pub returns-in_err-loaded-clause-refused : goal.returns-in_err-loaded-clause-refused
 returns-in_err-loaded-clause-refused c =

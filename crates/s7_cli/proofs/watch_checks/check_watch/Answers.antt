@@ -6,14 +6,14 @@ use Rattle.image_file.specs.Refusing.{IsLoadError}
 use Rattle.event_text.specs.TextFault.{IsTextFault}
 use Rattle.event_text.specs.Texts.{stimuli_of}
 use Rattle.event_text.specs.WatchedVars.{vars_of}
-use Rattle.s7_cli.specs.declared.watch_judging.WatchWork.{WatchWork}
+use Rattle.s7_cli.specs.declared.watch_checks.WatchWork.{WatchWork}
 use Rattle.s7_cli.specs.LiveSays.{scripts_from}
 use Rattle.s7_cli.specs.LiveTexts.{TellsScript}
 use Rattle.s7_cli.specs.Loads.{LoadsAs}
 use Rattle.s7_cli.specs.WatchTexts.{watch_scripts}
 use Rattle.s7_cli.proofs.PassLemmas.{length_items}
 use Rattle.s7_cli.proofs.WatchTextLemmas.{watch-image-refused, watch-scripts-refused, watch-stimuli-refused, watch-vars-refused}
-use Rattle.s7_cli.proofs.watch_judging.judge_watch.Goals as goal
+use Rattle.s7_cli.proofs.watch_checks.check_watch.Goals as goal
 
 abbrev all_bytes : List (Vec ℕ Global) → List (List ℕ)
 all_bytes texts = map (λ t. t.items) texts

@@ -3,7 +3,7 @@ use Rattle.std.proofs.lemmas.Result.{err_from_is_err_and}
 use Rattle.stack_bound.specs.CertificateText.{Spells}
 use Rattle.stack_bound.specs.declared.certificates.Bound.{Bound}
 use Rattle.s7_cli.proofs.BoundLemmas.{certificate-refused, no-said, recheck-refused}
-use Rattle.s7_cli.proofs.recheck_command.judge_recheck.Goals as goal
+use Rattle.s7_cli.proofs.recheck_command.check_recheck.Goals as goal
 
 pub returns-in_err-loaded-clause-refused : goal.returns-in_err-loaded-clause-refused
 returns-in_err-loaded-clause-refused c =

@@ -6,7 +6,7 @@ use Rattle.s7_cli.specs.Says.{RefusedProgram}
 use Rattle.s7_cli.specs.Texts.{symbols_of}
 use Rattle.s7_cli.specs.Translating.{HasProgramOf}
 use Rattle.s7_cli.proofs.SaysLemmas.{program-refused}
-use Rattle.s7_cli.proofs.judging.judge_program.Goals as goal
+use Rattle.s7_cli.proofs.command_checks.check_program.Goals as goal
 
 pub returns-then-german-clause-accepted : goal.returns-then-german-clause-accepted
 returns-then-german-clause-accepted c =

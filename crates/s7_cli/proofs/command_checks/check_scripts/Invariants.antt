@@ -1,6 +1,6 @@
 use Rattle.std.proofs.Common.{◌+◌, drop, map}
 use Rattle.s7_cli.proofs.LiveLemmas.{AreJudged}
-use Rattle.s7_cli.proofs.judging.judge_scripts.Given as goal
+use Rattle.s7_cli.proofs.command_checks.check_scripts.Given as goal
 
 -- the scripts so far are right
 abbrev pub invariant-loop-place : goal.invariant-loop-place
