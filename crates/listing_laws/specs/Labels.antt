@@ -44,11 +44,13 @@ abbrev pub AreJumpWordsFound : Type 0
 AreJumpWordsFound =
     (m : Mnemonic) (how : JumpOperation) → jump_of m ≡ Some how → jump_word (jump_number how) ≡ m
 
+-- the word of each call is found by its op code
 abbrev pub AreCallWordsFound : Type 0
 AreCallWordsFound =
     (m : Mnemonic) (how : CallOperation) → call_of m ≡ Some how
     → word_of (op_code_of (operation.Call how)) ≡ m
 
+-- and so is that of each block end
 abbrev pub AreEndWordsFound : Type 0
 AreEndWordsFound =
     (m : Mnemonic) (how : EndOperation) → end_of m ≡ Some how

@@ -99,11 +99,13 @@ pub record BreaksNone (c : Context) (callee : Callee) (s : Statement) : Type 0 w
   pub by_37 : AllByRecursion
       (λ (a : Actual). misfits c a (formal_named callee.formals a.name) ≡ false) s.actuals
 
+-- what a listed call passes breaks no rule of actual parameters
 abbrev pub AreActualsRight : Type 0
 AreActualsRight =
     (c : Context) (own called : List Formal) (callee : Callee) (ps : List Passing) (s : Statement)
     → IsListedCall c own called callee ps s → BreaksNone c callee s
 
+-- a listed call passes each parameter that it must
 abbrev pub AreCallsComplete : Type 0
 AreCallsComplete =
     (c : Context) (own called : List Formal) (callee : Callee) (ps : List Passing) (s : Statement)

@@ -35,6 +35,7 @@ AreStartsFound =
     (statements : List Stated) (n : ℕ) → n < length statements
     → slice_get (starts (code_in statements)) n ≡ Some (offset_in statements n)
 
+-- the statements of the code are found one for one
 abbrev pub IsCountFound : Type 0
 IsCountFound = (statements : List Stated) → length (starts (code_in statements)) ≡ length statements
 

@@ -55,6 +55,7 @@ abbrev pub name_if_plain : Element → List ℕ → List (List ℕ)
 name_if_plain (element.Plain kind) name = name ∷ []
 name_if_plain _ name = []
 
+-- the name of a parameter that a call passes, if it is declared so
 abbrev pub parameter_name : Cell → List (List ℕ)
 parameter_name cell =
     if is_passed_by_call cell.section then name_if_plain cell.of cell.name else []
@@ -109,6 +110,7 @@ if_passable (named.PlaceIn block w byte bit) = Some (named.PlaceIn block w byte 
 if_passable (named.Parameter index w) = Some (named.Parameter index w)
 if_passable _ = None
 
+-- the place or value that is passed, if it may be
 abbrev pub named_in_call : Context → Option Actual → Option Named
 named_in_call c None = None
 named_in_call c (Some a) = option_and_then if_passable (named_by c a.value)
@@ -120,6 +122,7 @@ abbrev pub binding_if : Access → Location → Option ℕ → Result Binding �
 binding_if access b None = Err (no_place access b.place.area)
 binding_if access b (Some n) = Ok (binding.Bound b.place b.width b.frame)
 
+-- what a parameter stands for that is passed a place
 abbrev pub binding_at : Access → Location → ExecState → Result Binding ℕ
 binding_at access b p = binding_if access b (number_at_bound b.place.area b p)
 

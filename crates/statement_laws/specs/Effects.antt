@@ -53,6 +53,7 @@ use Rattle.statement_laws.specs.Reading.{bcd_to_load, bit_of_operand, bits, numb
 abbrev pub regs : ExecState → Regs
 regs p = p.local.regs
 
+-- other registers; all else stays
 abbrev pub with_regs : Regs → ExecState → ExecState
 with_regs r p = record p { local = record p.local { regs = r } }
 
@@ -68,9 +69,11 @@ with_inner i p = record p { local = record p.local { inner = i } }
 abbrev pub rlo : ExecState → Bool
 rlo p = (regs p).status.rlo
 
+-- the master control relay is active, and its last zone has the value 0
 abbrev pub is_relay_closed : ExecState → Bool
 is_relay_closed p = is_zone_closed p.local.inner.relay
 
+-- the power flow: RLO, but 0 while the master control relay is closed
 abbrev pub flow : ExecState → Bool
 flow p = rlo p && not (is_relay_closed p)
 
@@ -93,6 +96,7 @@ checks_or x p = checks check.O x p
 abbrev pub with_brackets : List Bracket → ExecState → ExecState
 with_brackets brackets p = with_inner (record p.local.inner { brackets = brackets }) p
 
+-- A( to XN(: a bracket opens; none is an eighth
 abbrev pub opens_bracket : Check → ExecState → Result ExecState ℕ
 opens_bracket with p =
     if length p.local.inner.brackets == 7 then Err 0
@@ -103,6 +107,7 @@ abbrev pub closes_one : List Bracket → ExecState → Result ExecState ℕ
 closes_one [] p = Err 0
 closes_one (bracket ∷ rest) p = on_regs (closed bracket) (with_brackets rest p)
 
+-- ): the innermost bracket closes
 abbrev pub closes_bracket : ExecState → Result ExecState ℕ
 closes_bracket p = closes_one p.local.inner.brackets p
 
@@ -129,6 +134,7 @@ abbrev pub bit_after : (flow value before : Bool) → Bool
 bit_after true value before = value
 bit_after false value before = before
 
+-- S and R: the bit takes the value, where power flows
 abbrev pub sets_bit : (value : Bool) → Named → ExecState → Result ExecState ℕ
 sets_bit value x p =
     then_ok (place_of_operand Writing x p) (λ b.
@@ -144,6 +150,7 @@ tells_edge rising x p =
 
 -- ---- the master control relay
 
+-- another state of the master control relay; all else stays
 abbrev pub with_relay : Relay → ExecState → ExecState
 with_relay r p = with_inner (record p.local.inner { relay = r }) p
 
@@ -163,6 +170,7 @@ ends_zone_of [] p = Err 0
 ends_zone_of (value ∷ around) p =
     on_regs (stored true) (with_relay (zone_ended p.local.inner.relay) p)
 
+-- )MCR: the last zone ends
 abbrev pub ends_zone : ExecState → Result ExecState ℕ
 ends_zone p = ends_zone_of p.local.inner.relay.zones p
 
@@ -177,6 +185,7 @@ abbrev pub length_of : Option (List ℕ) → ℕ
 length_of None = 0
 length_of (Some bytes) = length bytes % 2 ^ 32
 
+-- the length of the open data block; 0 where none is open
 abbrev pub open_length : Option ℕ → Areas → ℕ
 open_length None m = 0
 open_length (Some n) m = length_of (map.get m.data_blocks n)
@@ -209,9 +218,11 @@ transfers x p = puts (if is_relay_closed p then 0 else (regs p).a1) x p
 
 -- ---- address registers
 
+-- another address in address register 1
 abbrev pub with_ar1 : ℕ → ExecState → ExecState
 with_ar1 n p = with_regs (record (regs p) { ar1 = n }) p
 
+-- another address in address register 2
 abbrev pub with_ar2 : ℕ → ExecState → ExecState
 with_ar2 n p = with_regs (record (regs p) { ar2 = n }) p
 
@@ -220,10 +231,12 @@ abbrev pub address_to_load : Named → ExecState → Result ℕ ℕ
 address_to_load named.Nothing p = Ok (regs p).a1
 address_to_load x p = number_of_operand x p
 
+-- LAR1, with address register 2 too
 abbrev pub loads_ar1 : Named → ExecState → Result ExecState ℕ
 loads_ar1 named.SecondRegister p = Ok (with_ar1 (regs p).ar2 p)
 loads_ar1 x p = then_ok (address_to_load x p) (λ n. Ok (with_ar1 n p))
 
+-- LAR2
 abbrev pub loads_ar2 : Named → ExecState → Result ExecState ℕ
 loads_ar2 x p = then_ok (address_to_load x p) (λ n. Ok (with_ar2 n p))
 
@@ -232,6 +245,7 @@ abbrev pub puts_address : ℕ → Named → ExecState → Result ExecState ℕ
 puts_address n named.Nothing p = on_regs (with_loaded n) p
 puts_address n x p = puts n x p
 
+-- TAR1, to address register 2 too
 abbrev pub stores_ar1 : Named → ExecState → Result ExecState ℕ
 stores_ar1 named.SecondRegister p = Ok (with_ar2 (regs p).ar1 p)
 stores_ar1 x p = puts_address (regs p).ar1 x p
@@ -297,6 +311,7 @@ on_timer f n p =
     then_ok (or_error 0x26 (change_at_number f p.timers which)) (λ all.
     on_regs string_ended (record p { timers = all })))
 
+-- an instruction on the counter of a number; 27 where there is none
 abbrev pub on_counter : (counters.Counter → Option counters.Counter) → Number → ExecState → Result ExecState ℕ
 on_counter f n p =
     then_ok (number_of_item n p) (λ which.

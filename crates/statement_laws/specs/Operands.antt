@@ -116,6 +116,7 @@ abbrev pub has_result : Option Block → Bool
 has_result None = false
 has_result (Some b) = is_some b.result
 
+-- the block is a function
 abbrev pub is_fc : Option Block → Bool
 is_fc None = false
 is_fc (Some b) = is_function b.kind
@@ -148,6 +149,7 @@ variable_by c name steps (Some m) =
     if is_fc (slice_get c.blocks c.block) then parameter_named c m.place steps
     else place_in_layout (variable c.layouts area.Di c.block false (step.Named name ∷ steps))
 
+-- the variable of the block that a name means, by its steps
 abbrev pub variable_named : Context → List ℕ → List PathStep → Option Named
 variable_named c name steps = variable_by c name steps (component 0 0 0 name (components_of_block c))
 

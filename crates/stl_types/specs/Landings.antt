@@ -44,6 +44,7 @@ pub record Landing : Type 0 where
 abbrev pub functions_of : List Bracket → List ℕ
 functions_of brackets = map (λ b. b.function) (take 8 brackets)
 
+-- what stands open: the functions of the brackets, and how many zones
 abbrev pub landing_of : Nesting → Landing
 landing_of n = record { functions = functions_of n.brackets; zones = length n.zones }
 
