@@ -12,7 +12,7 @@ ghost use Rattle.controller.specs.Views.{cpu_state};
 use crate::cpus::Cpu;
 use crate::stopping::is_stop;
 use image_file::Loaded;
-use ob_sched::{TickResult, StartEvent, StartInfo, class_in};
+use ob_sched::{StartEvent, StartInfo, TickResult, class_in};
 
 impl Cpu {
     // The records of the scheduler, and the stop that it came to.

@@ -12,9 +12,9 @@ ghost use Rattle.image_file.specs.Verifying.{are_whole, count_faults, faults_of_
 ghost use Rattle.image_file.specs.Writing.{BlockFitsFields};
 
 use crate::blocks::end_mark_count;
+use crate::checking::lesser_if;
 use crate::codes::{count_behind, is_end};
 use crate::faults::{LoadFault, VerifyFault};
-use crate::checking::lesser_if;
 use crate::loaded::Loaded;
 use crate::loading::lens_of;
 use crate::refusing::VerifyError;

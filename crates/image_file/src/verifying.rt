@@ -8,11 +8,11 @@ ghost use Rattle.image_file.specs.OpChecking.{AllUpTo, ZonesUpTo, around_of, pla
 ghost use Rattle.image_file.specs.Least.{with_faults};
 
 use crate::calls::{is_bad_call, misfits_call};
-use crate::faults::LoadFault;
 use crate::checking::{
     Nesting, Statement, bracket_fault, few, lesser_if, mark_fault, prepare, same_codes, seven_if,
     zone_fault,
 };
+use crate::faults::LoadFault;
 use crate::numbers::{CALL, JUMP_LIST};
 use crate::operands::{
     ending, is_bad_actual, is_bad_place, is_input, is_stray_pass, is_stray_use_db, lacks_own,

@@ -99,7 +99,7 @@ pub record BreaksNone (c : Context) (callee : Callee) (s : Statement) : Type 0 w
   pub by_37 : AllByRecursion
       (λ (a : Actual). misfits c a (formal_named callee.formals a.name) ≡ false) s.actuals
 
--- what a listed call passes breaks no rule of actual parameters
+-- what a listed call passes breaks none of rules 34, 35 and 37
 abbrev pub AreActualsRight : Type 0
 AreActualsRight =
     (c : Context) (own called : List Formal) (callee : Callee) (ps : List Passing) (s : Statement)

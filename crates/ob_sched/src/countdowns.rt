@@ -5,7 +5,7 @@ ghost use Rattle.ob_sched.specs.OrganizationBlock.{is_delay, is_cyclic};
 ghost use Rattle.ob_sched.specs.Quiet.{DelayLasts, delays_shortened, periods_shortened};
 ghost use Rattle.ob_sched.specs.Scheduler.{no_delays, whole_periods, delay_set, delay_of};
 
-use crate::dues::{Remaining, FIRST_CYCLIC, FIRST_DELAY, left_of, listed, period_left};
+use crate::dues::{FIRST_CYCLIC, FIRST_DELAY, Remaining, left_of, listed, period_left};
 use crate::organization_blocks::period_of;
 use arrayvec::ArrayVec;
 use std::marker::Model;

@@ -5,10 +5,10 @@ ghost use Rattle.ob_sched.specs.StartInformation.{IsEvent};
 ghost use Rattle.ob_sched.specs.Views.{tick_state_of};
 
 use crate::organization_blocks::{class_in, is_hardware};
-use crate::tick_results::TickResult;
 use crate::requests::Arrived;
 use crate::sched::Sched;
 use crate::start_infos::{StartEvent, StartInfo};
+use crate::tick_results::TickResult;
 use plc_base::{Mode, stop_causes};
 
 /// Record of diagnostics: a time error, with the organization block that it concerns.
@@ -58,7 +58,13 @@ impl Sched {
 
     /// A time error: it is recorded, and requests OB 80.
     #[tactic(auto, unfolding(crate::specs::TickState::time_error))]
-    pub(crate) fn time_error(&mut self, mode: Mode, event: StartEvent, ob: u16, passed: &mut TickResult)
+    pub(crate) fn time_error(
+        &mut self,
+        mode: Mode,
+        event: StartEvent,
+        ob: u16,
+        passed: &mut TickResult,
+    )
         requires { IsEvent event }
         ensures { tick_state_of self.new passed.new
             ≡ time_error mode event ob (tick_state_of self.old passed.old) }

@@ -8,9 +8,9 @@ ghost use Rattle.ob_sched.specs.Quiet.{NothingDueFor, RunLastsIn, run_shortened_
 ghost use Rattle.ob_sched.specs.Views.{scheduler_of, tick_state_of};
 
 use crate::organization_blocks::class_in;
-use crate::tick_results::TickResult;
 use crate::sched::Sched;
 use crate::start_infos::{StartEvent, StartInfo};
+use crate::tick_results::TickResult;
 use plc_base::{Mode, stop_causes};
 
 impl Sched {

@@ -8,10 +8,10 @@ ghost use Rattle.s7_cli.specs.Inner.{Comes, ComesOf, RefusedBy};
 ghost use Rattle.s7_cli.specs.Reading.{disk};
 ghost use Rattle.s7_cli.specs.StatusTable.{StatusTable};
 
+use crate::command_checks::loaded;
 use crate::failures::{Failure, File, Status};
 use crate::files::read_file;
 use crate::finish::{end_command, write_output, write_text};
-use crate::command_checks::loaded;
 use plc_base::NoMemory;
 use plc_io::{Files, Sink};
 use stack_bound::{Found, find, write_certificate, write_chain};

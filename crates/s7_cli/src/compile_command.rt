@@ -7,10 +7,10 @@ ghost use Rattle.s7_cli.specs.Reading.{disk};
 ghost use Rattle.s7_cli.specs.StatusTable.{StatusTable};
 ghost use Rattle.s7_cli.specs.Texts.{IsWithin, contents_of};
 
+use crate::command_checks::check_image;
 use crate::failures::{Failure, Status};
 use crate::files::{ProgramText, read_program};
 use crate::finish::{end_command, write_output};
-use crate::command_checks::check_image;
 use plc_io::{Files, Sink};
 use std::alloc::Global;
 

@@ -8,10 +8,10 @@ ghost use Rattle.s7_cli.specs.Reading.{disk};
 ghost use Rattle.s7_cli.specs.StatusTable.{StatusTable};
 ghost use Rattle.s7_cli.specs.Texts.{IsWithin, contents_of};
 
+use crate::command_checks::check_with_history;
 use crate::failures::{Failure, File, Status};
 use crate::files::{ProgramText, read_file, read_program};
 use crate::finish::{end_command, written};
-use crate::command_checks::check_with_history;
 use crate::run_text::replay_text;
 use plc_io::{Files, Sink};
 use std::alloc::Global;

@@ -6,10 +6,10 @@ ghost use Rattle.s7_cli.specs.Inner.{RefusedBy};
 ghost use Rattle.s7_cli.specs.ListSays.{IsListing, IsListingOf, IsShortListing, ListSays, ListedAnswer};
 ghost use Rattle.s7_cli.specs.Listings.{CompiledHaveListings, ListingsGiveImages, ListingsGivePrograms};
 
+use crate::command_checks::loaded;
 use crate::compiling::{compiles_to, law_of_programs};
 use crate::failures::{Failure, File};
 use crate::files::limit_of;
-use crate::command_checks::loaded;
 use image_file::Loaded;
 use std::alloc::Global;
 use stl_list::{Listing, list_within};

@@ -6,10 +6,10 @@ ghost use Rattle.s7_cli.specs.Inner.{Comes, ComesOf};
 ghost use Rattle.s7_cli.specs.Reading.{disk};
 ghost use Rattle.s7_cli.specs.StatusTable.{StatusTable};
 
+use crate::command_checks::check_run;
 use crate::failures::{Failure, File, Status};
 use crate::files::read_file;
 use crate::finish::{end_command, written};
-use crate::command_checks::check_run;
 use crate::run_text::replay_text;
 use plc_io::{Files, Sink};
 use std::alloc::Global;

@@ -6,8 +6,8 @@ ghost use Rattle.s7_cli.specs.Inner.{RefusedBy};
 ghost use Rattle.s7_cli.specs.WatchTexts.{FindsWatch, IsWatchText, TellsVars, WatchTextSays};
 ghost use Rattle.s7_cli.specs.Watching.{reading};
 
-use crate::failures::{Failure, File, failure_of_text};
 use crate::command_checks::{check_scripts, loaded};
+use crate::failures::{Failure, File, failure_of_text};
 use crate::watch_files::WatchText;
 use event_text::{read_stimuli, read_vars};
 use flat_code::Names;

@@ -1,6 +1,6 @@
 use crate::compare::same;
 use crate::tools::{expect_arrival, expect_best, running, start_best};
-use ob_sched::{Arrived, TickResult, Sched, StartEvent, StartInfo};
+use ob_sched::{Arrived, Sched, StartEvent, StartInfo, TickResult};
 use plc_base::Mode;
 use std::process::Abort;
 

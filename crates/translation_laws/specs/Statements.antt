@@ -176,7 +176,7 @@ pub record BodiesHaveRoles : Type 0 where
 abbrev pub place_outside : TokenClass → TokenClass → List ℕ → Place
 place_outside before c word = if is_keyword_of code_openings before c word then place.Head else place.Outside
 
--- where a word of a block's head stands
+-- the place behind a token of a block's head
 abbrev pub place_in_head : TokenClass → TokenClass → List ℕ → Place
 place_in_head before c word =
     if is_keyword_of begin_words before c word then place.Start
