@@ -4,7 +4,7 @@ use Rattle.std.specs.Option.{option_map}
 use Rattle.plc_base.specs.Kinds.{is_same_block}
 use Rattle.plc_base.specs.declared.BlockId.{BlockId}
 use Rattle.plc_base.specs.declared.Spot.{Spot}
-use Rattle.status_word.specs.StatusNumber.{number_of}
+use Rattle.status_word.specs.StatusNumber.{status_number}
 use Rattle.status_word.specs.declared.Regs.{Regs}
 use Rattle.frames.specs.declared.Activation.{Activation}
 use Rattle.machine.specs.Code.{Code}
@@ -48,7 +48,7 @@ abbrev pub mon_record_at : Regs → Spot → MonRecord
 mon_record_at regs at = record {
   block = at.block;
   line = at.line;
-  stw = number_of regs.status;
+  stw = status_number regs.status;
   a1 = regs.a1;
   a2 = regs.a2;
 }

@@ -42,7 +42,7 @@ use Rattle.machine.specs.Lasting.{is_error_code}
 use Rattle.machine.specs.Loads.{loading, loading_bcd, number_transferred}
 use Rattle.machine.specs.Nesting.{with_open_brackets, nesting, unnesting, bracket_closed}
 use Rattle.machine.specs.Relay.{is_writing_off, opening_zone, ending_zone, relay_effect}
-use Rattle.status_word.specs.Brackets.{entry_of, begun}
+use Rattle.status_word.specs.Brackets.{entry_of, bracket_begun}
 use Rattle.machine.specs.Numbers.{from_bcd, number_effect}
 use Rattle.machine.specs.ExecState.{Local, LocalMemory, ExecState, then_ok}
 use Rattle.machine.specs.Places.{error_of, open_block_location, open_area_location, absent, location_number, read, direct_number, pointer_number, is_aligned, at_pointer, by_pointer, is_bit_width, is_area_p, area_location, in_named, by_crossing, register_address, register_location, of_binding, operand_location, no_operand}
@@ -529,7 +529,7 @@ nest_done : (p : ExecState) (with : _) → (length p.local.inner.brackets ≡ 7 
 unfolding nesting
 nest_done p with room = by (length p.local.inner.brackets == 7) refl
   where
-    by : (t : Bool) → (length p.local.inner.brackets == 7) ≡ t → IfTold (cond t (Err no_operand) (Ok (with_open_brackets (entry_of with p.local.regs ∷ p.local.inner.brackets) (record p.local { regs = begun p.local.regs }))))
+    by : (t : Bool) → (length p.local.inner.brackets == 7) ≡ t → IfTold (cond t (Err no_operand) (Ok (with_open_brackets (entry_of with p.local.regs ∷ p.local.inner.brackets) (record p.local { regs = bracket_begun p.local.regs }))))
     by true e = absurd (room (eqb-true (length p.local.inner.brackets) 7 e))
     by false e = tt
 

@@ -7,8 +7,8 @@ use Rattle.plc_base.specs.declared.Width.TheVariants as widths
 use Rattle.plc_mem.specs.Areas.{Areas}
 use Rattle.plc_mem.specs.Writing.{put_number, number_written}
 use Rattle.plc_mem.proofs.Runs.{length-put, mapped, chained}
-use Rattle.status_word.specs.Brackets.{entry_of, begun}
-use Rattle.status_word.specs.Store.{stored}
+use Rattle.status_word.specs.Brackets.{entry_of, bracket_begun}
+use Rattle.status_word.specs.Store.{after_store}
 use Rattle.status_word.specs.declared.Bracket.{Bracket}
 use Rattle.plc_base.specs.declared.Check.{Check}
 use Rattle.status_word.specs.declared.Regs.{Regs}
@@ -299,7 +299,7 @@ nesting_keeps with p = by (length p.local.inner.brackets == 7)
   where
     by : (full : Bool)
         → IfDone (Keeps (operation.Nest with) p) (on_local p (if full then Err no_operand
-        else Ok (with_open_brackets (entry_of with p.local.regs ∷ p.local.inner.brackets) (record p.local { regs = begun p.local.regs }))))
+        else Ok (with_open_brackets (entry_of with p.local.regs ∷ p.local.inner.brackets) (record p.local { regs = bracket_begun p.local.regs }))))
     by true = tt
     by false = record {
       memory = same_sizes p.memory;
@@ -356,7 +356,7 @@ opening_zone_keeps p = by (length p.local.inner.relay.zones == most_zones)
         → IfDone (Keeps (operation.Relay relay.Open) p) (on_local p (if full then Err no_operand
         else Ok (with_relay_zones (zone_opened p.local.regs.status.rlo p.local.inner.relay) p.local)))
     by true = tt
-    by false = relay_keeps (operation.Relay relay.Open) (zone_opened p.local.regs.status.rlo p.local.inner.relay) (stored true p.local.regs) p refl
+    by false = relay_keeps (operation.Relay relay.Open) (zone_opened p.local.regs.status.rlo p.local.inner.relay) (after_store true p.local.regs) p refl
 
 outer_count : (zones : List Bool) → length (outer_zones zones) ≡ length zones - 1
 outer_count [] = refl
@@ -370,7 +370,7 @@ ending_zone_keeps p = by (is_empty_list p.local.inner.relay.zones)
         → IfDone (Keeps (operation.Relay relay.Close) p) (on_local p (if none then Err no_operand
         else Ok (with_relay_zones (zone_ended p.local.inner.relay) p.local)))
     by true = tt
-    by false = relay_keeps (operation.Relay relay.Close) (zone_ended p.local.inner.relay) (stored true p.local.regs) p
+    by false = relay_keeps (operation.Relay relay.Close) (zone_ended p.local.inner.relay) (after_store true p.local.regs) p
         (ap (λ (n : ℕ). let r : OpenAt = record { codes = codes_of p.local.inner.brackets; zones = n } in r) (outer_count p.local.inner.relay.zones))
 
 relayed_keeps :

@@ -4,9 +4,9 @@ use Rattle.std.specs.Prelude.{ℕ, ◌==◌, Bool, if◌then◌else◌, List, Re
 use Rattle.plc_base.specs.declared.Check.{Check}
 use Rattle.plc_mem.specs.Areas.{Areas}
 use Rattle.status_word.specs.declared.Regs.{Regs}
-use Rattle.status_word.specs.Check.{checked}
-use Rattle.status_word.specs.Store.{stored}
-use Rattle.status_word.specs.Edge.{edged}
+use Rattle.status_word.specs.Check.{after_check}
+use Rattle.status_word.specs.Store.{after_store}
+use Rattle.status_word.specs.Edge.{after_edge}
 use Rattle.timers_counters.specs.Timer.{Timer}
 use Rattle.timers_counters.specs.Counter.{Counter}
 use Rattle.flat_code.specs.declared.operands.Operand.{Operand}
@@ -20,7 +20,7 @@ use Rattle.machine.specs.Relay.{power_flow}
 -- A AN O ON X XN
 unfoldable pub checking : Check → Operand → Local → Areas → List Timer → List Counter → Result Regs ℕ
 checking with o s m t n =
-    then_ok (checked_bit o s m t n) (λ bit. Ok (checked with bit s.regs))
+    then_ok (checked_bit o s m t n) (λ bit. Ok (after_check with bit s.regs))
 
 -- the number of a bit operand: 1 where the bit is true, else 0
 abbrev pub bit_as_number : Bool → ℕ
@@ -41,7 +41,7 @@ bit_before at s m =
 
 -- =: RLO, and 0 while the relay is closed, to the bit and to STA
 abbrev pub assigned_at : Location → Local → Areas → Result LocalMemory ℕ
-assigned_at at s m = put_bit at (power_flow s) (stored (power_flow s) s.regs) s m
+assigned_at at s m = put_bit at (power_flow s) (after_store (power_flow s) s.regs) s m
 
 -- the place of its operand is sought as one that is written, whatever is written
 unfoldable pub bit_assigned : Operand → Local → Areas → Result LocalMemory ℕ
@@ -55,7 +55,7 @@ bit_after_set flow value before = if flow then value else before
 abbrev pub bit_set_at : (value : Bool) → Location → (before : Bool) → Local → Areas → Result LocalMemory ℕ
 bit_set_at value at before s m =
     put_bit at (bit_after_set (power_flow s) value before)
-    (stored (bit_after_set (power_flow s) value before) s.regs) s m
+    (after_store (bit_after_set (power_flow s) value before) s.regs) s m
 
 -- S (true) and R (false) of an operand: its place is tested as one that is written, where the bit stays too
 unfoldable pub bit_set : (value : Bool) → Operand → Local → Areas → Result LocalMemory ℕ
@@ -65,7 +65,7 @@ bit_set value o s m =
 
 -- FP (rising) and FN: the edge bit gets the RLO as it was before
 abbrev pub edge_at : (rising : Bool) → Location → (before : Bool) → Local → Areas → Result LocalMemory ℕ
-edge_at rising at before s m = put_bit at s.regs.status.rlo (edged rising before s.regs) s m
+edge_at rising at before s m = put_bit at s.regs.status.rlo (after_edge rising before s.regs) s m
 
 -- the operand is the edge bit; its place is tested as one that is written
 unfoldable pub edge : (rising : Bool) → Operand → Local → Areas → Result LocalMemory ℕ

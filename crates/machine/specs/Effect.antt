@@ -3,7 +3,7 @@ use Rattle.std.specs.Prelude.{ℕ, true, false, List, Option, Some, None, if◌t
 use Rattle.plc_base.specs.ErrorCodes as errors
 use Rattle.status_word.specs.declared.Regs.{Regs}
 use Rattle.status_word.specs.BareOr.{or_bare}
-use Rattle.status_word.specs.SetClear.{set, clr, negated, saved}
+use Rattle.status_word.specs.SetClear.{rlo_set_to_1, clr, rlo_negated, rlo_saved_in_br}
 use Rattle.alu.specs.Comparison.{compared}
 use Rattle.timers_counters.specs.Timer.{Timer}
 use Rattle.timers_counters.specs.Counter.{Counter}
@@ -90,10 +90,10 @@ effect operation.Assign o p = on_local_memory p (bit_assigned o p.local p.memory
 effect operation.Set o p = set_of (kind_named o) o p
 effect operation.Reset o p = reset_of (kind_named o) o p
 effect (operation.Edge rising) o p = on_local_memory p (edge rising o p.local p.memory)
-effect operation.SetRlo o p = effect_on_regs p (Ok (set p.local.regs))
+effect operation.SetRlo o p = effect_on_regs p (Ok (rlo_set_to_1 p.local.regs))
 effect operation.ClearRlo o p = effect_on_regs p (Ok (clr p.local.regs))
-effect operation.NegateRlo o p = effect_on_regs p (Ok (negated p.local.regs))
-effect operation.SaveRlo o p = effect_on_regs p (Ok (saved p.local.regs))
+effect operation.NegateRlo o p = effect_on_regs p (Ok (rlo_negated p.local.regs))
+effect operation.SaveRlo o p = effect_on_regs p (Ok (rlo_saved_in_br p.local.regs))
 effect operation.LoadBcd o p = effect_on_regs p (loading_bcd o p.local p.memory p.timers p.counters)
 effect operation.LoadStatus o p = effect_on_regs p (Ok (status_loaded p.local.regs))
 effect operation.TransferStatus o p = effect_on_regs p (Ok (status_transferred p.local.regs))

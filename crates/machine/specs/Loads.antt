@@ -4,7 +4,7 @@ use Rattle.std.specs.Prelude.{ℕ, ◌%◌, ◌^◌, if◌then◌else◌, List, 
 use Rattle.plc_base.specs.Widths.{bit_count}
 use Rattle.plc_mem.specs.Areas.{Areas}
 use Rattle.status_word.specs.declared.Regs.{Regs}
-use Rattle.status_word.specs.StatusNumber.{number_of, status_of, shown}
+use Rattle.status_word.specs.StatusNumber.{status_number, status_of, status_shown}
 use Rattle.timers_counters.specs.Timer.{Timer}
 use Rattle.timers_counters.specs.Counter.{Counter}
 use Rattle.flat_code.specs.declared.operands.Operand.{Operand}
@@ -37,7 +37,7 @@ transferring o s m = number_transferred (if is_writing_off s then 0 else s.regs.
 
 -- L STW: /FC, STA and OR read as 0
 unfoldable pub status_loaded : Regs → Regs
-status_loaded r = with_accu_loaded (number_of (shown r.status)) r
+status_loaded r = with_accu_loaded (status_number (status_shown r.status)) r
 
 -- T STW: all nine bits
 unfoldable pub status_transferred : Regs → Regs

@@ -14,7 +14,7 @@ use Rattle.flat_code.specs.declared.operations.Logic.TheVariants as logic
 use Rattle.flat_code.specs.declared.operations.Shift.{Shift}
 use Rattle.flat_code.specs.declared.operations.Shift.TheVariants as shift
 use Rattle.alu.specs.Accumulators.{toggled, pushed, popped, with_word_reversed, with_bytes_reversed, increased, decreased}
-use Rattle.alu.specs.Sums.{added, subtracted, negated}
+use Rattle.alu.specs.Sums.{added, subtracted, accu_negated}
 use Rattle.alu.specs.Products.{multiplied}
 use Rattle.alu.specs.Division.{divided_i, divided_d, remainder_d}
 use Rattle.alu.specs.Conversions.{inverted, widened, from_bcd_word, from_bcd_dword, to_bcd_word, to_bcd_dword}
@@ -49,8 +49,8 @@ number_effect number.Dtb r = Ok (to_bcd_dword r)
 number_effect number.Itd r = Ok (widened r)
 number_effect number.Invi r = Ok (inverted 16 r)
 number_effect number.Invd r = Ok (inverted 32 r)
-number_effect number.Negi r = Ok (negated 16 r)
-number_effect number.Negd r = Ok (negated 32 r)
+number_effect number.Negi r = Ok (accu_negated 16 r)
+number_effect number.Negd r = Ok (accu_negated 32 r)
 number_effect number.Rlda r = Ok (rotated_left_through r)
 number_effect number.Rrda r = Ok (rotated_right_through r)
 

@@ -1,7 +1,7 @@
 -- The master control relay: MCRA, MCRD, MCR( and )MCR, over the relay of the innermost frame.
 -- Siemens, Statement List (STL): Program Control Instructions, "MCR (Master Control Relay)".
 use Rattle.std.specs.Prelude.{ℕ, ◌==◌, Bool, true, false, ◌&&◌, not, length, if◌then◌else◌, Result, Ok, Err}
-use Rattle.status_word.specs.Store.{stored}
+use Rattle.status_word.specs.Store.{after_store}
 use Rattle.frames.specs.Relay.{is_zone_closed, zone_opened, zone_ended}
 use Rattle.frames.specs.declared.relay.Relay.{Relay}
 use Rattle.flat_code.specs.Placed.{is_empty_list, most_zones}
@@ -28,7 +28,7 @@ relay_activated active s = with_frame_relay (record s.inner.relay { active = act
 
 -- MCR( and )MCR, after which the relay has other zones: OR 0, STA 1, /FC 0, and RLO stays
 abbrev pub with_relay_zones : Relay → Local → Local
-with_relay_zones r s = with_frame_relay r (record s { regs = stored true s.regs })
+with_relay_zones r s = with_frame_relay r (record s { regs = after_store true s.regs })
 
 -- MCR(, while the relay is inactive too; a ninth zone stands in no program that is loaded
 unfoldable pub opening_zone : Local → Result Local ℕ

@@ -8,10 +8,10 @@ use Rattle.plc_base.specs.declared.instructions.TimerKind.{TimerKind}
 use Rattle.plc_base.specs.declared.places.Width.TheVariants as widths
 use Rattle.plc_base.specs.Widths.{bit_count}
 use Rattle.plc_mem.specs.Areas.{Areas}
-use Rattle.status_word.specs.Brackets.{begun, entry_of}
-use Rattle.status_word.specs.Check.{checked}
-use Rattle.status_word.specs.Edge.{edged}
-use Rattle.status_word.specs.Store.{stored}
+use Rattle.status_word.specs.Brackets.{bracket_begun, entry_of}
+use Rattle.status_word.specs.Check.{after_check}
+use Rattle.status_word.specs.Edge.{after_edge}
+use Rattle.status_word.specs.Store.{after_store}
 use Rattle.status_word.specs.declared.nesting.Bracket.{Bracket}
 use Rattle.status_word.specs.declared.registers.Regs.{Regs}
 use Rattle.alu.specs.Accumulators as accumulators
@@ -79,8 +79,8 @@ pub checks_same : (with : Check) (x : Named) (p : ExecState) → is_read x ≡ t
 unfolding does.effect bit_logic.checking
 checks_same with x p e =
     regs_then p (values.checked_bit (flat_of x) p.local p.memory p.timers p.counters)
-    (λ b. checked with b p.local.regs)
-    ∙ ap (λ r. then_ok r (λ b. Ok (own.with_regs (checked with b p.local.regs) p)))
+    (λ b. after_check with b p.local.regs)
+    ∙ ap (λ r. then_ok r (λ b. Ok (own.with_regs (after_check with b p.local.regs) p)))
     (tested_same x p e)
 
 -- O by whether it has an operand
@@ -100,7 +100,7 @@ unfolding does.effect nesting.nesting
 nest_same with o p =
     own_if p (length p.local.inner.brackets == 7)
     (nesting.with_open_brackets (entry_of with p.local.regs ∷ p.local.inner.brackets)
-    (record p.local { regs = begun p.local.regs }))
+    (record p.local { regs = bracket_begun p.local.regs }))
 
 pub unnest_same : (o : Operand) (p : ExecState)
     → does.effect operation.Unnest o p ≡ own.closes_bracket p
@@ -165,8 +165,8 @@ pub assign_same : (x : Named) (p : ExecState) → is_written x ≡ true
 unfolding does.effect bit_logic.bit_assigned
 assign_same x p e =
     seek_same x p (λ b. bit_logic.assigned_at b p.local p.memory)
-    (λ b. own.writes_bit b (own.flow p) (stored (own.flow p) p.local.regs) p) e
-    (λ b. put_same b (own.flow p) (stored (own.flow p) p.local.regs) p)
+    (λ b. own.writes_bit b (own.flow p) (after_store (own.flow p) p.local.regs) p) e
+    (λ b. put_same b (own.flow p) (after_store (own.flow p) p.local.regs) p)
 
 after_same : (flow value before : Bool)
     → bit_logic.bit_after_set flow value before ≡ own.bit_after flow value before
@@ -178,7 +178,7 @@ bit_set_same : (value : Bool) (x : Named) (p : ExecState) → is_written x ≡ t
 unfolding bit_logic.bit_set
 bit_set_same value x p e =
     let writes : Location → Bool → Result ExecState ℕ =
-    λ b bit. own.writes_bit b bit (stored bit p.local.regs) p in
+    λ b bit. own.writes_bit b bit (after_store bit p.local.regs) p in
     seek_same x p
     (λ b. then_ok (bit_logic.bit_before b p.local p.memory)
     (λ before. bit_logic.bit_set_at value b before p.local p.memory))
@@ -187,7 +187,7 @@ bit_set_same value x p e =
     (λ b. before_same b p (λ before. bit_logic.bit_set_at value b before p.local p.memory)
     (λ before. writes b (own.bit_after (own.flow p) value before))
     (λ before. put_same b (bit_logic.bit_after_set (own.flow p) value before)
-    (stored (bit_logic.bit_after_set (own.flow p) value before) p.local.regs) p
+    (after_store (bit_logic.bit_after_set (own.flow p) value before) p.local.regs) p
     ∙ ap (writes b) (after_same (own.flow p) value before)))
 
 pub edge_same : (rising : Bool) (x : Named) (p : ExecState) → is_written x ≡ true
@@ -198,10 +198,10 @@ edge_same rising x p e =
     (λ b. then_ok (bit_logic.bit_before b p.local p.memory)
     (λ before. bit_logic.edge_at rising b before p.local p.memory))
     (λ b. then_ok (own.bit_there b p)
-    (λ before. own.writes_bit b (own.rlo p) (edged rising before p.local.regs) p)) e
+    (λ before. own.writes_bit b (own.rlo p) (after_edge rising before p.local.regs) p)) e
     (λ b. before_same b p (λ before. bit_logic.edge_at rising b before p.local p.memory)
-    (λ before. own.writes_bit b (own.rlo p) (edged rising before p.local.regs) p)
-    (λ before. put_same b (own.rlo p) (edged rising before p.local.regs) p))
+    (λ before. own.writes_bit b (own.rlo p) (after_edge rising before p.local.regs) p)
+    (λ before. put_same b (own.rlo p) (after_edge rising before p.local.regs) p))
 
 -- ---- timers and counters
 

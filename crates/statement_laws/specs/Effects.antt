@@ -12,12 +12,12 @@ use Rattle.plc_base.specs.declared.instructions.TimerKind.TheVariants as timer
 use Rattle.plc_base.specs.declared.places.Area.TheVariants as area
 use Rattle.plc_mem.specs.Areas.{Areas}
 use Rattle.status_word.specs.BareOr.{or_bare}
-use Rattle.status_word.specs.Brackets.{begun, closed, entry_of}
-use Rattle.status_word.specs.Check.{checked}
-use Rattle.status_word.specs.Edge.{edged}
-use Rattle.status_word.specs.SetClear.{clr, negated, saved, set}
-use Rattle.status_word.specs.StatusNumber.{number_of, shown, status_of}
-use Rattle.status_word.specs.Store.{stored}
+use Rattle.status_word.specs.Brackets.{bracket_begun, bracket_ended, entry_of}
+use Rattle.status_word.specs.Check.{after_check}
+use Rattle.status_word.specs.Edge.{after_edge}
+use Rattle.status_word.specs.SetClear.{clr, rlo_negated, rlo_saved_in_br, rlo_set_to_1}
+use Rattle.status_word.specs.StatusNumber.{status_number, status_shown, status_of}
+use Rattle.status_word.specs.Store.{after_store}
 use Rattle.status_word.specs.declared.nesting.Bracket.{Bracket}
 use Rattle.status_word.specs.declared.registers.Regs.{Regs}
 use Rattle.alu.specs.Accumulators as accumulators
@@ -85,7 +85,7 @@ low_word p = (regs p).a1 % 2 ^ 16
 
 -- A AN O ON X XN: the bit is read and checked
 abbrev pub checks : Check → Named → ExecState → Result ExecState ℕ
-checks with x p = then_ok (bit_of_operand x p) (λ b. on_regs (checked with b) p)
+checks with x p = then_ok (bit_of_operand x p) (λ b. on_regs (after_check with b) p)
 
 -- O without operand: AND before OR
 abbrev pub checks_or : Named → ExecState → Result ExecState ℕ
@@ -100,12 +100,12 @@ with_brackets brackets p = with_inner (record p.local.inner { brackets = bracket
 abbrev pub opens_bracket : Check → ExecState → Result ExecState ℕ
 opens_bracket with p =
     if length p.local.inner.brackets == 7 then Err 0
-    else on_regs begun (with_brackets (entry_of with (regs p) ∷ p.local.inner.brackets) p)
+    else on_regs bracket_begun (with_brackets (entry_of with (regs p) ∷ p.local.inner.brackets) p)
 
 -- ): the last one
 abbrev pub closes_one : List Bracket → ExecState → Result ExecState ℕ
 closes_one [] p = Err 0
-closes_one (bracket ∷ rest) p = on_regs (closed bracket) (with_brackets rest p)
+closes_one (bracket ∷ rest) p = on_regs (bracket_ended bracket) (with_brackets rest p)
 
 -- ): the innermost bracket closes
 abbrev pub closes_bracket : ExecState → Result ExecState ℕ
@@ -127,7 +127,7 @@ bit_there b p = then_ok (number_or_error Writing b p) (λ n. Ok (n == 1))
 -- =: the RLO that the relay lets through
 abbrev pub assigns : Named → ExecState → Result ExecState ℕ
 assigns x p =
-    then_ok (place_of_operand Writing x p) (λ b. writes_bit b (flow p) (stored (flow p) (regs p)) p)
+    then_ok (place_of_operand Writing x p) (λ b. writes_bit b (flow p) (after_store (flow p) (regs p)) p)
 
 -- S (1) and R (0) of a bit: with RLO 1, and not while the relay is closed
 abbrev pub bit_after : (flow value before : Bool) → Bool
@@ -140,13 +140,13 @@ sets_bit value x p =
     then_ok (place_of_operand Writing x p) (λ b.
     then_ok (bit_there b p) (λ before.
     writes_bit b (bit_after (flow p) value before)
-    (stored (bit_after (flow p) value before) (regs p)) p))
+    (after_store (bit_after (flow p) value before) (regs p)) p))
 
 -- FP and FN: the operand is the edge bit, which gets the RLO
 abbrev pub tells_edge : (rising : Bool) → Named → ExecState → Result ExecState ℕ
 tells_edge rising x p =
     then_ok (place_of_operand Writing x p) (λ b.
-    then_ok (bit_there b p) (λ before. writes_bit b (rlo p) (edged rising before (regs p)) p))
+    then_ok (bit_there b p) (λ before. writes_bit b (rlo p) (after_edge rising before (regs p)) p))
 
 -- ---- the master control relay
 
@@ -162,13 +162,13 @@ activates active p = Ok (with_relay (record p.local.inner.relay { active = activ
 abbrev pub opens_zone : ExecState → Result ExecState ℕ
 opens_zone p =
     if length p.local.inner.relay.zones == 8 then Err 0
-    else on_regs (stored true) (with_relay (zone_opened (rlo p) p.local.inner.relay) p)
+    else on_regs (after_store true) (with_relay (zone_opened (rlo p) p.local.inner.relay) p)
 
 -- )MCR
 abbrev pub ends_zone_of : List Bool → ExecState → Result ExecState ℕ
 ends_zone_of [] p = Err 0
 ends_zone_of (value ∷ around) p =
-    on_regs (stored true) (with_relay (zone_ended p.local.inner.relay) p)
+    on_regs (after_store true) (with_relay (zone_ended p.local.inner.relay) p)
 
 -- )MCR: the last zone ends
 abbrev pub ends_zone : ExecState → Result ExecState ℕ
@@ -199,7 +199,7 @@ open_fact named.DiNumber p = unwrap_or p.local.inner.di 0
 
 -- L
 abbrev pub loads : Named → ExecState → Result ExecState ℕ
-loads named.StatusWord p = on_regs (with_loaded (number_of (shown (regs p).status))) p
+loads named.StatusWord p = on_regs (with_loaded (status_number (status_shown (regs p).status))) p
 loads (named.Opened what) p = on_regs (with_loaded (open_fact what p)) p
 loads x p = then_ok (number_to_load x p) (λ n. on_regs (with_loaded n) p)
 
@@ -401,10 +401,10 @@ action code.S x p = sets x p
 action code.R x p = resets x p
 action code.Fp x p = tells_edge true x p
 action code.Fn x p = tells_edge false x p
-action code.Set x p = on_regs set p
+action code.Set x p = on_regs rlo_set_to_1 p
 action code.Clr x p = on_regs clr p
-action code.Not x p = on_regs negated p
-action code.Save x p = on_regs saved p
+action code.Not x p = on_regs rlo_negated p
+action code.Save x p = on_regs rlo_saved_in_br p
 action code.Lc x p = loads_bcd x p
 action code.Lar1 x p = loads_ar1 x p
 action code.Lar2 x p = loads_ar2 x p
@@ -449,8 +449,8 @@ action code.Dtb x p = on_regs conversions.to_bcd_dword p
 action code.Itd x p = on_regs conversions.widened p
 action code.Invi x p = on_regs (conversions.inverted 16) p
 action code.Invd x p = on_regs (conversions.inverted 32) p
-action code.Negi x p = on_regs (sums.negated 16) p
-action code.Negd x p = on_regs (sums.negated 32) p
+action code.Negi x p = on_regs (sums.accu_negated 16) p
+action code.Negd x p = on_regs (sums.accu_negated 32) p
 action code.Aw x p = on_regs (word_logic.anded 16 (constant 16 x)) p
 action code.Ow x p = on_regs (word_logic.ored 16 (constant 16 x)) p
 action code.Xow x p = on_regs (word_logic.xored 16 (constant 16 x)) p
