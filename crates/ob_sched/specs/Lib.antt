@@ -1,4 +1,5 @@
 pub mod Bin
+pub mod Course
 pub mod Dues
 pub mod Millisecond
 pub mod OrganizationBlock
@@ -7,5 +8,4 @@ pub mod Ranking
 pub mod Request
 pub mod Scheduler
 pub mod StartInformation
-pub mod TickState
 pub mod Views

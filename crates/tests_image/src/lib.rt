@@ -5,8 +5,6 @@
 mod altered_fields;
 #[cfg(test)]
 mod building;
-mod checked_calls;
-mod checked_ops;
 #[cfg(test)]
 mod code_in_place;
 #[cfg(test)]
@@ -14,7 +12,9 @@ mod compare;
 #[cfg(test)]
 mod images;
 #[cfg(test)]
+mod judged_calls;
 #[cfg(test)]
+mod judged_ops;
 #[cfg(test)]
 mod large_images;
 #[cfg(test)]
