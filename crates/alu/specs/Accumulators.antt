@@ -9,8 +9,8 @@ unfoldable pub with_low : (w accumulator low : ℕ) → ℕ
 with_low w accumulator low = accumulator / 2 ^ w * 2 ^ w + low
 
 -- byte k of an accumulator, byte 0 the lowest
-abbrev pub byte_of : (accumulator k : ℕ) → ℕ
-byte_of accumulator k = accumulator / 2 ^ (8 * k) % 2 ^ 8
+abbrev pub accu_byte : (accumulator k : ℕ) → ℕ
+accu_byte accumulator k = accumulator / 2 ^ (8 * k) % 2 ^ 8
 
 -- TAK: accumulators 1 and 2 exchanged
 abbrev pub toggled : Regs → Regs
@@ -26,12 +26,12 @@ popped r = record r { a1 = r.a2 }
 
 -- CAW: the bytes of ACCU 1-L in the opposite order
 unfoldable pub with_word_reversed : Regs → Regs
-with_word_reversed r = record r { a1 = with_low 16 r.a1 (byte_of r.a1 0 * 2 ^ 8 + byte_of r.a1 1) }
+with_word_reversed r = record r { a1 = with_low 16 r.a1 (accu_byte r.a1 0 * 2 ^ 8 + accu_byte r.a1 1) }
 
 -- CAD: the bytes of accumulator 1 in the opposite order
 unfoldable pub with_bytes_reversed : Regs → Regs
 with_bytes_reversed r =
-    record r { a1 = byte_of r.a1 0 * 2 ^ 24 + byte_of r.a1 1 * 2 ^ 16 + byte_of r.a1 2 * 2 ^ 8 + byte_of r.a1 3 }
+    record r { a1 = accu_byte r.a1 0 * 2 ^ 24 + accu_byte r.a1 1 * 2 ^ 16 + accu_byte r.a1 2 * 2 ^ 8 + accu_byte r.a1 3 }
 
 -- INC and +: n added to the lowest w bits of accumulator 1, modulo 2 ^ w
 unfoldable pub increased : (w n : ℕ) → Regs → Regs

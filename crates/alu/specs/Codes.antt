@@ -13,5 +13,5 @@ abbrev pub unordered : Codes
 unordered = record { cc1 = true; cc0 = true; ov = true }
 
 -- the status word that shows them: OS becomes 1 with OV 1, and else it is kept
-unfoldable pub shown : Codes → Status → Status
-shown codes s = record s { cc1 = codes.cc1; cc0 = codes.cc0; ov = codes.ov; os = s.os || codes.ov }
+unfoldable pub codes_shown : Codes → Status → Status
+codes_shown codes s = record s { cc1 = codes.cc1; cc0 = codes.cc0; ov = codes.ov; os = s.os || codes.ov }

@@ -7,7 +7,7 @@ use Rattle.alu.specs.declared.codes.Codes.{Codes}
 use Rattle.plc_base.specs.declared.instructions.Compare.{Compare}
 use Rattle.plc_base.specs.declared.instructions.Compare.TheVariants.{Eq, Ne, Gt, Lt, Ge, Le}
 use Rattle.alu.specs.Signed.{signed}
-use Rattle.alu.specs.Codes.{shown}
+use Rattle.alu.specs.Codes.{codes_shown}
 
 -- whether the comparison holds between the left and the right integer
 abbrev pub holds_between : Compare → (left right : ℤ) → Bool
@@ -29,7 +29,7 @@ with_answer answer s = record s { rlo = answer; sta = answer; or = false; fc = t
 -- the status word after a comparison of two integers
 unfoldable pub with_comparison : Compare → (left right : ℤ) → Regs → Regs
 with_comparison how left right r =
-    record r { status = with_answer (holds_between how left right) (shown (order_codes left right) r.status) }
+    record r { status = with_answer (holds_between how left right) (codes_shown (order_codes left right) r.status) }
 
 -- the comparison of accumulator 2 with accumulator 1 as integers of w bits, 16 or 32
 abbrev pub compared : (w : ℕ) → Compare → Regs → Regs

@@ -4,14 +4,14 @@ use Rattle.std.specs.Prelude.{ℕ, ◌+◌, ◌-◌, ◌*◌, ◌/◌, ◌^◌, 
 use Rattle.status_word.specs.declared.registers.Regs.{Regs}
 use Rattle.status_word.specs.Check.{exclusive_or}
 use Rattle.alu.specs.declared.codes.Codes.{Codes}
-use Rattle.alu.specs.Signed.{signed, modulo, is_negative}
-use Rattle.alu.specs.Codes.{of_sign, unordered, shown}
+use Rattle.alu.specs.Signed.{signed, modulo, is_below_zero}
+use Rattle.alu.specs.Codes.{of_sign, unordered, codes_shown}
 
 -- the quotient cut toward zero: that of the sizes, negative where just one of the two numbers is
 abbrev pub quotient : (dividend divisor : ℤ) → ℤ
 quotient dividend divisor =
     let size = unsigned_abs dividend / unsigned_abs divisor
-    in if exclusive_or (is_negative dividend) (is_negative divisor) then neg_ℤ (pos size) else pos size
+    in if exclusive_or (is_below_zero dividend) (is_below_zero divisor) then neg_ℤ (pos size) else pos size
 
 -- the remainder: what the quotient leaves of the dividend
 abbrev pub remainder : (dividend divisor : ℤ) → ℤ
@@ -24,11 +24,11 @@ is_zero z = unsigned_abs z == 0
 -- the one pair of integers of w bits whose quotient has more: the least of them by -1
 abbrev pub is_least_by_minus_one : (w : ℕ) → (dividend divisor : ℤ) → Bool
 is_least_by_minus_one w dividend divisor =
-    is_negative dividend && unsigned_abs dividend == 2 ^ (w - 1) && is_negative divisor && unsigned_abs divisor == 1
+    is_below_zero dividend && unsigned_abs dividend == 2 ^ (w - 1) && is_below_zero divisor && unsigned_abs divisor == 1
 
 -- accumulator 1 and the codes of a division
 abbrev pub with_result : (accumulator : ℕ) → Codes → Regs → Regs
-with_result accumulator codes r = record r { a1 = accumulator; status = shown codes r.status }
+with_result accumulator codes r = record r { a1 = accumulator; status = codes_shown codes r.status }
 
 -- a division by zero: accumulator 1 stays, CC 1/1, OV 1, OS 1
 abbrev pub divided_by_zero : Regs → Regs

@@ -5,7 +5,7 @@ use Rattle.std.specs.Int.{int_shr}
 use Rattle.status_word.specs.declared.registers.Regs.{Regs}
 use Rattle.plc_base.specs.Bits.{has_bit}
 use Rattle.alu.specs.Signed.{signed, modulo}
-use Rattle.alu.specs.Codes.{shown}
+use Rattle.alu.specs.Codes.{codes_shown}
 use Rattle.alu.specs.Accumulators.{with_low}
 
 -- the number of places: the literal, or else ACCU 2-L-L
@@ -15,7 +15,7 @@ places_of literal r = unwrap_or literal (r.a2 % 2 ^ 8)
 -- the shifted bits in the lowest w bits of accumulator 1; CC 1 is the last bit that was shifted out, CC 0 and OV are 0
 unfoldable pub with_shifted : (w bits : ℕ) (last : Bool) → Regs → Regs
 with_shifted w bits last r =
-    record r { a1 = with_low w r.a1 bits; status = shown (record { cc1 = last; cc0 = false; ov = false }) r.status }
+    record r { a1 = with_low w r.a1 bits; status = codes_shown (record { cc1 = last; cc0 = false; ov = false }) r.status }
 
 -- n places left, of w bits: zeros move in from the right; bit w - n is the last one out
 unfoldable pub shifted_left : (w n : ℕ) → Regs → Regs

@@ -5,18 +5,18 @@ use Rattle.alu.specs.declared.formats.Format.{Format}
 use Rattle.alu.specs.declared.formats.Format.TheVariants.{Int, Dint}
 
 -- the width of a format
-abbrev pub width_of : Format → ℕ
-width_of Int = 16
-width_of Dint = 32
+abbrev pub format_width : Format → ℕ
+format_width Int = 16
+format_width Dint = 32
 
 -- the integer that w bits stand for: the highest bit weighs - 2 ^ (w - 1)
 abbrev pub from_bits : (w bits : ℕ) → ℤ
 from_bits w bits = if nat_lt bits (2 ^ (w - 1)) then pos bits else pos bits -ℤ pos (2 ^ w)
 
 -- whether an integer is below 0
-abbrev pub is_negative : ℤ → Bool
-is_negative (pos n) = false
-is_negative (negsuc n) = true
+abbrev pub is_below_zero : ℤ → Bool
+is_below_zero (pos n) = false
+is_below_zero (negsuc n) = true
 
 -- the integer in the lowest w bits of an accumulator
 unfoldable pub signed : (w accumulator : ℕ) → ℤ

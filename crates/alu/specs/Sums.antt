@@ -4,7 +4,7 @@ use Rattle.std.specs.Prelude.{ℕ, ◌^◌, true, false, not, ◌==◌, if◌the
 use Rattle.status_word.specs.declared.registers.Regs.{Regs}
 use Rattle.alu.specs.declared.codes.Codes.{Codes}
 use Rattle.alu.specs.Signed.{signed, modulo, in_range}
-use Rattle.alu.specs.Codes.{of_sign, shown}
+use Rattle.alu.specs.Codes.{of_sign, codes_shown}
 use Rattle.alu.specs.Accumulators.{with_low}
 
 -- CC 1/CC 0 and OV of a true sum z: in range its sign and OV 0; too high 0/1 and OV 1; too low 1/0 and OV 1, but 0/0 at - 2 ^ w
@@ -16,7 +16,7 @@ sum_codes w z =
 
 -- the true sum z, modulo 2 ^ w, in the lowest w bits of accumulator 1, and its codes
 unfoldable pub with_sum : (w : ℕ) → ℤ → Regs → Regs
-with_sum w z r = record r { a1 = with_low w r.a1 (modulo w z); status = shown (sum_codes w z) r.status }
+with_sum w z r = record r { a1 = with_low w r.a1 (modulo w z); status = codes_shown (sum_codes w z) r.status }
 
 -- +I (w = 16) and +D (w = 32): accumulator 2 plus accumulator 1
 abbrev pub added : (w : ℕ) → Regs → Regs
@@ -27,5 +27,5 @@ abbrev pub subtracted : (w : ℕ) → Regs → Regs
 subtracted w r = with_sum w (signed w r.a2 -ℤ signed w r.a1) r
 
 -- NEGI and NEGD: 0 minus accumulator 1
-abbrev pub negated : (w : ℕ) → Regs → Regs
-negated w r = with_sum w (neg_ℤ (signed w r.a1)) r
+abbrev pub accu_negated : (w : ℕ) → Regs → Regs
+accu_negated w r = with_sum w (neg_ℤ (signed w r.a1)) r

@@ -2,28 +2,28 @@
 -- Siemens, Statement List (STL): Word Logic Instructions.
 use Rattle.std.specs.Prelude.{ℕ, ◌%◌, ◌^◌, false, not, ◌==◌, Option, unwrap_or, bit_and, bit_or, bit_xor}
 use Rattle.status_word.specs.declared.registers.Regs.{Regs}
-use Rattle.alu.specs.Codes.{shown}
+use Rattle.alu.specs.Codes.{codes_shown}
 use Rattle.alu.specs.Accumulators.{with_low}
 
 -- the second operand: the constant, or else the lowest w bits of accumulator 2
-abbrev pub operand_of : (w : ℕ) (constant : Option ℕ) → Regs → ℕ
-operand_of w constant r = unwrap_or constant (r.a2 % 2 ^ w)
+abbrev pub logic_operand : (w : ℕ) (constant : Option ℕ) → Regs → ℕ
+logic_operand w constant r = unwrap_or constant (r.a2 % 2 ^ w)
 
 -- the combined bits in accumulator 1; CC 1 is 1 where they are not 0, CC 0 and OV are 0
 unfoldable pub with_combined : (w bits : ℕ) → Regs → Regs
 with_combined w bits r = record r {
   a1 = with_low w r.a1 bits;
-  status = shown (record { cc1 = not (bits == 0); cc0 = false; ov = false }) r.status;
+  status = codes_shown (record { cc1 = not (bits == 0); cc0 = false; ov = false }) r.status;
 }
 
 -- AW and AD
 abbrev pub anded : (w : ℕ) (constant : Option ℕ) → Regs → Regs
-anded w constant r = with_combined w (bit_and (r.a1 % 2 ^ w) (operand_of w constant r)) r
+anded w constant r = with_combined w (bit_and (r.a1 % 2 ^ w) (logic_operand w constant r)) r
 
 -- OW and OD
 abbrev pub ored : (w : ℕ) (constant : Option ℕ) → Regs → Regs
-ored w constant r = with_combined w (bit_or (r.a1 % 2 ^ w) (operand_of w constant r)) r
+ored w constant r = with_combined w (bit_or (r.a1 % 2 ^ w) (logic_operand w constant r)) r
 
 -- XOW and XOD
 abbrev pub xored : (w : ℕ) (constant : Option ℕ) → Regs → Regs
-xored w constant r = with_combined w (bit_xor (r.a1 % 2 ^ w) (operand_of w constant r)) r
+xored w constant r = with_combined w (bit_xor (r.a1 % 2 ^ w) (logic_operand w constant r)) r

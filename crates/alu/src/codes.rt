@@ -1,6 +1,6 @@
 ghost use Rattle.std.specs.Prelude.{◌≡◌};
-ghost use Rattle.alu.specs.Signed.{width_of};
-ghost use Rattle.alu.specs.Codes.{of_sign, unordered, shown};
+ghost use Rattle.alu.specs.Signed.{format_width};
+ghost use Rattle.alu.specs.Codes.{of_sign, unordered, codes_shown};
 ghost use Rattle.alu.specs.Sums.{sum_codes};
 ghost use Rattle.alu.specs.Division.{quotient_overflow};
 
@@ -33,7 +33,7 @@ impl Codes {
     /// The range in which a true sum lies.
     #[tactic(auto, unfolding(crate::specs::Sums::sum_codes))]
     pub(crate) fn of_sum(format: Format, sum: i64) -> Codes
-        ensures { result ≡ sum_codes (width_of format) sum }
+        ensures { result ≡ sum_codes (format_width format) sum }
     {
         if format.holds(sum) {
             Codes::of_sign(sum, false)
@@ -59,9 +59,9 @@ impl Codes {
     }
 
     /// Sets CC 1, CC 0 and OV, and OS where OV is 1.
-    #[tactic(auto, unfolding(crate::specs::Codes::shown))]
+    #[tactic(auto, unfolding(crate::specs::Codes::codes_shown))]
     pub(crate) fn show(self, status: &mut Status)
-        ensures { status.new ≡ shown self status.old }
+        ensures { status.new ≡ codes_shown self status.old }
     {
         status.cc1 = self.cc1;
         status.cc0 = self.cc0;

@@ -1,6 +1,6 @@
 ghost use Rattle.std.specs.Prelude.{◌≡◌};
-ghost use Rattle.alu.specs.Signed.{width_of, signed};
-ghost use Rattle.alu.specs.Codes.{shown};
+ghost use Rattle.alu.specs.Signed.{format_width, signed};
+ghost use Rattle.alu.specs.Codes.{codes_shown};
 ghost use Rattle.alu.specs.Comparison.{holds_between, order_codes, with_comparison, compared};
 
 use crate::codes::Codes;

@@ -1,6 +1,6 @@
 ghost use Rattle.std.specs.Prelude.{◌≡◌, ◌<◌, ◌^◌};
 ghost use Rattle.std.specs.Option.{ForSome};
-ghost use Rattle.alu.specs.Signed.{width_of};
+ghost use Rattle.alu.specs.Signed.{format_width};
 ghost use Rattle.plc_base.specs.Changes.{ChangesOrStays};
 ghost use Rattle.alu.specs.Conversions.{inverted, widened, from_bcd_word, from_bcd_dword, to_bcd_word, to_bcd_dword, with_bcd, with_overflow};
 
@@ -73,8 +73,8 @@ fn show_overflow(status: &mut Status, ov: bool)
 
 /// Puts a BCD form into accumulator 1, or shows an overflow where there is none.
 fn put_bcd(r: &mut Regs, format: Format, bcd: Option<u32>)
-    requires { ForSome bcd (λ bits. bits < 2 ^ width_of format) }
-    ensures { r.new ≡ with_bcd (width_of format) bcd r.old }
+    requires { ForSome bcd (λ bits. bits < 2 ^ format_width format) }
+    ensures { r.new ≡ with_bcd (format_width format) bcd r.old }
 {
     if let Some(bits) = bcd {
         r.a1 = format.replace(r.a1, bits);

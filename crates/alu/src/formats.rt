@@ -1,5 +1,5 @@
 ghost use Rattle.std.specs.Prelude.{◌≡◌, ◌<◌, ◌≤◌, ◌-◌, ◌%◌, ◌^◌, negsuc, pos, ◌≤ℤ◌, ◌<ℤ◌, unsigned_abs};
-ghost use Rattle.alu.specs.Signed.{width_of, signed, modulo, in_range};
+ghost use Rattle.alu.specs.Signed.{format_width, signed, modulo, in_range};
 ghost use Rattle.alu.specs.Accumulators.{with_low};
 
 /// The format of the integers that an instruction works on: INT, 16 bits in the low word of an
@@ -13,7 +13,7 @@ pub(crate) enum Format {
 impl Format {
     /// The integer in an accumulator.
     pub(crate) fn read(self, accumulator: u32) -> i64
-        ensures value { result ≡ signed (width_of self) accumulator }
+        ensures value { result ≡ signed (format_width self) accumulator }
         ensures size { unsigned_abs result ≤ 2 ^ 31 }
         ensures low { negsuc (2 ^ 31 - 1) ≤ℤ result }
         ensures high { result <ℤ pos (2 ^ 31) }
@@ -26,14 +26,14 @@ impl Format {
 
     /// The accumulator with the lowest bits of `number` at its lowest bits.
     pub(crate) fn put(self, accumulator: u32, number: i64) -> u32
-        ensures { result ≡ with_low (width_of self) accumulator (modulo (width_of self) number) }
+        ensures { result ≡ with_low (format_width self) accumulator (modulo (format_width self) number) }
     {
         self.replace(accumulator, self.bits(number))
     }
 
     /// The number of bits.
     pub(crate) fn width(self) -> u32
-        ensures { result ≡ width_of self }
+        ensures { result ≡ format_width self }
     {
         match self {
             Format::Int => 16,
@@ -43,7 +43,7 @@ impl Format {
 
     /// The bits of this format in an accumulator.
     pub(crate) fn low_bits(self, accumulator: u32) -> u32
-        ensures { result ≡ accumulator % 2 ^ width_of self }
+        ensures { result ≡ accumulator % 2 ^ format_width self }
     {
         match self {
             Format::Int => accumulator % 0x1_0000,
@@ -54,8 +54,8 @@ impl Format {
     /// The accumulator with these bits at its lowest bits.
     #[tactic(auto, unfolding(crate::specs::Accumulators::with_low))]
     pub(crate) fn replace(self, accumulator: u32, bits: u32) -> u32
-        requires { bits < 2 ^ width_of self }
-        ensures { result ≡ with_low (width_of self) accumulator bits }
+        requires { bits < 2 ^ format_width self }
+        ensures { result ≡ with_low (format_width self) accumulator bits }
     {
         match self {
             Format::Int => accumulator - accumulator % 0x1_0000 + bits,
@@ -66,8 +66,8 @@ impl Format {
     /// The lowest bits of a number in two's complement.
     #[tactic(auto, unfolding(crate::specs::Signed::modulo))]
     pub(crate) fn bits(self, number: i64) -> u32
-        ensures value { result ≡ modulo (width_of self) number }
-        ensures bound { result < 2 ^ width_of self }
+        ensures value { result ≡ modulo (format_width self) number }
+        ensures bound { result < 2 ^ format_width self }
     {
         match self {
             Format::Int => u32::from(low_word(number)),
@@ -77,7 +77,7 @@ impl Format {
 
     /// How many integers there are of this format.
     pub(crate) fn modulus(self) -> u64
-        ensures { result ≡ 2 ^ width_of self }
+        ensures { result ≡ 2 ^ format_width self }
     {
         match self {
             Format::Int => 0x1_0000,
@@ -88,7 +88,7 @@ impl Format {
     /// Whether an integer of this format can be `number`.
     #[tactic(auto, unfolding(crate::specs::Signed::in_range))]
     pub(crate) fn holds(self, number: i64) -> bool
-        ensures { result ≡ in_range (width_of self) number }
+        ensures { result ≡ in_range (format_width self) number }
     {
         match self {
             Format::Int => -0x8000 <= number && number < 0x8000,

@@ -1,6 +1,6 @@
 ghost use Rattle.std.specs.Prelude.{◌≡◌, ◌<◌, ◌≤◌, ◌+◌, ◌*◌, ◌^◌, ◌*ℤ◌, unsigned_abs, is_none, IfSome};
-ghost use Rattle.alu.specs.Signed.{width_of, signed};
-ghost use Rattle.alu.specs.Sums.{with_sum, added, subtracted, negated};
+ghost use Rattle.alu.specs.Signed.{format_width, signed};
+ghost use Rattle.alu.specs.Sums.{with_sum, added, subtracted, accu_negated};
 ghost use Rattle.alu.specs.Products.{with_product, multiplied};
 ghost use Rattle.alu.specs.Division.{quotient, remainder, is_zero, is_least_by_minus_one, with_result, divided_by_zero, divided_i, divided_d, remainder_d};
 
@@ -11,7 +11,7 @@ use status_word::Regs;
 /// Puts a true sum into accumulator 1 and shows its codes.
 #[tactic(auto, unfolding(crate::specs::Sums::with_sum))]
 fn put_sum(r: &mut Regs, format: Format, sum: i64)
-    ensures { r.new ≡ with_sum (width_of format) sum r.old }
+    ensures { r.new ≡ with_sum (format_width format) sum r.old }
 {
     r.a1 = format.put(r.a1, sum);
     Codes::of_sum(format, sum).show(&mut r.status);
@@ -51,7 +51,7 @@ pub fn sub_d(r: &mut Regs)
 
 /// NEGI: the two's complement of ACCU 1-L.
 pub fn neg_i(r: &mut Regs)
-    ensures { r.new ≡ negated 16 r.old }
+    ensures { r.new ≡ accu_negated 16 r.old }
 {
     let negative = -Format::Int.read(r.a1);
     put_sum(r, Format::Int, negative);
@@ -59,7 +59,7 @@ pub fn neg_i(r: &mut Regs)
 
 /// NEGD: the two's complement of accumulator 1.
 pub fn neg_d(r: &mut Regs)
-    ensures { r.new ≡ negated 32 r.old }
+    ensures { r.new ≡ accu_negated 32 r.old }
 {
     let negative = -Format::Dint.read(r.a1);
     put_sum(r, Format::Dint, negative);
@@ -78,7 +78,7 @@ fn product(left: i64, right: i64) -> i64
 /// Puts a product into accumulator 1 and shows its codes.
 #[tactic(auto, unfolding(crate::specs::Products::with_product))]
 fn put_product(r: &mut Regs, format: Format, product: i64)
-    ensures { r.new ≡ with_product (width_of format) product r.old }
+    ensures { r.new ≡ with_product (format_width format) product r.old }
 {
     r.a1 = low_dword(product);
     Codes::of_sign(product, !format.holds(product)).show(&mut r.status);
@@ -128,7 +128,7 @@ impl Ratio {
 
 /// Whether this is the one pair of integers whose quotient is no such integer.
 fn is_least_by_minus_one(format: Format, dividend: i64, divisor: i64) -> bool
-    ensures { result ≡ is_least_by_minus_one (width_of format) dividend divisor }
+    ensures { result ≡ is_least_by_minus_one (format_width format) dividend divisor }
 {
     dividend < 0
         && dividend.unsigned_abs() == format.modulus() / 2

@@ -1,5 +1,5 @@
 ghost use Rattle.std.specs.Prelude.{◌≡◌, ◌<◌, ◌≤◌, ◌%◌, ◌^◌, ◌*◌, ◌+◌, ◌-◌, ◌/◌};
-ghost use Rattle.alu.specs.Signed.{width_of};
+ghost use Rattle.alu.specs.Signed.{format_width};
 ghost use Rattle.alu.specs.Shifts.{places_of, with_shifted, shifted_left, shifted_right, shifted_signed};
 ghost use Rattle.alu.specs.Rotations.{rotated_left, rotated_right, rotated_left_through, rotated_right_through, turn_of};
 
@@ -20,8 +20,8 @@ fn places(r: &Regs, count: Option<u8>) -> u32
 /// Puts shifted bits into accumulator 1, and the last bit that was shifted out into CC 1.
 #[tactic(auto, unfolding(crate::specs::Shifts::with_shifted))]
 fn put_shifted(r: &mut Regs, format: Format, bits: u32, last: bool)
-    requires { bits < 2 ^ width_of format }
-    ensures { r.new ≡ with_shifted (width_of format) bits last r.old }
+    requires { bits < 2 ^ format_width format }
+    ensures { r.new ≡ with_shifted (format_width format) bits last r.old }
 {
     r.a1 = format.replace(r.a1, bits);
     let codes = Codes::new(last, false, false);
@@ -37,7 +37,7 @@ fn low_half(wide: u64) -> u32
 
 #[tactic(auto, unfolding(crate::specs::Shifts::shifted_left))]
 fn shift_left(r: &mut Regs, format: Format, places: u32)
-    ensures { r.new ≡ shifted_left (width_of format) places r.old }
+    ensures { r.new ≡ shifted_left (format_width format) places r.old }
 {
     let bits = format.low_bits(r.a1);
     let width = format.width();
@@ -54,7 +54,7 @@ fn shift_left(r: &mut Regs, format: Format, places: u32)
 
 #[tactic(auto, unfolding(crate::specs::Shifts::shifted_right))]
 fn shift_right(r: &mut Regs, format: Format, places: u32)
-    ensures { r.new ≡ shifted_right (width_of format) places r.old }
+    ensures { r.new ≡ shifted_right (format_width format) places r.old }
 {
     let bits = format.low_bits(r.a1);
     if places == 0 {
@@ -70,7 +70,7 @@ fn shift_right(r: &mut Regs, format: Format, places: u32)
 
 #[tactic(auto, unfolding(crate::specs::Shifts::shifted_signed))]
 fn shift_signed(r: &mut Regs, format: Format, places: u32)
-    ensures { r.new ≡ shifted_signed (width_of format) places r.old }
+    ensures { r.new ≡ shifted_signed (format_width format) places r.old }
 {
     let bits = format.low_bits(r.a1);
     let number = format.read(r.a1);

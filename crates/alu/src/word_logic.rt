@@ -1,6 +1,6 @@
 ghost use Rattle.std.specs.Prelude.{◌≡◌, ◌<◌, ◌%◌, ◌^◌};
-ghost use Rattle.alu.specs.Signed.{width_of};
-ghost use Rattle.alu.specs.WordLogic.{operand_of, with_combined, anded, ored, xored};
+ghost use Rattle.alu.specs.Signed.{format_width};
+ghost use Rattle.alu.specs.WordLogic.{logic_operand, with_combined, anded, ored, xored};
 
 use crate::codes::Codes;
 use crate::formats::{Format, word_of};
@@ -9,7 +9,7 @@ use status_word::Regs;
 /// The lowest bits of accumulator 1 and the second operand.
 fn operands(r: &Regs, constant: Option<u16>) -> (u16, u16)
     ensures first { result.0 ≡ r.now.a1 % 2 ^ 16 }
-    ensures second { result.1 ≡ operand_of 16 constant r.now }
+    ensures second { result.1 ≡ logic_operand 16 constant r.now }
 {
     (word_of(r.a1), constant.unwrap_or(word_of(r.a2)))
 }
@@ -17,7 +17,7 @@ fn operands(r: &Regs, constant: Option<u16>) -> (u16, u16)
 /// The bits of accumulator 1 and the second operand.
 fn wide_operands(r: &Regs, constant: Option<u32>) -> (u32, u32)
     ensures first { result.0 ≡ r.now.a1 % 2 ^ 32 }
-    ensures second { result.1 ≡ operand_of 32 constant r.now }
+    ensures second { result.1 ≡ logic_operand 32 constant r.now }
 {
     let own = Format::Dint.low_bits(r.a2);
     (Format::Dint.low_bits(r.a1), constant.unwrap_or(own))
@@ -26,8 +26,8 @@ fn wide_operands(r: &Regs, constant: Option<u32>) -> (u32, u32)
 /// Puts combined bits into accumulator 1 and shows whether they are 0.
 #[tactic(auto, unfolding(crate::specs::WordLogic::with_combined))]
 fn put_combined(r: &mut Regs, format: Format, bits: u32)
-    requires { bits < 2 ^ width_of format }
-    ensures { r.new ≡ with_combined (width_of format) bits r.old }
+    requires { bits < 2 ^ format_width format }
+    ensures { r.new ≡ with_combined (format_width format) bits r.old }
 {
     r.a1 = format.replace(r.a1, bits);
     let codes = Codes::new(bits != 0, false, false);

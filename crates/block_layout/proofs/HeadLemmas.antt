@@ -9,7 +9,7 @@ use Rattle.plc_base.specs.Kinds.{is_data_block}
 use Rattle.plc_base.specs.declared.refusals.Refusal.{Refusal}
 use Rattle.stl_ast.specs.declared.blocks.Block.{Block}
 use Rattle.stl_ast.specs.declared.blocks.Part.{Part}
-use Rattle.plc_base.specs.Gathered.{gathered}
+use Rattle.plc_base.specs.Gathered.{refusals_along}
 use Rattle.plc_base.specs.Least.{broken_if, least, lesser}
 use Rattle.plc_base.proofs.LeastLemmas.{least-append}
 use Rattle.plc_base.proofs.GatheredLemmas.{gathered_done, gathered_next}
@@ -19,7 +19,7 @@ use Rattle.block_layout.specs.Rule54.{data_length, total}
 use Rattle.block_layout.specs.Types.{Types}
 
 gathered_by_itself : (p : Block → Bool) (rule : ℕ) (before blocks : List Block) →
-    gathered (λ b. false) (λ before b. broken_if (p b) b.line rule) (λ before b. b ∷ before) before blocks ≡ flat_map (λ b. broken_if (p b) b.line rule) blocks
+    refusals_along (λ b. false) (λ before b. broken_if (p b) b.line rule) (λ before b. b ∷ before) before blocks ≡ flat_map (λ b. broken_if (p b) b.line rule) blocks
 gathered_by_itself p rule before [] = refl
 gathered_by_itself p rule before (b ∷ bs) = ap (λ (rs : List Refusal). broken_if (p b) b.line rule ++ rs) (gathered_by_itself p rule (b ∷ before) bs)
 
@@ -51,13 +51,13 @@ count_end {X = X} p xs i count whole over so_far =
 -- how the walk over the blocks goes on
 pub heads_turn : (p : List Block → Block → Bool) (rule : ℕ) (blocks : List Block) (i : ℕ) (b : Block) (found one next whole : Option Refusal) (before : List Block) →
     i < length blocks → b ≡ get_or blocks i b → one ≡ least (broken_if (p before b) b.line rule) → next ≡ lesser found one →
-    lesser found (least (gathered (λ b. false) (λ before b. broken_if (p before b) b.line rule) (λ before b. b ∷ before) before (drop i blocks))) ≡ whole →
-    lesser next (least (gathered (λ b. false) (λ before b. broken_if (p before b) b.line rule) (λ before b. b ∷ before) (b ∷ before) (drop (i + 1) blocks))) ≡ whole
+    lesser found (least (refusals_along (λ b. false) (λ before b. broken_if (p before b) b.line rule) (λ before b. b ∷ before) before (drop i blocks))) ≡ whole →
+    lesser next (least (refusals_along (λ b. false) (λ before b. broken_if (p before b) b.line rule) (λ before b. b ∷ before) (b ∷ before) (drop (i + 1) blocks))) ≡ whole
 heads_turn p rule blocks i b found one next whole before within is_b is_one is_next so_far =
     gathered_next (λ b. false) (λ before b. broken_if (p before b) b.line rule) (λ before b. b ∷ before) before (b ∷ before) blocks i b found one next whole within is_b refl is_one is_next refl so_far
 
 pub heads_end : (p : List Block → Block → Bool) (rule : ℕ) (blocks : List Block) (i : ℕ) (found whole : Option Refusal) (before : List Block) → length blocks ≤ i →
-    lesser found (least (gathered (λ b. false) (λ before b. broken_if (p before b) b.line rule) (λ before b. b ∷ before) before (drop i blocks))) ≡ whole → found ≡ whole
+    lesser found (least (refusals_along (λ b. false) (λ before b. broken_if (p before b) b.line rule) (λ before b. b ∷ before) before (drop i blocks))) ≡ whole → found ≡ whole
 heads_end p rule blocks i found whole before over so_far =
     gathered_done (λ b. false) (λ before b. broken_if (p before b) b.line rule) (λ before b. b ∷ before) before blocks i found whole over so_far
 

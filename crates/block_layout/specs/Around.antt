@@ -5,7 +5,7 @@ use Rattle.plc_base.specs.declared.refusals.Refusal.{Refusal}
 use Rattle.stl_ast.specs.declared.blocks.Block.{Block}
 use Rattle.stl_ast.specs.declared.declarations.Declaration.{Declaration}
 use Rattle.stl_ast.specs.declared.declarations.Simple.{Simple}
-use Rattle.plc_base.specs.Gathered.{gathered}
+use Rattle.plc_base.specs.Gathered.{refusals_along}
 
 -- a declaration with those before it
 pub record Holder : Type 0 where
@@ -54,7 +54,7 @@ of_structure = record { names = []; depth = 1 }
 -- what breaks a rule of declarations, of all that follow some declarations
 abbrev pub in_rest : (List Declaration → Declaration → List Refusal) → (before : List Declaration)
     → List Declaration → List Refusal
-in_rest broken before ds = gathered (λ d. false) broken (λ before d. d ∷ before) before ds
+in_rest broken before ds = refusals_along (λ d. false) broken (λ before d. d ∷ before) before ds
 
 -- and of all that stand in a list
 abbrev pub in_list : (List Declaration → Declaration → List Refusal) → List Declaration

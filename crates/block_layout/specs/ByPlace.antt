@@ -2,8 +2,8 @@
 use Rattle.std.specs.Prelude.{ℕ, ◌+◌, false, List}
 use Rattle.plc_base.specs.declared.refusals.Refusal.{Refusal}
 use Rattle.stl_ast.specs.declared.blocks.Block.{Block}
-use Rattle.plc_base.specs.Gathered.{gathered}
+use Rattle.plc_base.specs.Gathered.{refusals_along}
 
 -- of the blocks from this place on
 abbrev pub by_place : (broken : ℕ → Block → List Refusal) → (block : ℕ) → List Block → List Refusal
-by_place broken block blocks = gathered (λ b. false) broken (λ k b. k + 1) block blocks
+by_place broken block blocks = refusals_along (λ b. false) broken (λ k b. k + 1) block blocks

@@ -10,7 +10,7 @@ use Rattle.stl_ast.specs.declared.declarations.ElementType.{ElementType}
 use Rattle.stl_ast.specs.declared.declarations.ElementType.TheVariants as element
 use Rattle.stl_ast.specs.declared.declarations.Init.{Init}
 use Rattle.stl_ast.specs.declared.declarations.Simple.{Simple}
-use Rattle.plc_base.specs.Folding.{folded}
+use Rattle.plc_base.specs.Folding.{upper_case_name}
 use Rattle.block_layout.specs.declared.cells.Cell.{Cell}
 use Rattle.block_layout.specs.declared.cells.Element.{Element}
 use Rattle.block_layout.specs.declared.cells.Element.TheVariants.{Plain, Structure, DateAndTime, Udt, Unknown}
@@ -68,7 +68,7 @@ preset i = record { count = times i.count; value = bits_of i.value }
 -- None is the first of its section yet: `opened` says which is
 unfoldable pub cell_of : Types → Outside → PartKind → List Declaration → Declaration → Cell
 cell_of y o section before d = record {
-  name = folded d.name;
+  name = upper_case_name d.name;
   section = section;
   level = d.level;
   opens = false;

@@ -1,7 +1,7 @@
 -- Which constants fit which elementary type, and their bits.
 use Rattle.std.specs.Prelude.{ℕ, ◌+◌, ◌-◌, ◌*◌, ◌^◌, ℤ, pos, negsuc, nat_le, nat_lt, nat_eq, Bool, true, false, ◌||◌, List, [], ◌∷◌, length, Option, Some, None, if◌then◌else◌}
 use Rattle.plc_base.specs.Bcd.{bcd_digits}
-use Rattle.plc_base.specs.S5Time.{s5time_of}
+use Rattle.plc_base.specs.S5Time.{s5time_of_ms}
 use Rattle.stl_ast.specs.declared.declarations.Simple.{Simple}
 use Rattle.stl_ast.specs.declared.declarations.Simple.TheVariants as simple
 use Rattle.stl_ast.specs.declared.literals.Literal.{Literal}
@@ -112,6 +112,6 @@ bits_of (literal.Dword value) = value
 bits_of (literal.Long value) = twos 32 value
 bits_of (literal.Count value) = bcd_digits 3 value
 bits_of (literal.Time ms) = twos 32 ms
-bits_of (literal.S5time ms) = or_0 (s5time_of ms)
+bits_of (literal.S5time ms) = or_0 (s5time_of_ms ms)
 bits_of (literal.Characters bytes) = number_from 0 bytes
 bits_of (literal.Bytes bytes) = number_from 0 bytes

@@ -3,13 +3,13 @@
 use Rattle.std.specs.Prelude.{ℕ, Bool, false, List, [], ◌∷◌}
 use Rattle.plc_base.specs.declared.refusals.Refusal.{Refusal}
 use Rattle.stl_ast.specs.declared.blocks.Block.{Block}
-use Rattle.plc_base.specs.Gathered.{gathered}
+use Rattle.plc_base.specs.Gathered.{refusals_along}
 use Rattle.plc_base.specs.Least.{broken_if}
 
 -- a refusal at the head of each block that breaks the rule, by the blocks before it
 abbrev pub on_heads : (breaks : List Block → Block → Bool) → (rule : ℕ) → List Block → List Refusal
 on_heads breaks rule blocks =
-    gathered (λ b. false) (λ before b. broken_if (breaks before b) b.line rule)
+    refusals_along (λ b. false) (λ before b. broken_if (breaks before b) b.line rule)
     (λ before b. b ∷ before) [] blocks
 
 -- of each block whether it breaks such a rule

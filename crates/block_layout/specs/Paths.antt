@@ -6,7 +6,7 @@ use Rattle.stl_ast.specs.declared.declarations.Bounds.{Bounds}
 use Rattle.stl_ast.specs.declared.declarations.Simple.{Simple}
 use Rattle.stl_ast.specs.declared.blocks.PathStep.{PathStep}
 use Rattle.stl_ast.specs.declared.blocks.PathStep.TheVariants as step
-use Rattle.plc_base.specs.Folding.{folded}
+use Rattle.plc_base.specs.Folding.{upper_case_name}
 use Rattle.block_layout.specs.declared.blocks.BlockLayout.{BlockLayout}
 use Rattle.block_layout.specs.declared.blocks.Shape.{Shape}
 use Rattle.block_layout.specs.declared.blocks.Shape.TheVariants as shape
@@ -23,7 +23,7 @@ use Rattle.block_layout.specs.Sizes.{capped, array_bits, element_of}
 
 -- the steps of a path of the source, with their names in upper case
 abbrev pub folded_step : PathStep → PathStep
-folded_step (step.Named name) = step.Named (folded name)
+folded_step (step.Named name) = step.Named (upper_case_name name)
 folded_step (step.Index at) = step.Index at
 
 -- a path of the source, as it is compared with the names of cells

@@ -4,14 +4,14 @@ use Rattle.std.specs.Prelude.{ℕ, nat_lt, nat_eq, Bool, is_some, List, [], ◌�
 use Rattle.plc_base.specs.declared.refusals.Refusal.{Refusal}
 use Rattle.stl_ast.specs.declared.blocks.Block.{Block}
 use Rattle.stl_ast.specs.declared.declarations.Declaration.{Declaration}
-use Rattle.plc_base.specs.Folding.{folded}
+use Rattle.plc_base.specs.Folding.{upper_case_name}
 use Rattle.plc_base.specs.Least.{broken_if}
 use Rattle.stl_symbols.specs.Names.{place_of}
 use Rattle.block_layout.specs.Around.{Outside, in_blocks}
 
 -- the name of a declaration at this level, without case; of one at another level none
 abbrev pub name_here : ℕ → Declaration → List (List ℕ)
-name_here level d = if nat_eq d.level level then folded d.name ∷ [] else []
+name_here level d = if nat_eq d.level level then upper_case_name d.name ∷ [] else []
 
 -- the names of the list that a declaration at this level goes on: of those before it the ones at this level, back to the
 -- structure that holds it
@@ -22,7 +22,7 @@ names_before outer level (d ∷ ds) =
 
 -- its name stands before it in its list
 abbrev pub is_twice : Outside → List Declaration → Declaration → Bool
-is_twice o before d = is_some (place_of (folded d.name) (names_before o.names d.level before))
+is_twice o before d = is_some (place_of (upper_case_name d.name) (names_before o.names d.level before))
 
 -- the refusal of a declaration, at its line
 abbrev pub broken_21 : Outside → List Declaration → Declaration → List Refusal

@@ -11,7 +11,7 @@ use Rattle.stl_ast.specs.declared.operands.Operand.{Operand}
 use Rattle.stl_ast.specs.declared.operands.Operand.TheVariants as operand
 use Rattle.stl_ast.specs.declared.operands.PathHead.{PathHead}
 use Rattle.stl_ast.specs.declared.operands.PathHead.TheVariants as head
-use Rattle.plc_base.specs.Folding.{folded}
+use Rattle.plc_base.specs.Folding.{upper_case_name}
 use Rattle.plc_base.specs.Least.{broken_if}
 use Rattle.block_layout.specs.Around.{Outside, in_blocks}
 use Rattle.block_layout.specs.Blocks.{found_block}
@@ -40,7 +40,7 @@ leaves_found l (Some block) steps = leaves_judged l (structure_of l block) steps
 -- the path of an operand in the body of a block; a symbol leads to no component
 abbrev pub leaves_path : Types → List BlockLayout → (block : ℕ) → PathHead → List PathStep → Bool
 leaves_path y l block (head.Local name) steps =
-    leaves_local l block (folded name) (folded_path steps)
+    leaves_local l block (upper_case_name name) (folded_path steps)
 leaves_path y l block (head.InBlock name) steps =
     leaves_found l (found_block y.symbols y.ids is_data_block name) (folded_path steps)
 leaves_path y l block (head.Symbol name) steps = false

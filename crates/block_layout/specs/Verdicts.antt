@@ -4,7 +4,7 @@ use Rattle.std.specs.Prelude.{◌≡◌, ◌<◌, ◌||◌, ℕ, ◌+◌, max, n
 use Rattle.std.specs.List.{list_all}
 use Rattle.stl_ast.specs.declared.blocks.PartKind.{PartKind}
 use Rattle.stl_ast.specs.declared.declarations.Declaration.{Declaration}
-use Rattle.plc_base.specs.Folding.{folded}
+use Rattle.plc_base.specs.Folding.{upper_case_name}
 use Rattle.stl_symbols.specs.Names.{place_of}
 use Rattle.block_layout.specs.Around.{Outside, around, onto, in_rest, in_list, in_block, of_sections, section_declarations}
 use Rattle.block_layout.specs.Cells.{cells_of, opened, is_temp, section_cells, returned_cells, components_of, temps_of, breaks_rule, is_sound, laid, preset, uses_oversized}
@@ -56,12 +56,12 @@ is_deep_in around_it own = nat_le around_it 8 && nat_lt 8 (around_it + own)
 -- a declaration breaks rule 21, 23, 41, 42 or 56, by the list that it goes on
 abbrev pub breaks_in : Types → Frame → Declaration → Bool
 breaks_in y f d =
-    is_some (place_of (folded d.name) f.names) || breaks_alone y d || is_deep_in f.depth (deep (own_depth y d))
+    is_some (place_of (upper_case_name d.name) f.names) || breaks_alone y d || is_deep_in f.depth (deep (own_depth y d))
 
 -- what the rules find of a declaration by its list alone, without those before it
 unfoldable pub verdict_in : Types → Frame → Declaration → Verdict
 verdict_in y f d = record {
-  twice = is_some (place_of (folded d.name) f.names);
+  twice = is_some (place_of (upper_case_name d.name) f.names);
   deep = is_deep_in f.depth (deep (own_depth y d));
   breaks = breaks_in y f d;
   sound = not (breaks_in y f d) && not (uses_oversized y d.of.of) && f.sound;
@@ -70,7 +70,7 @@ verdict_in y f d = record {
 
 -- the list with the name of a declaration, in upper case, behind the others
 abbrev pub with_name : Frame → Declaration → Frame
-with_name f d = record f { names = f.names ++ folded d.name ∷ [] }
+with_name f d = record f { names = f.names ++ upper_case_name d.name ∷ [] }
 
 -- the list inside a declaration
 abbrev pub inside : Types → Frame → Declaration → Frame
@@ -111,7 +111,7 @@ deep_by v d = broken_if v.deep d.line 56
 -- the cell of a declaration that is sound or not, and opens its section or not
 unfoldable pub cell_with : Types → PartKind → (sound opens : Bool) → Declaration → Cell
 cell_with y section sound opens d = record {
-  name = folded d.name;
+  name = upper_case_name d.name;
   section = section;
   level = d.level;
   opens = opens;

@@ -1,5 +1,5 @@
 ghost use Rattle.std.specs.Prelude.{◌≡◌, ◌≤◌, length};
-ghost use Rattle.plc_base.specs.S5Time.{s5time_of};
+ghost use Rattle.plc_base.specs.S5Time.{s5time_of_ms};
 ghost use Rattle.block_layout.specs.Fits.{
   bits_of,
   fits,
@@ -142,7 +142,7 @@ pub fn bits_of(value: &Literal) -> u32
 
 /// The S5TIME of so many milliseconds, 0 where they are too many.
 fn s5time_word(ms: u32) -> u32
-    ensures { result ≡ or_0 (s5time_of ms) }
+    ensures { result ≡ or_0 (s5time_of_ms ms) }
 {
     match s5time_of_ms(ms) {
         Ok(word) => word as u32,

@@ -2,7 +2,7 @@ ghost use Rattle.std.specs.Prelude.{◌≡◌, ◌∷◌, ◌++◌, IfOk};
 ghost use Rattle.block_layout.specs.Paths.{folded_path, folded_step};
 ghost use Rattle.stl_ast.specs.declared.blocks.PathStep.{PathStep};
 ghost use Rattle.stl_ast.specs.declared.blocks.PathStep.TheVariants.{Named};
-ghost use Rattle.plc_base.specs.Folding.{folded};
+ghost use Rattle.plc_base.specs.Folding.{upper_case_name};
 
 use std::alloc::{AllocError, Global};
 use std::marker::Model;
@@ -24,7 +24,7 @@ impl Model for Path {
 }
 
 fn named_step(alloc: Global, name: &Name) -> Result<PathStep, AllocError>
-    ensures { IfOk result (λ s. s ≡ Named (folded name.now)) }
+    ensures { IfOk result (λ s. s ≡ Named (upper_case_name name.now)) }
 {
     let upper = name.as_bytes().to_ascii_uppercase(alloc)?;
     Ok(PathStep::Named {

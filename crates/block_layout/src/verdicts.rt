@@ -1,7 +1,7 @@
 ghost use Rattle.std.specs.Prelude.{◌≡◌, ◌<◌, List, length, get_or, IfOk, not, ◌&&◌};
 ghost use Rattle.stl_ast.specs.Outline.{IsOutline};
 ghost use Rattle.stl_ast.specs.declared.declarations.Declaration.{Declaration};
-ghost use Rattle.plc_base.specs.Folding.{folded};
+ghost use Rattle.plc_base.specs.Folding.{upper_case_name};
 ghost use Rattle.block_layout.specs.Around.{Outside};
 ghost use Rattle.block_layout.specs.declared.verdicts.Frame.{Frame};
 ghost use Rattle.block_layout.specs.Verdicts.{AreOpen, JudgedOnto, entered_by, verdict_in};
@@ -36,7 +36,7 @@ pub(crate) struct Verdict {
 /// What a declaration is by the list that it goes on; `name` is its name in upper case.
 #[tactic(auto, unfolding(crate::specs::Verdicts::verdict_in))]
 fn judge(types: &Types, frame: &Frame, name: &[u8], declaration: &Declaration) -> Verdict
-    requires { name.now ≡ folded declaration.now.name }
+    requires { name.now ≡ upper_case_name declaration.now.name }
     ensures { result ≡ verdict_in types.now frame.now declaration.now }
 {
     let around = frame.depth as u64;

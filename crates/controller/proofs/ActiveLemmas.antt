@@ -4,13 +4,13 @@ use Rattle.std.specs.Prelude.{map, reverse, min, IfSome}
 use Rattle.std.specs.Option.{option_map}
 use Rattle.std.proofs.lemmas.List.{length-reverse, length-take-le, take_more_set, take_more, reverse-append, reverse-reverse}
 use Rattle.plc_base.specs.declared.Profile.{Profile}
-use Rattle.frames.specs.Activations.{begun, frame_begun}
+use Rattle.frames.specs.Activations.{activation_begun, frame_begun}
 use Rattle.frames.specs.declared.Activation.{Activation}
-use Rattle.machine.specs.Code.{Head}
+use Rattle.machine.specs.Code.{BlockHead}
 use Rattle.ob_sched.specs.declared.start_infos.StartInfo.{StartInfo}
-use Rattle.controller.specs.Beginning.{ob_begun, ob_block, ob_frame, told_from}
-use Rattle.controller.specs.Leaves.{Begins}
-use Rattle.controller.specs.Ticking.{active}
+use Rattle.controller.specs.Beginning.{ob_begun, ob_block, ob_frame, with_start_bytes}
+use Rattle.controller.specs.Leaves.{ObBegins}
+use Rattle.controller.specs.Ticking.{active_obs}
 use Rattle.controller.specs.Views.{activations_of}
 use Rattle.controller.proofs.SameLemmas.{told_class, told_ob}
 
@@ -32,7 +32,7 @@ front_count n all h = length-take-le n all h
 
 -- their organization blocks
 pub active_standing : (n : ℕ) (all : List Activation)
-    → map (λ (b : Activation). b.ob) (take n all) ≡ active (activations_of n all)
+    → map (λ (b : Activation). b.ob) (take n all) ≡ active_obs (activations_of n all)
 active_standing n all = ap (map (λ (b : Activation). b.ob)) (sym (reverse-reverse (take n all)))
 
 -- one more stands
@@ -51,27 +51,27 @@ running_last n all a h here =
     ∙ reverse-append (take n all) (a ∷ [])
 
 -- an organization block of a program as it begins
-pub block_begins : (profile : Profile) (found : Option Head) (class ob : ℕ) (info : StartInfo) (n : ℕ)
-    (old : List Activation) → Some n ≡ option_map (λ (head : Head). min head.local_len 1024) found
-    → Begins (option_map (ob_begun profile class ob info) found) old
-    (told_from 0 info.bytes (begun profile class ob (frame_begun (ob_block ob) n)) ∷ old) true
+pub block_begins : (profile : Profile) (found : Option BlockHead) (class ob : ℕ) (info : StartInfo) (n : ℕ)
+    (old : List Activation) → Some n ≡ option_map (λ (head : BlockHead). min head.local_len 1024) found
+    → ObBegins (option_map (ob_begun profile class ob info) found) old
+    (with_start_bytes 0 info.bytes (activation_begun profile class ob (frame_begun (ob_block ob) n)) ∷ old) true
 unfolding ob_begun
 block_begins profile None class ob info n old h = absurd cc
 block_begins profile (Some head) class ob info n old h = search (rules, h)
 
-pub block_missing : (profile : Profile) (found : Option Head) (class ob : ℕ) (info : StartInfo) (old : List Activation)
-    → None ≡ option_map (λ (head : Head). min head.local_len 1024) found
-    → Begins (option_map (ob_begun profile class ob info) found) old old false
+pub block_missing : (profile : Profile) (found : Option BlockHead) (class ob : ℕ) (info : StartInfo) (old : List Activation)
+    → None ≡ option_map (λ (head : BlockHead). min head.local_len 1024) found
+    → ObBegins (option_map (ob_begun profile class ob info) found) old old false
 block_missing profile None class ob info old h = refl
 block_missing profile (Some head) class ob info old h = absurd cc
 
 -- its class and its number
-pub block_is : (profile : Profile) (found : Option Head) (class ob : ℕ) (info : StartInfo)
+pub block_is : (profile : Profile) (found : Option BlockHead) (class ob : ℕ) (info : StartInfo)
     → IfSome (option_map (ob_begun profile class ob info) found)
     (λ (a : Activation). (a.class ≡ class) × (a.ob ≡ ob))
 unfolding ob_begun
 block_is profile None class ob info = tt
 block_is profile (Some head) class ob info = (
-  told_class info.bytes 0 (begun profile class ob (ob_frame ob head)),
-  told_ob info.bytes 0 (begun profile class ob (ob_frame ob head)),
+  told_class info.bytes 0 (activation_begun profile class ob (ob_frame ob head)),
+  told_ob info.bytes 0 (activation_begun profile class ob (ob_frame ob head)),
 )

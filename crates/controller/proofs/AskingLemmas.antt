@@ -3,7 +3,7 @@ use Rattle.std.proofs.Common.{◌≡◌, ℕ, ◌+◌, List, [], ◌∷◌, ◌+
 use Rattle.std.proofs.lemmas.List.{append-nil}
 use Rattle.plc_mem.specs.Areas.{Areas}
 use Rattle.var_access.specs.declared.Var.{Var}
-use Rattle.controller.specs.Asking.{value_of, value_before, values_from}
+use Rattle.controller.specs.Asking.{var_value, value_before, values_from}
 
 -- values that were read before others
 abbrev pub values_behind : List ℕ → Result (List ℕ) ℕ → Result (List ℕ) ℕ
@@ -22,7 +22,7 @@ behind_more front value index (Err absent) = refl
 
 pub one_more_value : (m : Areas) (front : List ℕ) (index value : ℕ) (var : Var) (rest : List Var)
     (all : Result (List ℕ) ℕ) → all ≡ values_behind front (values_from m index (var ∷ rest))
-    → value_of m var ≡ Some value
+    → var_value m var ≡ Some value
     → all ≡ values_behind (front ++ value ∷ []) (values_from m (index + 1) rest)
 one_more_value m front index value var rest all are is =
     are
@@ -31,7 +31,7 @@ one_more_value m front index value var rest all are is =
 
 pub one_absent : (m : Areas) (front : List ℕ) (index : ℕ) (var : Var) (rest : List Var)
     (all : Result (List ℕ) ℕ) → all ≡ values_behind front (values_from m index (var ∷ rest))
-    → value_of m var ≡ None → all ≡ Err index
+    → var_value m var ≡ None → all ≡ Err index
 one_absent m front index var rest all are none =
     are
     ∙ ap (λ (o : Option ℕ). values_behind front (value_before o index (values_from m (index + 1) rest))) none

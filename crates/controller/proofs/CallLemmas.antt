@@ -6,7 +6,7 @@ use Rattle.plc_base.specs.declared.Mode.{Mode}
 use Rattle.plc_base.specs.declared.Spot.{Spot}
 use Rattle.plc_base.specs.Widths.{bit_count}
 use Rattle.plc_mem.specs.Areas.{Areas}
-use Rattle.plc_mem.specs.Writing.{written}
+use Rattle.plc_mem.specs.Writing.{number_written}
 use Rattle.status_word.specs.declared.Regs.{Regs}
 use Rattle.frames.specs.Locals.{LocalData, local_written}
 use Rattle.frames.specs.declared.Activation.{Activation}
@@ -15,22 +15,22 @@ use Rattle.frames.specs.declared.bindings.Binding.TheVariants as binding
 use Rattle.machine.specs.Code.{Code}
 use Rattle.machine.specs.Copies.{scene_or}
 use Rattle.machine.specs.ExecState.{LocalMemory, local_memory_of}
-use Rattle.machine.specs.Places.{is_local}
-use Rattle.machine.specs.Results.{with_result}
+use Rattle.machine.specs.Places.{is_area_l}
+use Rattle.machine.specs.Results.{with_ret_val}
 use Rattle.machine.specs.Statement.{with_memory}
 use Rattle.machine.specs.Values.{with_locals, write}
 use Rattle.ob_sched.specs.OrganizationBlock.{is_delay}
-use Rattle.ob_sched.specs.Scheduler.{Scheduler, delay_of, delay_started, delay_cancelled, retriggered}
+use Rattle.ob_sched.specs.Scheduler.{Scheduler, delay_of, delay_started, delay_cancelled, cycle_retriggered}
 use Rattle.sys_funcs.specs.Disabling.{refusal}
 use Rattle.sys_funcs.specs.Functions.{dis_airt, en_airt, set_unless, dis_irt, en_irt, srt_dint, can_dint, time_tck, with_delay}
 use Rattle.sys_funcs.specs.Returned.{Returned, returned, passed}
 use Rattle.controller.specs.Leaves.{call_left, regs_called, running_of, ServesTo, ServesRunning}
 use Rattle.controller.specs.Monitoring.{regs_served}
-use Rattle.controller.specs.Serving.{Served, Returns, Passes, Stops, result_given, after_service, served, input}
-use Rattle.controller.specs.Stack.{IsStanding}
+use Rattle.controller.specs.Serving.{Served, Returns, Passes, Stops, result_given, after_service, system_function_served, in_parameter}
+use Rattle.controller.specs.Stack.{IsActivationStack}
 use Rattle.controller.specs.State.{State}
-use Rattle.controller.specs.Stopping.{halted_at, spot_at}
-use Rattle.controller.specs.declared.activations.Stand.{Stand}
+use Rattle.controller.specs.Stopping.{stop_entered_at, statement_spot}
+use Rattle.controller.specs.declared.activations.At.{At}
 use Rattle.controller.proofs.SameLemmas.{Same}
 use Rattle.controller.proofs.StepLemmas.{same_stack}
 
@@ -100,17 +100,17 @@ if_served true a x y one other = one
 if_served false a x y one other = other
 
 pub served_same : (number : ℕ) (inputs : List ℕ) (s : Scheduler) (a : Activation)
-    → SameServed a (served number inputs s a)
-unfolding served SameServed
+    → SameServed a (system_function_served number inputs s a)
+unfolding system_function_served SameServed
 served_same number inputs s a =
     if_served (number == 32) a _ _
-    (srt_dint_same s a (input 0 inputs) (input 1 inputs) (input 2 inputs))
-    (if_served (number == 33) a _ _ (can_dint_same s a (input 0 inputs))
-    (if_served (number == 39) a _ _ (dis_irt_same s a (input 0 inputs) (input 1 inputs))
-    (if_served (number == 40) a _ _ (en_irt_same s a (input 0 inputs) (input 1 inputs))
+    (srt_dint_same s a (in_parameter 0 inputs) (in_parameter 1 inputs) (in_parameter 2 inputs))
+    (if_served (number == 33) a _ _ (can_dint_same s a (in_parameter 0 inputs))
+    (if_served (number == 39) a _ _ (dis_irt_same s a (in_parameter 0 inputs) (in_parameter 1 inputs))
+    (if_served (number == 40) a _ _ (en_irt_same s a (in_parameter 0 inputs) (in_parameter 1 inputs))
     (if_served (number == 41) a _ _ (dis_airt_same s a)
     (if_served (number == 42) a _ _ (en_airt_same s a)
-    (if_served (number == 43) a (Passes (retriggered s) (passed a)) _ (refl, refl)
+    (if_served (number == 43) a (Passes (cycle_retriggered s) (passed a)) _ (refl, refl)
     (if_served (number == 46) a (Stops 1 (passed a)) _ (refl, refl) (time_tck_same s a))))))))
 
 -- nor does its result
@@ -121,24 +121,24 @@ given_same (Some to) value a b m same = same
 
 serves_to_stands : (mode : Mode) (sv : Served) (to : Option Binding) (a : Activation)
     (below new : List Activation) (m m' : Areas) (s s' : Scheduler) → SameServed a sv
-    → ServesTo sv to below new m m' s s' None → IsStanding mode (a ∷ below) → IsStanding mode new
+    → ServesTo sv to below new m m' s s' None → IsActivationStack mode (a ∷ below) → IsActivationStack mode new
 unfolding SameServed
 serves_to_stands mode (Returns r) to a below new m m' s s' same serves standing =
-    subst (λ acts. IsStanding mode acts) (sym serves.0)
+    subst (λ acts. IsActivationStack mode acts) (sym serves.0)
     (same_stack mode a (result_given to r.value r.activation m).activation below
     (given_same to r.value a r.activation m same) standing)
 serves_to_stands mode (Passes sched b) to a below new m m' s s' same serves standing =
-    subst (λ acts. IsStanding mode acts) (sym serves.0) (same_stack mode a b below same standing)
+    subst (λ acts. IsActivationStack mode acts) (sym serves.0) (same_stack mode a b below same standing)
 serves_to_stands mode (Stops cause b) to a below new m m' s s' same serves standing = absurd serves
 
 pub call_stands : (mode : Mode) (number : ℕ) (inputs : List ℕ) (to : Option Binding)
     (old new : List Activation) (m m' : Areas) (s s' : Scheduler)
-    → ServesRunning number inputs to old new m m' s s' None → IsStanding mode old
-    → IsStanding mode new
+    → ServesRunning number inputs to old new m m' s s' None → IsActivationStack mode old
+    → IsActivationStack mode new
 call_stands mode number inputs to [] new m m' s s' serves standing =
-    subst (λ acts. IsStanding mode acts) (sym serves.0) standing
+    subst (λ acts. IsActivationStack mode acts) (sym serves.0) standing
 call_stands mode number inputs to (a ∷ below) new m m' s s' serves standing =
-    serves_to_stands mode (served number inputs s a) to a below new m m' s s'
+    serves_to_stands mode (system_function_served number inputs s a) to a below new m m' s s'
     (served_same number inputs s a) serves standing
 
 -- what a call comes to
@@ -151,7 +151,7 @@ goes_to at (Returns r) to below new s m' sched serves = rw (serves.0, serves.1, 
 goes_to at (Passes next a) to below new s m' sched serves = rw (serves.0, serves.1, serves.2) refl
 goes_to at (Stops cause a) to below new s m' sched serves = absurd serves
 
-goes_from : (code : Code) (number : ℕ) (inputs : List ℕ) (to : Option Binding) (stand : Stand)
+goes_from : (code : Code) (number : ℕ) (inputs : List ℕ) (to : Option Binding) (stand : At)
     (old new : List Activation) (s : State) (m' : Areas) (sched : Scheduler)
     → s.activations ≡ old
     → ServesRunning number inputs to old new s.world.memory m' s.sched sched None
@@ -161,11 +161,11 @@ goes_from code number inputs to stand [] new s m' sched were serves =
     ap (λ (acts : List Activation). record s { activations = acts }) were
     ∙ rw (serves.0, serves.1, serves.2) refl
 goes_from code number inputs to stand (a ∷ below) new s m' sched were serves =
-    goes_to (spot_at code stand.block stand.at) (served number inputs s.sched a) to below new s m'
+    goes_to (statement_spot code stand.block stand.at) (system_function_served number inputs s.sched a) to below new s m'
     sched serves
 
 pub call_goes : (code : Code) (number : ℕ) (inputs : List ℕ) (to : Option Binding)
-    (stand : Stand) (new : List Activation) (s : State) (m' : Areas) (sched : Scheduler)
+    (stand : At) (new : List Activation) (s : State) (m' : Areas) (sched : Scheduler)
     → ServesRunning number inputs to s.activations new s.world.memory m' s.sched sched None
     → call_left code number inputs to stand s.activations s
     ≡ record s { world = with_memory m' s.world; activations = new; sched = sched }
@@ -176,28 +176,28 @@ halts_to : (at : Option Spot) (sv : Served) (to : Option Binding) (below new : L
     (s : State) (m' : Areas) (sched : Scheduler) (cause : ℕ)
     → ServesTo sv to below new s.world.memory m' s.sched sched (Some cause)
     → after_service at sv to below s
-    ≡ halted_at at cause (record s { world = with_memory m' s.world; activations = new; sched = sched })
+    ≡ stop_entered_at at cause (record s { world = with_memory m' s.world; activations = new; sched = sched })
 halts_to at (Returns r) to below new s m' sched cause serves = absurd serves
 halts_to at (Passes next a) to below new s m' sched cause serves = absurd serves
 halts_to at (Stops why a) to below new s m' sched cause serves =
     rw (serves.0, serves.1, serves.2) refl
 
-halts_from : (code : Code) (number : ℕ) (inputs : List ℕ) (to : Option Binding) (stand : Stand)
+halts_from : (code : Code) (number : ℕ) (inputs : List ℕ) (to : Option Binding) (stand : At)
     (old new : List Activation) (s : State) (m' : Areas) (sched : Scheduler) (cause : ℕ)
     → ServesRunning number inputs to old new s.world.memory m' s.sched sched (Some cause)
     → call_left code number inputs to stand old s
-    ≡ halted_at (spot_at code stand.block stand.at) cause
+    ≡ stop_entered_at (statement_spot code stand.block stand.at) cause
     (record s { world = with_memory m' s.world; activations = new; sched = sched })
 halts_from code number inputs to stand [] new s m' sched cause serves = absurd serves
 halts_from code number inputs to stand (a ∷ below) new s m' sched cause serves =
-    halts_to (spot_at code stand.block stand.at) (served number inputs s.sched a) to below new s m'
+    halts_to (statement_spot code stand.block stand.at) (system_function_served number inputs s.sched a) to below new s m'
     sched cause serves
 
 pub call_halts : (code : Code) (number : ℕ) (inputs : List ℕ) (to : Option Binding)
-    (stand : Stand) (new : List Activation) (s : State) (m' : Areas) (sched : Scheduler) (cause : ℕ)
+    (stand : At) (new : List Activation) (s : State) (m' : Areas) (sched : Scheduler) (cause : ℕ)
     → ServesRunning number inputs to s.activations new s.world.memory m' s.sched sched (Some cause)
     → call_left code number inputs to stand s.activations s
-    ≡ halted_at (spot_at code stand.block stand.at) cause
+    ≡ stop_entered_at (statement_spot code stand.block stand.at) cause
     (record s { world = with_memory m' s.world; activations = new; sched = sched })
 call_halts code number inputs to stand new s m' sched cause serves =
     halts_from code number inputs to stand s.activations new s m' sched cause serves
@@ -222,12 +222,12 @@ put_regs true (Some l) memory error c = refl
 put_regs false locals None error c = refl
 put_regs false locals (Some m) error c = refl
 
-bound_regs : (to : Binding) (value : ℕ) (c : LocalMemory) → (with_result to value c).local.regs ≡ c.local.regs
+bound_regs : (to : Binding) (value : ℕ) (c : LocalMemory) → (with_ret_val to value c).local.regs ≡ c.local.regs
 unfolding write
 bound_regs (binding.Bound place width frame) value c =
-    put_regs (is_local place.area)
+    put_regs (is_area_l place.area)
     (local_written c.local.locals frame place.byte place.bit width (value % 2 ^ bit_count width))
-    (written c.memory place width (value % 2 ^ bit_count width)) _ c
+    (number_written c.memory place width (value % 2 ^ bit_count width)) _ c
 bound_regs (binding.Constant n) value c = refl
 bound_regs binding.Unsupplied value c = refl
 
@@ -258,4 +258,4 @@ call_regs number inputs to [] new m m' s s' None regs serves =
     ap (λ (acts : List Activation). regs_of acts regs) serves.0
 call_regs number inputs to [] new m m' s s' (Some why) regs serves = absurd serves
 call_regs number inputs to (a ∷ below) new m m' s s' answer regs serves =
-    regs_to (served number inputs s a) to below new m m' s s' answer regs serves
+    regs_to (system_function_served number inputs s a) to below new m m' s s' answer regs serves

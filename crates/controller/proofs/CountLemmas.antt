@@ -8,9 +8,9 @@ use Rattle.frames.specs.declared.Activation.{Activation}
 use Rattle.frames.specs.declared.bindings.Binding.{Binding}
 use Rattle.machine.specs.Code.{Code}
 use Rattle.machine.specs.Statement.{Step, Went, Ended, SyncError, SysCall, Stop, Stuck, statement}
-use Rattle.ob_sched.specs.Course.{Course, requested}
-use Rattle.ob_sched.specs.Millisecond.{begun, ticked}
-use Rattle.ob_sched.specs.OrganizationBlock.{class_in}
+use Rattle.ob_sched.specs.TickState.{TickState, ob_requested}
+use Rattle.ob_sched.specs.Millisecond.{tick_begun, after_tick}
+use Rattle.ob_sched.specs.OrganizationBlock.{priority_class_in}
 use Rattle.ob_sched.specs.Request.{best_of}
 use Rattle.ob_sched.specs.StartInformation.{start_info}
 use Rattle.ob_sched.specs.declared.requests.Pending.{Pending}
@@ -19,20 +19,20 @@ use Rattle.var_access.specs.declared.Request.{Request}
 use Rattle.var_access.specs.declared.Request.TheVariants as ask
 use Rattle.var_access.specs.declared.What.{What}
 use Rattle.var_access.specs.declared.What.TheVariants as what
-use Rattle.controller.specs.Asking.{asked}
+use Rattle.controller.specs.Asking.{request_effect}
 use Rattle.controller.specs.Beginning.{ob_in, begun_above}
-use Rattle.controller.specs.CyclePoint.{cycle_point, cycle_info, cycle_passed}
-use Rattle.controller.specs.Errors.{failed, error_answered, error_in, is_synchronous}
-use Rattle.controller.specs.Event.{counted, effect, state_after}
+use Rattle.controller.specs.CyclePoint.{cycle_point, cycle_info, cycle_finished}
+use Rattle.controller.specs.Errors.{error_raised, error_ob_started, error_in, is_synchronous}
+use Rattle.controller.specs.Event.{entry_counted, entry_effect, state_after}
 use Rattle.controller.specs.Replay.{happens, run_from, replay, CountsEntries, CountsHistory}
-use Rattle.controller.specs.Requests.{stopped_if, course_taken, arrived}
-use Rattle.controller.specs.Serving.{Served, Returns, Passes, Stops, after_service, served}
-use Rattle.controller.specs.Settling.{settled, best_started, request_started, request_taken, may_start}
-use Rattle.controller.specs.Start.{before_start, cleared, restarted, start, started_up, startup_ob}
-use Rattle.controller.specs.State.{State, is_stop, diagnosed, each_diagnosed}
-use Rattle.controller.specs.Stepping.{stepped, stepped_on, after_statement, run_starts, with_activations}
-use Rattle.controller.specs.Stopping.{halted, halted_at, spot_of}
-use Rattle.controller.specs.Ticking.{time_passed, tick_taken, active, timers_moved}
+use Rattle.controller.specs.Requests.{stopped_if, tick_state_taken, arrival_served}
+use Rattle.controller.specs.Serving.{Served, Returns, Passes, Stops, after_service, system_function_served}
+use Rattle.controller.specs.Settling.{after_settling, best_started, request_started, request_taken, may_start}
+use Rattle.controller.specs.Start.{before_start, restart_cleared, warm_restarted, start, started_up, startup_ob}
+use Rattle.controller.specs.State.{State, is_stop, diagnosis_recorded, each_diagnosed}
+use Rattle.controller.specs.Stepping.{after_step, step_of_first, after_statement, run_starts, with_activations}
+use Rattle.controller.specs.Stopping.{stop_entered, stop_entered_at, spot_of}
+use Rattle.controller.specs.Ticking.{time_passed, tick_taken, active_obs, timers_moved}
 
 if_counts : (test : Bool) (s t : State) (n : ℕ) → s.entries ≡ n → t.entries ≡ n
     → (if test then s else t).entries ≡ n
@@ -42,15 +42,15 @@ if_counts false s t n one other = other
 diagnosed_counts : (records : List (ℕ × ℕ)) (s : State)
     → (each_diagnosed records s).entries ≡ s.entries
 diagnosed_counts [] s = refl
-diagnosed_counts (one ∷ rest) s = diagnosed_counts rest (diagnosed one.0 one.1 s)
+diagnosed_counts (one ∷ rest) s = diagnosed_counts rest (diagnosis_recorded one.0 one.1 s)
 
 begun_counts : (begun : Option Activation) (s : State)
     → (begun_above begun s).entries ≡ s.entries
 begun_counts None s = refl
 begun_counts (Some a) s = refl
 
-halted_counts : (code : Code) (cause : ℕ) (s : State) → (halted code cause s).entries ≡ s.entries
-unfolding halted
+halted_counts : (code : Code) (cause : ℕ) (s : State) → (stop_entered code cause s).entries ≡ s.entries
+unfolding stop_entered
 halted_counts code cause s = refl
 
 best_counts : (code : Code) (best : Option Pending) (s : State)
@@ -60,8 +60,8 @@ best_counts code (Some best) s =
     if_counts (may_start best.class s.activations) (request_started code best s) s s.entries
     (begun_counts (ob_in s.profile code best.class best.ob best.info) (request_taken s)) refl
 
-settled_counts : (code : Code) (s : State) → (settled code s).entries ≡ s.entries
-unfolding settled
+settled_counts : (code : Code) (s : State) → (after_settling code s).entries ≡ s.entries
+unfolding after_settling
 settled_counts code s =
     if_counts (is_stop s.mode) s (best_started code (best_of s.mode s.sched.pending) s) s.entries
     refl (best_counts code (best_of s.mode s.sched.pending) s)
@@ -69,21 +69,21 @@ settled_counts code s =
 cycle_counts : (code : Code) (s : State) → (cycle_point code s).entries ≡ s.entries
 unfolding cycle_point
 cycle_counts code s =
-    begun_counts (ob_in s.profile code (class_in s.mode 1) 1 (cycle_info s)) (cycle_passed s)
+    begun_counts (ob_in s.profile code (priority_class_in s.mode 1) 1 (cycle_info s)) (cycle_finished s)
 
 answered_counts : (fresh : Option Activation) (error : ℕ) (at : Option Spot) (a : Activation)
-    (below : List Activation) (s : State) → (error_answered fresh error at a below s).entries ≡ s.entries
+    (below : List Activation) (s : State) → (error_ob_started fresh error at a below s).entries ≡ s.entries
 answered_counts None error at a below s = refl
 answered_counts (Some fresh) error at a below s = refl
 
 failed_counts : (code : Code) (error : ℕ) (at : Option Spot) (a : Activation)
-    (below : List Activation) (s : State) → (failed code error at a below s).entries ≡ s.entries
-unfolding failed
+    (below : List Activation) (s : State) → (error_raised code error at a below s).entries ≡ s.entries
+unfolding error_raised
 failed_counts code error at a below s =
-    if_counts (is_synchronous a.ob) (halted_at at causes.in_error_ob (diagnosed 4 error s))
-    (error_answered (error_in code error at a) error at a below (diagnosed 4 error s))
+    if_counts (is_synchronous a.ob) (stop_entered_at at causes.in_error_ob (diagnosis_recorded 4 error s))
+    (error_ob_started (error_in code error at a) error at a below (diagnosis_recorded 4 error s))
     s.entries refl
-    (answered_counts (error_in code error at a) error at a below (diagnosed 4 error s))
+    (answered_counts (error_in code error at a) error at a below (diagnosis_recorded 4 error s))
 
 service_counts : (call : Option Spot) (served : Served) (to : Option Binding)
     (below : List Activation) (s : State) → (after_service call served to below s).entries ≡ s.entries
@@ -100,18 +100,18 @@ statement_counts code (Ended regs w) ob at below s =
     refl refl
 statement_counts code (SyncError error a) ob at below s = failed_counts code error at a below s
 statement_counts code (SysCall number given a) ob at below s =
-    service_counts at (served number given.inputs s.sched a) given.result below s
+    service_counts at (system_function_served number given.inputs s.sched a) given.result below s
 statement_counts code (Stop cause) ob at below s = refl
 statement_counts code Stuck ob at below s = refl
 
 stepped_on_counts : (code : Code) (activations : List Activation) (s : State)
-    → (stepped_on code activations s).entries ≡ s.entries
+    → (step_of_first code activations s).entries ≡ s.entries
 stepped_on_counts code [] s = cycle_counts code s
 stepped_on_counts code (a ∷ below) s =
     statement_counts code (statement code a s.world) a.ob (spot_of code a.running.frame) below s
 
-stepped_counts : (code : Code) (s : State) → (stepped code s).entries ≡ s.entries
-unfolding stepped
+stepped_counts : (code : Code) (s : State) → (after_step code s).entries ≡ s.entries
+unfolding after_step
 stepped_counts code s = stepped_on_counts code s.activations s
 
 stopped_counts : (code : Code) (cause : Option ℕ) (s : State)
@@ -119,61 +119,61 @@ stopped_counts : (code : Code) (cause : Option ℕ) (s : State)
 stopped_counts code None s = refl
 stopped_counts code (Some cause) s = halted_counts code cause s
 
-course_counts : (code : Code) (c : Course) (s : State)
-    → (course_taken code c s).entries ≡ s.entries
+course_counts : (code : Code) (c : TickState) (s : State)
+    → (tick_state_taken code c s).entries ≡ s.entries
 course_counts code c s =
     stopped_counts code c.passed.stop
     (each_diagnosed c.passed.records.items (record s { sched = c.sched }))
     ∙ diagnosed_counts c.passed.records.items (record s { sched = c.sched })
 
 arrived_counts : (code : Code) (ob value : ℕ) (s : State)
-    → (arrived code ob value s).entries ≡ s.entries
-unfolding arrived
+    → (arrival_served code ob value s).entries ≡ s.entries
+unfolding arrival_served
 arrived_counts code ob value s =
     if_counts (is_stop s.mode) s
-    (course_taken code
-    (requested s.mode ob (start_info (Arrival ob value) (class_in s.mode ob)) (begun s.sched)) s)
+    (tick_state_taken code
+    (ob_requested s.mode ob (start_info (Arrival ob value) (priority_class_in s.mode ob)) (tick_begun s.sched)) s)
     s.entries refl
     (course_counts code
-    (requested s.mode ob (start_info (Arrival ob value) (class_in s.mode ob)) (begun s.sched)) s)
+    (ob_requested s.mode ob (start_info (Arrival ob value) (priority_class_in s.mode ob)) (tick_begun s.sched)) s)
 
-tick_counts : (code : Code) (c : Course) (s : State) → (tick_taken code c s).entries ≡ s.entries
+tick_counts : (code : Code) (c : TickState) (s : State) → (tick_taken code c s).entries ≡ s.entries
 tick_counts code c s =
     course_counts code c (record s { world = timers_moved c.passed.ms s.world })
 
 passed_counts : (code : Code) (ms : ℕ) (s : State) → (time_passed code ms s).entries ≡ s.entries
 unfolding time_passed
 passed_counts code ms s =
-    tick_counts code (ticked s.mode (active s.activations) ms s.sched) s
+    tick_counts code (after_tick s.mode (active_obs s.activations) ms s.sched) s
 
 started_counts : (begun : Option Activation) (s : State) → (started_up begun s).entries ≡ s.entries
 started_counts None s = refl
 started_counts (Some a) s = refl
 
-restarted_counts : (code : Code) (s : State) → (restarted code s).entries ≡ s.entries
-unfolding restarted
+restarted_counts : (code : Code) (s : State) → (warm_restarted code s).entries ≡ s.entries
+unfolding warm_restarted
 restarted_counts code s =
-    started_counts (startup_ob s.profile code) (cleared (diagnosed 6 0 s))
+    started_counts (startup_ob s.profile code) (restart_cleared (diagnosis_recorded 6 0 s))
 
 asked_counts : (code : Code) (request : Request) (s : State)
-    → (asked code request s).entries ≡ s.entries
-unfolding asked
+    → (request_effect code request s).entries ≡ s.entries
+unfolding request_effect
 asked_counts code (ask.ReadVars vars) s = refl
 asked_counts code (ask.WriteVar var value) s = refl
 asked_counts code ask.Stop s =
-    if_counts (is_stop s.mode) s (halted code causes.by_operator s) s.entries refl
+    if_counts (is_stop s.mode) s (stop_entered code causes.by_operator s) s.entries refl
     (halted_counts code causes.by_operator s)
 asked_counts code ask.Restart s =
-    if_counts (is_stop s.mode) (restarted code s) s s.entries (restarted_counts code s) refl
+    if_counts (is_stop s.mode) (warm_restarted code s) s s.entries (restarted_counts code s) refl
 asked_counts code (ask.MonitorOn block) s =
     if_counts (is_some (code.head block)) (record s { monitored = Some block }) s s.entries refl
     refl
 asked_counts code ask.MonitorOff s = refl
 asked_counts code ask.Diag s = refl
 
-effect_counts : (code : Code) (e : What) (s : State) → (effect code e s).entries ≡ s.entries
+effect_counts : (code : Code) (e : What) (s : State) → (entry_effect code e s).entries ≡ s.entries
 effect_counts code what.Step s =
-    if_counts (is_stop s.mode) s (stepped code s) s.entries refl (stepped_counts code s)
+    if_counts (is_stop s.mode) s (after_step code s) s.entries refl (stepped_counts code s)
 effect_counts code (what.Input byte value) s = refl
 effect_counts code (what.Arrive ob value) s = arrived_counts code ob value s
 effect_counts code (what.Tick ms) s = passed_counts code ms s
@@ -183,7 +183,7 @@ after_counts : (code : Code) (e : What) (s : State)
     → (state_after code e s).entries ≡ s.entries + 1
 unfolding state_after
 after_counts code e s =
-    settled_counts code (effect code e (counted s)) ∙ effect_counts code e (counted s)
+    settled_counts code (entry_effect code e (entry_counted s)) ∙ effect_counts code e (entry_counted s)
 
 pub counts_entries : CountsEntries
 unfolding happens

@@ -11,28 +11,28 @@ use Rattle.plc_base.specs.declared.BlockId.{BlockId}
 use Rattle.plc_base.specs.declared.Mode.TheVariants.{Run, Startup}
 use Rattle.plc_base.specs.declared.Spot.{Spot}
 use Rattle.plc_mem.specs.Areas.{Areas}
-use Rattle.plc_mem.specs.Fresh.{fresh}
+use Rattle.plc_mem.specs.Fresh.{initial_memory}
 use Rattle.plc_mem.specs.Peripherals.{with_input, outputs_cleared}
-use Rattle.plc_mem.specs.Refresh.{refreshed}
-use Rattle.plc_mem.specs.Restart.{bits_retained, memory_cleared}
-use Rattle.plc_mem.specs.Writing.{written}
-use Rattle.frames.specs.Activations.{begun, with_local_byte}
+use Rattle.plc_mem.specs.Refresh.{memory_refreshed}
+use Rattle.plc_mem.specs.Restart.{retained_bit_memory, memory_after_restart}
+use Rattle.plc_mem.specs.Writing.{number_written}
+use Rattle.frames.specs.Activations.{activation_begun, with_local_byte}
 use Rattle.frames.specs.declared.Activation.{Activation}
 use Rattle.frames.specs.declared.bindings.Binding.{Binding}
 use Rattle.flat_code.specs.Loading.{Verifies}
 use Rattle.flat_code.specs.Programs.{Program}
-use Rattle.machine.specs.Code.{Head}
+use Rattle.machine.specs.Code.{BlockHead}
 use Rattle.machine.specs.Entering.{at_block}
 use Rattle.machine.specs.Fitting.{IsMemoryOf, SameSizes}
 use Rattle.machine.specs.Flat.{code_of}
-use Rattle.machine.specs.Lasting.{FitsProgram, GoesOn, IsReady as IsReadyIn, Lasts, first_frame}
+use Rattle.machine.specs.Lasting.{FitsProgram, GoesOnFitting, IsStatementReady as IsReadyIn, Lasts, first_frame}
 use Rattle.machine.specs.Statement.{World, Step, Went, Ended, SyncError, SysCall, Stop as Stops, Stuck, statement}
 use Rattle.machine.proofs.Sizes.{same_sizes, sizes_then, same_parts}
-use Rattle.ob_sched.specs.Course.{Course, requested}
-use Rattle.ob_sched.specs.Millisecond.{begun as course_begun, ticked}
-use Rattle.ob_sched.specs.OrganizationBlock.{class_in, is_delay}
+use Rattle.ob_sched.specs.TickState.{TickState, ob_requested}
+use Rattle.ob_sched.specs.Millisecond.{tick_begun as course_begun, after_tick}
+use Rattle.ob_sched.specs.OrganizationBlock.{priority_class_in, is_delay}
 use Rattle.ob_sched.specs.Request.{best_of}
-use Rattle.ob_sched.specs.Scheduler.{Scheduler, started, delay_of, delay_started, delay_cancelled, retriggered}
+use Rattle.ob_sched.specs.Scheduler.{Scheduler, best_removed, delay_of, delay_started, delay_cancelled, cycle_retriggered}
 use Rattle.ob_sched.specs.StartInformation.{ob_of_error, start_info}
 use Rattle.ob_sched.specs.declared.requests.Pending.{Pending}
 use Rattle.ob_sched.specs.declared.start_infos.StartEvent.TheVariants.{Arrival}
@@ -46,24 +46,24 @@ use Rattle.var_access.specs.declared.Var.{Var}
 use Rattle.var_access.specs.declared.What.{What}
 use Rattle.var_access.specs.declared.What.TheVariants as what
 use Rattle.var_access.specs.Entry.{IsInRange}
-use Rattle.controller.specs.Asking.{asked}
-use Rattle.controller.specs.Beginning.{ob_block, ob_frame, told_from, ob_begun, ob_in, begun_above}
-use Rattle.controller.specs.CyclePoint.{cycle_point, cycle_passed, cycle_info}
-use Rattle.controller.specs.Errors.{is_synchronous, cause_without, failure, copied_from, error_in, error_answered, failed}
-use Rattle.controller.specs.Event.{counted, effect, state_after}
+use Rattle.controller.specs.Asking.{request_effect}
+use Rattle.controller.specs.Beginning.{ob_block, ob_frame, with_start_bytes, ob_begun, ob_in, begun_above}
+use Rattle.controller.specs.CyclePoint.{cycle_point, cycle_finished, cycle_info}
+use Rattle.controller.specs.Errors.{is_synchronous, cause_without, error_event, copied_from, error_in, error_ob_started, error_raised}
+use Rattle.controller.specs.Event.{entry_counted, entry_effect, state_after}
 use Rattle.controller.specs.Fitting.{AllFit, AreInRange, EntriesKeepFit, FitIsReady, HistoriesAreFit, IsFit, IsSchedule, StartIsFit}
 use Rattle.controller.specs.MachineLaws.{MachineLaws}
 use Rattle.controller.specs.Ready.{IsReady}
 use Rattle.controller.specs.Replay.{happens, run_from, replay}
-use Rattle.controller.specs.Requests.{stopped_if, course_taken, arrived}
-use Rattle.controller.specs.Serving.{Served, Returns, Passes, Stops as Halts, input, served, result_given, after_service}
-use Rattle.controller.specs.Settling.{may_start, request_taken, request_started, best_started, settled}
-use Rattle.controller.specs.Stack.{IsStanding, MayBegin}
-use Rattle.controller.specs.Start.{before_start, cleared, loaded_obs, restarted, start, started_up, startup_info, startup_ob}
-use Rattle.controller.specs.State.{State, is_stop, diagnosed, each_diagnosed}
-use Rattle.controller.specs.Stepping.{stepped, stepped_on, after_statement, run_starts, ob_ended, with_activations}
-use Rattle.controller.specs.Stopping.{halted, halted_at, spot, spot_of}
-use Rattle.controller.specs.Ticking.{active, tick_taken, time_passed, timers_moved}
+use Rattle.controller.specs.Requests.{stopped_if, tick_state_taken, arrival_served}
+use Rattle.controller.specs.Serving.{Served, Returns, Passes, Stops as Halts, in_parameter, system_function_served, result_given, after_service}
+use Rattle.controller.specs.Settling.{may_start, request_taken, request_started, best_started, after_settling}
+use Rattle.controller.specs.Stack.{IsActivationStack, MayBegin}
+use Rattle.controller.specs.Start.{before_start, restart_cleared, loaded_obs, warm_restarted, start, started_up, startup_info, startup_ob}
+use Rattle.controller.specs.State.{State, is_stop, diagnosis_recorded, each_diagnosed}
+use Rattle.controller.specs.Stepping.{after_step, step_of_first, after_statement, run_starts, ob_ended, with_activations}
+use Rattle.controller.specs.Stopping.{stop_entered, stop_entered_at, running_spot, spot_of}
+use Rattle.controller.specs.Ticking.{active_obs, tick_taken, time_passed, timers_moved}
 use Rattle.controller.proofs.CallLemmas.{SameServed, served_same, given_same}
 use Rattle.controller.proofs.SameLemmas.{SameStep, statement_same}
 use Rattle.controller.proofs.ScheduleLemmas.{of_either, best_waits, rest_schedule, started_schedule, stopped_schedule, run_schedule, cycle_schedule, restarted_schedule, retriggered_schedule, delay_schedule, cancelled_schedule, all_schedule, requested_known, arrival_waits, ticked_known}
@@ -76,7 +76,7 @@ memory_stays : (p : Program) (m n : Areas) → SameSizes m n → IsMemoryOf (cod
     → IsMemoryOf (code_of p) n
 memory_stays p m n same is = record {
   profile = is.profile;
-  sizes = sizes_then (fresh is.profile (code_of p).blocks) m n is.sizes same;
+  sizes = sizes_then (initial_memory is.profile (code_of p).blocks) m n is.sizes same;
 }
 
 all_stay : (l : MachineLaws) (p : Program) (m n : Areas) (activations : List Activation) → SameSizes m n
@@ -117,7 +117,7 @@ told_one l p m byte value a None is fit = fit
 told_one l p m byte value a (Some b) is fit = l.local_byte p m a b 0 byte value is fit
 
 told_fits : (l : MachineLaws) (p : Program) (m : Areas) (bytes : List ℕ) (byte : ℕ) (a : Activation)
-    → FitsProgram p m a → FitsProgram p m (told_from byte bytes a)
+    → FitsProgram p m a → FitsProgram p m (with_start_bytes byte bytes a)
 told_fits l p m [] byte a fit = fit
 told_fits l p m (value ∷ rest) byte a fit =
     told_fits l p m rest (byte + 1) (unwrap_or (with_local_byte 0 byte value a) a)
@@ -126,18 +126,18 @@ told_fits l p m (value ∷ rest) byte a fit =
 uncut : (n : ℕ) → n ≤ 1024 → min n 1024 ≡ n
 uncut n few = omega arith
 
-begun_fits : (profile : Profile) (l : MachineLaws) (p : Program) (m : Areas) (class ob : ℕ) (info : StartInfo) (h : Head)
+begun_fits : (profile : Profile) (l : MachineLaws) (p : Program) (m : Areas) (class ob : ℕ) (info : StartInfo) (h : BlockHead)
     → Verifies p → IsMemoryOf (code_of p) m → (code_of p).head (ob_block ob) ≡ Some h
     → FitsProgram p m (ob_begun profile class ob info h)
 unfolding ob_begun
 begun_fits profile l p m class ob info h verifies memory found =
-    told_fits l p m info.bytes 0 (begun profile class ob (ob_frame ob h))
-    (subst (λ (n : ℕ). FitsProgram p m (begun profile class ob (first_frame ob n)))
+    told_fits l p m info.bytes 0 (activation_begun profile class ob (ob_frame ob h))
+    (subst (λ (n : ℕ). FitsProgram p m (activation_begun profile class ob (first_frame ob n)))
     (sym (uncut h.local_len (l.room p ob h verifies found)))
     (l.begins profile p m class ob h verifies memory found))
 
 ob_fits_by : (profile : Profile) (l : MachineLaws) (p : Program) (m : Areas) (class ob : ℕ) (info : StartInfo)
-    (found : Option Head) → Verifies p → IsMemoryOf (code_of p) m
+    (found : Option BlockHead) → Verifies p → IsMemoryOf (code_of p) m
     → (code_of p).head (ob_block ob) ≡ found
     → FitsIf p m (option_map (ob_begun profile class ob info) found)
 unfolding FitsIf
@@ -165,7 +165,7 @@ begins_above p class ob (Some a) s one is may fit = record {
 -- ---- records and stops
 
 diagnosed_fit : (p : Program) (code info : ℕ) (s : State) → IsFit p s
-    → IsFit p (diagnosed code info s)
+    → IsFit p (diagnosis_recorded code info s)
 diagnosed_fit p code info s fit = record {
   memory = fit.memory;
   activations = fit.activations;
@@ -177,10 +177,10 @@ each_fit : (p : Program) (records : List (ℕ × ℕ)) (s : State) → IsFit p s
     → IsFit p (each_diagnosed records s)
 each_fit p [] s fit = fit
 each_fit p (one ∷ rest) s fit =
-    each_fit p rest (diagnosed one.0 one.1 s) (diagnosed_fit p one.0 one.1 s fit)
+    each_fit p rest (diagnosis_recorded one.0 one.1 s) (diagnosed_fit p one.0 one.1 s fit)
 
 halts : (l : MachineLaws) (p : Program) (at : Option Spot) (cause : ℕ) (s : State) → IsFit p s
-    → IsFit p (halted_at at cause s)
+    → IsFit p (stop_entered_at at cause s)
 halts l p at cause s fit = record {
   memory =
       memory_stays p s.world.memory (outputs_cleared s.world.memory)
@@ -191,9 +191,9 @@ halts l p at cause s fit = record {
 }
 
 halted_fits : (l : MachineLaws) (p : Program) (cause : ℕ) (s : State) → IsFit p s
-    → IsFit p (halted (code_of p) cause s)
-unfolding halted
-halted_fits l p cause s fit = halts l p (spot (code_of p) s.activations) cause s fit
+    → IsFit p (stop_entered (code_of p) cause s)
+unfolding stop_entered
+halted_fits l p cause s fit = halts l p (running_spot (code_of p) s.activations) cause s fit
 
 -- ---- synchronous errors
 
@@ -215,8 +215,8 @@ copied_is class ob a (Some fresh) is = is
 answers : (l : MachineLaws) (p : Program) (one : Option Activation) (error : ℕ) (at : Option Spot)
     (a : Activation) (below : List Activation) (s : State) → is_synchronous a.ob ≡ false
     → FitsIf p s.world.memory one → IsOf a.class (ob_of_error error) one
-    → AllFit p s.world.memory (a ∷ below) → IsStanding s.mode (a ∷ below) → IsFit p s
-    → IsFit p (error_answered one error at a below s)
+    → AllFit p s.world.memory (a ∷ below) → IsActivationStack s.mode (a ∷ below) → IsFit p s
+    → IsFit p (error_ob_started one error at a below s)
 unfolding FitsIf IsOf
 answers l p None error at a below s single one is all standing fit =
     halts l p at (cause_without (ob_of_error error)) s fit
@@ -229,24 +229,24 @@ answers l p (Some fresh) error at a below s single one is all standing fit = rec
 
 failed_fits : (l : MachineLaws) (p : Program) (error : ℕ) (at : Option Spot) (a : Activation)
     (below : List Activation) (s : State) → Verifies p → AllFit p s.world.memory (a ∷ below)
-    → IsStanding s.mode (a ∷ below) → IsFit p s → IsFit p (failed (code_of p) error at a below s)
-unfolding failed
+    → IsActivationStack s.mode (a ∷ below) → IsFit p s → IsFit p (error_raised (code_of p) error at a below s)
+unfolding error_raised
 failed_fits l p error at a below s verifies all standing fit = by (is_synchronous a.ob) refl
   where
-    recorded : IsFit p (diagnosed 4 error s)
+    recorded : IsFit p (diagnosis_recorded 4 error s)
     recorded = diagnosed_fit p 4 error s fit
 
     by : (test : Bool) → is_synchronous a.ob ≡ test
-        → IsFit p (if test then halted_at at causes.in_error_ob (diagnosed 4 error s)
-        else error_answered (error_in (code_of p) error at a) error at a below (diagnosed 4 error s))
-    by true is = halts l p at causes.in_error_ob (diagnosed 4 error s) recorded
+        → IsFit p (if test then stop_entered_at at causes.in_error_ob (diagnosis_recorded 4 error s)
+        else error_ob_started (error_in (code_of p) error at a) error at a below (diagnosis_recorded 4 error s))
+    by true is = halts l p at causes.in_error_ob (diagnosis_recorded 4 error s) recorded
     by false is =
-        answers l p (error_in (code_of p) error at a) error at a below (diagnosed 4 error s) is
+        answers l p (error_in (code_of p) error at a) error at a below (diagnosis_recorded 4 error s) is
         (copied_fits l p s.world.memory a _
         (ob_fits a.profile l p s.world.memory a.class (ob_of_error error)
-        (start_info (failure error at) a.class) verifies fit.memory))
+        (start_info (error_event error at) a.class) verifies fit.memory))
         (copied_is a.class (ob_of_error error) a _
-        (ob_is a.profile (code_of p) a.class (ob_of_error error) (start_info (failure error at) a.class)))
+        (ob_is a.profile (code_of p) a.class (ob_of_error error) (start_info (error_event error at) a.class)))
         all standing recorded
 
 -- ---- system functions
@@ -339,26 +339,26 @@ KeepsServed p m (Halts cause a) = Unit {0}
 
 served_fits : (l : MachineLaws) (p : Program) (m : Areas) (number : ℕ) (inputs : List ℕ) (s : Scheduler)
     (a : Activation) → FitsProgram p m a → IsSchedule s
-    → KeepsServed p m (served number inputs s a)
-unfolding served KeepsServed
+    → KeepsServed p m (system_function_served number inputs s a)
+unfolding system_function_served KeepsServed
 served_fits l p m number inputs s a fit is =
     of_either (KeepsServed p m) (number == 32) _ _
-    (srt_dint_fits l p m s a (input 0 inputs) (input 1 inputs) (input 2 inputs) fit is)
+    (srt_dint_fits l p m s a (in_parameter 0 inputs) (in_parameter 1 inputs) (in_parameter 2 inputs) fit is)
     (of_either (KeepsServed p m) (number == 33) _ _
-    (can_dint_fits l p m s a (input 0 inputs) fit is)
+    (can_dint_fits l p m s a (in_parameter 0 inputs) fit is)
     (of_either (KeepsServed p m) (number == 39) _ _
-    (dis_irt_fits l p m s a (input 0 inputs) (input 1 inputs) fit is)
+    (dis_irt_fits l p m s a (in_parameter 0 inputs) (in_parameter 1 inputs) fit is)
     (of_either (KeepsServed p m) (number == 40) _ _
-    (en_irt_fits l p m s a (input 0 inputs) (input 1 inputs) fit is)
+    (en_irt_fits l p m s a (in_parameter 0 inputs) (in_parameter 1 inputs) fit is)
     (of_either (KeepsServed p m) (number == 41) _ _ (dis_airt_fits l p m s a fit is)
     (of_either (KeepsServed p m) (number == 42) _ _ (en_airt_fits l p m s a fit is)
-    (of_either (KeepsServed p m) (number == 43) (Passes (retriggered s) (passed a)) _
+    (of_either (KeepsServed p m) (number == 43) (Passes (cycle_retriggered s) (passed a)) _
     (record { fits = l.registers p m a _ fit; sched = retriggered_schedule s is })
     (of_either (KeepsServed p m) (number == 46) (Halts 1 (passed a)) _ tt (time_tck_fits l p m s a fit is))))))))
 
 given_fits : (l : MachineLaws) (p : Program) (m : Areas) (to : Option Binding) (value : ℕ)
     (a : Activation) → Verifies p → FitsProgram p m a
-    → GoesOn p m (result_given to value a m).memory (result_given to value a m).activation
+    → GoesOnFitting p m (result_given to value a m).memory (result_given to value a m).activation
 given_fits l p m None value a verifies fit = record { sizes = same_sizes m; fits = fit }
 given_fits l p m (Some to) value a verifies fit =
     l.result p m _ a _ to value verifies fit (refl, refl)
@@ -366,7 +366,7 @@ given_fits l p m (Some to) value a verifies fit =
 service_fits : (l : MachineLaws) (p : Program) (call : Option Spot) (sv : Served) (to : Option Binding)
     (a : Activation) (below : List Activation) (s : State) → Verifies p
     → KeepsServed p s.world.memory sv → SameServed a sv → AllFit p s.world.memory below
-    → IsStanding s.mode (a ∷ below) → IsFit p s → IsFit p (after_service call sv to below s)
+    → IsActivationStack s.mode (a ∷ below) → IsFit p s → IsFit p (after_service call sv to below s)
 unfolding KeepsServed KeepsReturned SameServed
 service_fits l p call (Returns r) to a below s verifies kept same rest standing fit =
     let goes = given_fits l p s.world.memory to r.value r.activation verifies kept.fits in
@@ -389,7 +389,7 @@ service_fits l p call (Halts cause b) to a below s verifies kept same rest stand
 
 -- ---- a statement
 
-run_starts_fits : (p : Program) (s : State) → IsStanding Run s.activations → IsFit p s
+run_starts_fits : (p : Program) (s : State) → IsActivationStack Run s.activations → IsFit p s
     → IsFit p (run_starts s)
 run_starts_fits p s standing fit = record {
   memory = fit.memory;
@@ -400,7 +400,7 @@ run_starts_fits p s standing fit = record {
 
 ended_fits : (l : MachineLaws) (p : Program) (w : World) (a : Activation) (below : List Activation)
     (s : State) → SameSizes s.world.memory w.memory → AllFit p s.world.memory below
-    → IsStanding s.mode (a ∷ below) → IsFit p s
+    → IsActivationStack s.mode (a ∷ below) → IsFit p s
     → IsFit p (ob_ended a.ob (with_activations w below s))
 ended_fits l p w a below s same rest standing fit = by (a.ob == 100) refl
   where
@@ -428,7 +428,7 @@ ended_fits l p w a below s same rest standing fit = by (a.ob == 100) refl
 
 statement_fits : (l : MachineLaws) (p : Program) (step : Step) (a : Activation) (at : Option Spot)
     (below : List Activation) (s : State) → Verifies p → Lasts p s.world step → SameStep a step
-    → AllFit p s.world.memory below → IsStanding s.mode (a ∷ below) → IsFit p s
+    → AllFit p s.world.memory below → IsActivationStack s.mode (a ∷ below) → IsFit p s
     → IsFit p (after_statement (code_of p) step a.ob at below s)
 statement_fits l p (Went b w) a at below s verifies lasts same rest standing fit = record {
   memory = memory_stays p s.world.memory w.memory lasts.sizes fit.memory;
@@ -442,7 +442,7 @@ statement_fits l p (SyncError error b) a at below s verifies lasts same rest sta
     failed_fits l p error at b below s verifies (lasts.1, rest)
     (same_stack s.mode a b below same standing) fit
 statement_fits l p (SysCall number given b) a at below s verifies lasts same rest standing fit =
-    service_fits l p at (served number given.inputs s.sched b) given.result b below s verifies
+    service_fits l p at (system_function_served number given.inputs s.sched b) given.result b below s verifies
     (served_fits l p s.world.memory number given.inputs s.sched b lasts.2 fit.sched)
     (served_same number given.inputs s.sched b) rest
     (same_stack s.mode a b below same standing) fit
@@ -452,14 +452,14 @@ statement_fits l p Stuck a at below s verifies lasts same rest standing fit = ab
 
 -- ---- a step
 
-passed_fits : (l : MachineLaws) (p : Program) (s : State) → IsFit p s → IsFit p (cycle_passed s)
+passed_fits : (l : MachineLaws) (p : Program) (s : State) → IsFit p s → IsFit p (cycle_finished s)
 passed_fits l p s fit =
-    let same : SameSizes s.world.memory (refreshed s.world.memory) =
+    let same : SameSizes s.world.memory (memory_refreshed s.world.memory) =
     l.refreshes p s.world.memory fit.memory in
     record {
-      memory = memory_stays p s.world.memory (refreshed s.world.memory) same fit.memory;
+      memory = memory_stays p s.world.memory (memory_refreshed s.world.memory) same fit.memory;
       activations =
-          all_stay l p s.world.memory (refreshed s.world.memory) s.activations same fit.activations;
+          all_stay l p s.world.memory (memory_refreshed s.world.memory) s.activations same fit.activations;
       standing = fit.standing;
       sched = cycle_schedule s.sched fit.sched;
     }
@@ -468,27 +468,27 @@ cycle_fits : (l : MachineLaws) (p : Program) (s : State) → Verifies p → s.ac
     → is_stop s.mode ≡ false → IsFit p s → IsFit p (cycle_point (code_of p) s)
 unfolding cycle_point
 cycle_fits l p s verifies idle running fit =
-    let next : IsFit p (cycle_passed s) = passed_fits l p s fit in
-    begins_above p (class_in s.mode 1) 1
-    (ob_in s.profile (code_of p) (class_in s.mode 1) 1 (cycle_info s)) (cycle_passed s)
-    (ob_fits s.profile l p (refreshed s.world.memory) (class_in s.mode 1) 1 (cycle_info s) verifies next.memory)
-    (ob_is s.profile (code_of p) (class_in s.mode 1) 1 (cycle_info s))
+    let next : IsFit p (cycle_finished s) = passed_fits l p s fit in
+    begins_above p (priority_class_in s.mode 1) 1
+    (ob_in s.profile (code_of p) (priority_class_in s.mode 1) 1 (cycle_info s)) (cycle_finished s)
+    (ob_fits s.profile l p (memory_refreshed s.world.memory) (priority_class_in s.mode 1) 1 (cycle_info s) verifies next.memory)
+    (ob_is s.profile (code_of p) (priority_class_in s.mode 1) 1 (cycle_info s))
     (cycle_may_begin s.mode s.activations idle running fit.standing) next
 
 stepped_on_fits : (l : MachineLaws) (p : Program) (activations : List Activation) (s : State)
     → Verifies p → s.activations ≡ activations → is_stop s.mode ≡ false → IsFit p s
-    → IsFit p (stepped_on (code_of p) activations s)
+    → IsFit p (step_of_first (code_of p) activations s)
 stepped_on_fits l p [] s verifies is running fit = cycle_fits l p s verifies is running fit
 stepped_on_fits l p (a ∷ below) s verifies is running fit =
     let all : AllFit p s.world.memory (a ∷ below) =
     subst (λ (acts : List Activation). AllFit p s.world.memory acts) is fit.activations in
     statement_fits l p (statement (code_of p) a s.world) a (spot_of (code_of p) a.running.frame)
     below s verifies (l.lasts p a s.world verifies all.0) (statement_same (code_of p) a s.world) all.1
-    (subst (λ (acts : List Activation). IsStanding s.mode acts) is fit.standing) fit
+    (subst (λ (acts : List Activation). IsActivationStack s.mode acts) is fit.standing) fit
 
 step_fits : (l : MachineLaws) (p : Program) (s : State) → Verifies p → is_stop s.mode ≡ false
-    → IsFit p s → IsFit p (stepped (code_of p) s)
-unfolding stepped
+    → IsFit p s → IsFit p (after_step (code_of p) s)
+unfolding after_step
 step_fits l p s verifies running fit =
     stepped_on_fits l p s.activations s verifies refl running fit
 
@@ -507,8 +507,8 @@ stopped_fits : (l : MachineLaws) (p : Program) (cause : Option ℕ) (s : State) 
 stopped_fits l p None s fit = fit
 stopped_fits l p (Some cause) s fit = halted_fits l p cause s fit
 
-course_fits : (l : MachineLaws) (p : Program) (c : Course) (s : State) → IsSchedule c.sched → IsFit p s
-    → IsFit p (course_taken (code_of p) c s)
+course_fits : (l : MachineLaws) (p : Program) (c : TickState) (s : State) → IsSchedule c.sched → IsFit p s
+    → IsFit p (tick_state_taken (code_of p) c s)
 course_fits l p c s is fit =
     stopped_fits l p c.passed.stop
     (each_diagnosed c.passed.records.items (record s { sched = c.sched }))
@@ -516,18 +516,18 @@ course_fits l p c s is fit =
     (other_sched p s c.sched is fit))
 
 arrived_fits : (l : MachineLaws) (p : Program) (ob value : ℕ) (s : State)
-    → IsInRange (what.Arrive ob value) → IsFit p s → IsFit p (arrived (code_of p) ob value s)
-unfolding arrived
+    → IsInRange (what.Arrive ob value) → IsFit p s → IsFit p (arrival_served (code_of p) ob value s)
+unfolding arrival_served
 arrived_fits l p ob value s known fit =
     unless_stop p s _ fit
     (λ running. course_fits l p
-    (requested s.mode ob (start_info (Arrival ob value) (class_in s.mode ob)) (course_begun s.sched))
+    (ob_requested s.mode ob (start_info (Arrival ob value) (priority_class_in s.mode ob)) (course_begun s.sched))
     s
-    (requested_known s.mode ob (start_info (Arrival ob value) (class_in s.mode ob))
+    (requested_known s.mode ob (start_info (Arrival ob value) (priority_class_in s.mode ob))
     (course_begun s.sched) (arrival_waits ob known) fit.sched)
     fit)
 
-tick_fits : (l : MachineLaws) (p : Program) (c : Course) (s : State) → IsSchedule c.sched → IsFit p s
+tick_fits : (l : MachineLaws) (p : Program) (c : TickState) (s : State) → IsSchedule c.sched → IsFit p s
     → IsFit p (tick_taken (code_of p) c s)
 tick_fits l p c s is fit =
     course_fits l p c (record s { world = timers_moved c.passed.ms s.world }) is
@@ -537,8 +537,8 @@ time_fits : (l : MachineLaws) (p : Program) (ms : ℕ) (s : State) → IsFit p s
     → IsFit p (time_passed (code_of p) ms s)
 unfolding time_passed
 time_fits l p ms s fit =
-    tick_fits l p (ticked s.mode (active s.activations) ms s.sched) s
-    (ticked_known s.mode (active s.activations) ms s.sched fit.sched) fit
+    tick_fits l p (after_tick s.mode (active_obs s.activations) ms s.sched) s
+    (ticked_known s.mode (active_obs s.activations) ms s.sched fit.sched) fit
 
 -- ---- an input
 
@@ -555,20 +555,20 @@ started_up_fits : (p : Program) (one : Option Activation) (s : State)
 unfolding FitsIf IsOf
 started_up_fits p None s one is idle fit =
     run_starts_fits p s
-    (subst (λ (acts : List Activation). IsStanding Run acts) (sym idle)
+    (subst (λ (acts : List Activation). IsActivationStack Run acts) (sym idle)
     (record { stack = tt; startup = tt })) fit
 started_up_fits p (Some a) s one is idle fit = record {
   memory = fit.memory;
   activations = (one, fit.activations);
   standing =
-      subst (λ (acts : List Activation). IsStanding Startup (a ∷ acts)) (sym idle)
+      subst (λ (acts : List Activation). IsActivationStack Startup (a ∷ acts)) (sym idle)
       (first_stands a is.0 is.1);
   sched = fit.sched;
 }
 
 -- a restart changes no size
 bits_length : (profile : Profile) (bits : List ℕ) → length bits ≡ bit_memory_size profile
-    → length (bits_retained bits) ≡ length bits
+    → length (retained_bit_memory bits) ≡ length bits
 bits_length profile bits is =
     let cut : List ℕ = replicate (length bits - 16) 0 in
     let count : length cut ≡ length bits - 16 = length-replicate {A = ℕ} (length bits - 16) 0 in
@@ -578,13 +578,13 @@ bits_length profile bits is =
     some Small bits is = omega (arith, is)
     some Large bits is = omega (arith, is)
 
-first_bits : (profile : Profile) (blocks : List (ℕ × List ℕ)) → length (fresh profile blocks).bit_memory ≡ bit_memory_size profile
-unfolding fresh
+first_bits : (profile : Profile) (blocks : List (ℕ × List ℕ)) → length (initial_memory profile blocks).bit_memory ≡ bit_memory_size profile
+unfolding initial_memory
 first_bits profile blocks = length-replicate {A = ℕ} (bit_memory_size profile) 0
 
 cleared_sizes : (p : Program) (m : Areas) → IsMemoryOf (code_of p) m
-    → SameSizes m (memory_cleared m)
-unfolding fresh
+    → SameSizes m (memory_after_restart m)
+unfolding initial_memory
 cleared_sizes p m is = record {
   inputs = sym is.sizes.inputs;
   outputs = sym is.sizes.outputs;
@@ -594,14 +594,14 @@ cleared_sizes p m is = record {
   data_blocks = λ number. refl;
 }
 
-cleared_fits : (l : MachineLaws) (p : Program) (s : State) → IsFit p s → IsFit p (cleared s)
+cleared_fits : (l : MachineLaws) (p : Program) (s : State) → IsFit p s → IsFit p (restart_cleared s)
 cleared_fits l p s fit =
-    let same : SameSizes s.world.memory (memory_cleared s.world.memory) =
+    let same : SameSizes s.world.memory (memory_after_restart s.world.memory) =
     cleared_sizes p s.world.memory fit.memory in
     record {
-      memory = memory_stays p s.world.memory (memory_cleared s.world.memory) same fit.memory;
+      memory = memory_stays p s.world.memory (memory_after_restart s.world.memory) same fit.memory;
       activations =
-          all_stay l p s.world.memory (memory_cleared s.world.memory) s.activations same
+          all_stay l p s.world.memory (memory_after_restart s.world.memory) s.activations same
           fit.activations;
       standing = fit.standing;
       sched = restarted_schedule s.sched fit.sched;
@@ -610,18 +610,18 @@ cleared_fits l p s fit =
 -- ---- requests of operators
 
 written_fits : (l : MachineLaws) (m : Areas) (var : Var) (value : ℕ) (new : Option Areas)
-    → written m var.place var.width value ≡ new → SameSizes m (unwrap_or new m)
+    → number_written m var.place var.width value ≡ new → SameSizes m (unwrap_or new m)
 written_fits l m var value None is = same_sizes m
 written_fits l m var value (Some n) is = l.writes m n var.place var.width value is
 
 restart_fits : (l : MachineLaws) (p : Program) (s : State) → Verifies p → is_stop s.mode ≡ true
-    → IsFit p s → IsFit p (restarted (code_of p) s)
-unfolding restarted
+    → IsFit p s → IsFit p (warm_restarted (code_of p) s)
+unfolding warm_restarted
 restart_fits l p s verifies stop fit =
-    let next : IsFit p (cleared (diagnosed 6 0 s)) =
-    cleared_fits l p (diagnosed 6 0 s) (diagnosed_fit p 6 0 s fit) in
-    started_up_fits p (startup_ob s.profile (code_of p)) (cleared (diagnosed 6 0 s))
-    (ob_fits s.profile l p (memory_cleared s.world.memory) 27 100 startup_info verifies next.memory)
+    let next : IsFit p (restart_cleared (diagnosis_recorded 6 0 s)) =
+    cleared_fits l p (diagnosis_recorded 6 0 s) (diagnosed_fit p 6 0 s fit) in
+    started_up_fits p (startup_ob s.profile (code_of p)) (restart_cleared (diagnosis_recorded 6 0 s))
+    (ob_fits s.profile l p (memory_after_restart s.world.memory) 27 100 startup_info verifies next.memory)
     (ob_is s.profile (code_of p) 27 100 startup_info)
     (stop_idle s.mode s.activations stop fit.standing.stack) next
 
@@ -635,19 +635,19 @@ monitored_fits p s monitored fit = record {
 }
 
 asked_fits : (l : MachineLaws) (p : Program) (request : Request) (s : State) → Verifies p
-    → IsFit p s → IsFit p (asked (code_of p) request s)
-unfolding asked
+    → IsFit p s → IsFit p (request_effect (code_of p) request s)
+unfolding request_effect
 asked_fits l p (ask.ReadVars vars) s verifies fit = fit
 asked_fits l p (ask.WriteVar var value) s verifies fit =
     moved_memory l p s _
     (written_fits l s.world.memory var value
-    (written s.world.memory var.place var.width value) refl) fit
+    (number_written s.world.memory var.place var.width value) refl) fit
 asked_fits l p ask.Stop s verifies fit =
     unless_stop p s _ fit (λ running. halted_fits l p causes.by_operator s fit)
 asked_fits l p ask.Restart s verifies fit = by (is_stop s.mode) refl
   where
     by : (test : Bool) → is_stop s.mode ≡ test
-        → IsFit p (if test then restarted (code_of p) s else s)
+        → IsFit p (if test then warm_restarted (code_of p) s else s)
     by true is = restart_fits l p s verifies is fit
     by false is = fit
 asked_fits l p (ask.MonitorOn block) s verifies fit =
@@ -658,7 +658,7 @@ asked_fits l p ask.Diag s verifies fit = fit
 
 -- ---- an entry
 
-counted_fits : (p : Program) (s : State) → IsFit p s → IsFit p (counted s)
+counted_fits : (p : Program) (s : State) → IsFit p s → IsFit p (entry_counted s)
 counted_fits p s fit = record {
   memory = fit.memory;
   activations = fit.activations;
@@ -667,9 +667,9 @@ counted_fits p s fit = record {
 }
 
 effect_fits : (l : MachineLaws) (p : Program) (e : What) (s : State) → Verifies p → IsInRange e
-    → IsFit p s → IsFit p (effect (code_of p) e s)
+    → IsFit p s → IsFit p (entry_effect (code_of p) e s)
 effect_fits l p what.Step s verifies range fit =
-    unless_stop p s (stepped (code_of p) s) fit (λ running. step_fits l p s verifies running fit)
+    unless_stop p s (after_step (code_of p) s) fit (λ running. step_fits l p s verifies running fit)
 effect_fits l p (what.Input byte value) s verifies range fit =
     moved_memory l p s _
     (input_fits l s.world.memory byte value (with_input s.world.memory byte value) refl) fit
@@ -687,7 +687,7 @@ request_fits l p best s verifies may fit =
     (request_taken s)
     (ob_fits s.profile l p s.world.memory best.class best.ob best.info verifies fit.memory)
     (ob_is s.profile (code_of p) best.class best.ob best.info) may
-    (other_sched p s (started s.sched) (started_schedule s.sched fit.sched) fit)
+    (other_sched p s (best_removed s.sched) (started_schedule s.sched fit.sched) fit)
 
 best_fits : (l : MachineLaws) (p : Program) (best : Option Pending) (s : State) → Verifies p
     → is_stop s.mode ≡ false → best_of s.mode s.sched.pending ≡ best → IsFit p s
@@ -706,8 +706,8 @@ best_fits l p (Some best) s verifies running is fit =
     by false may = fit
 
 settled_fits : (l : MachineLaws) (p : Program) (s : State) → Verifies p → IsFit p s
-    → IsFit p (settled (code_of p) s)
-unfolding settled
+    → IsFit p (after_settling (code_of p) s)
+unfolding after_settling
 settled_fits l p s verifies fit =
     unless_stop p s (best_started (code_of p) (best_of s.mode s.sched.pending) s) fit
     (λ running. best_fits l p (best_of s.mode s.sched.pending) s verifies running refl fit)
@@ -716,8 +716,8 @@ after_fits : (l : MachineLaws) (p : Program) (s : State) (e : What) → Verifies
     → IsFit p s → IsFit p (state_after (code_of p) e s)
 unfolding state_after
 after_fits l p s e verifies range fit =
-    settled_fits l p (effect (code_of p) e (counted s)) verifies
-    (effect_fits l p e (counted s) verifies range (counted_fits p s fit))
+    settled_fits l p (entry_effect (code_of p) e (entry_counted s)) verifies
+    (effect_fits l p e (entry_counted s) verifies range (counted_fits p s fit))
 
 -- ---- the first start
 

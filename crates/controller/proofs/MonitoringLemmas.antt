@@ -7,10 +7,10 @@ use Rattle.machine.specs.Statement.{World, Step, Went, Ended, SyncError, SysCall
 use Rattle.machine.specs.declared.outcomes.Outcome.{Outcome}
 use Rattle.machine.specs.declared.outcomes.Outcome.TheVariants as outcome
 use Rattle.ob_sched.specs.Scheduler.{Scheduler}
-use Rattle.controller.specs.Leaves.{Steps, StepsTo, regs_finished, stand_of, stand_record}
+use Rattle.controller.specs.Leaves.{Steps, StepsTo, regs_finished, stand_of, record_of_statement}
 use Rattle.controller.specs.Monitoring.{regs_after, regs_left, step_record}
 use Rattle.controller.specs.State.{State}
-use Rattle.controller.specs.declared.activations.Stand.{Stand}
+use Rattle.controller.specs.declared.activations.At.{At}
 
 -- the registers after a statement, from those before a system function did its work
 regs_done : (s : Scheduler) (step : Step) (a : Activation) (below new : List Activation) (w w' : World)
@@ -25,22 +25,22 @@ regs_done s (Stop cause) a below new w w' (outcome.Stop why) steps = refl
 regs_done s step a below new w w' done steps = absurd steps
 
 recorded_on : (code : Code) (s : State) (old new : List Activation) (w' : World)
-    (done : Stand × Outcome) → Steps code old new s.world w' (Some done)
-    → stand_record code s.monitored done.0 (regs_finished done.1 s.sched new done.0.regs)
+    (done : At × Outcome) → Steps code old new s.world w' (Some done)
+    → record_of_statement code s.monitored done.0 (regs_finished done.1 s.sched new done.0.regs)
     ≡ step_record code s old
 recorded_on code s [] new w' done steps = absurd steps
 recorded_on code s (a ∷ below) new w' done steps =
     ap
-    (λ (stand : Stand). stand_record code s.monitored stand (regs_finished done.1 s.sched new stand.regs))
+    (λ (stand : At). record_of_statement code s.monitored stand (regs_finished done.1 s.sched new stand.regs))
     steps.0
     ∙ ap
-    (λ (r : Regs). stand_record code s.monitored
+    (λ (r : Regs). record_of_statement code s.monitored
     (stand_of a (regs_left (statement code a s.world) a)) r)
     (regs_done s.sched (statement code a s.world) a below new s.world w' done.1 steps.1)
 
 pub step_recorded : (code : Code) (s : State) (new : List Activation) (w' : World)
-    (done : Stand × Outcome) → Steps code s.activations new s.world w' (Some done)
-    → stand_record code s.monitored done.0 (regs_finished done.1 s.sched new done.0.regs)
+    (done : At × Outcome) → Steps code s.activations new s.world w' (Some done)
+    → record_of_statement code s.monitored done.0 (regs_finished done.1 s.sched new done.0.regs)
     ≡ step_record code s s.activations
 step_recorded code s new w' done steps = recorded_on code s s.activations new w' done steps
 

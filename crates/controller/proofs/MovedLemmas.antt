@@ -6,21 +6,21 @@ use Rattle.plc_base.specs.declared.Profile.{Profile}
 use Rattle.plc_base.specs.declared.BlockId.{BlockId}
 use Rattle.plc_base.specs.declared.Spot.{Spot}
 use Rattle.status_word.specs.declared.Regs.{Regs}
-use Rattle.frames.specs.Activations.{begun, with_local_byte}
-use Rattle.frames.specs.Locals.{LocalData, byte_set}
+use Rattle.frames.specs.Activations.{activation_begun, with_local_byte}
+use Rattle.frames.specs.Locals.{LocalData, local_byte_set}
 use Rattle.frames.specs.declared.Activation.{Activation}
 use Rattle.frames.specs.declared.bindings.Binding.{Binding}
 use Rattle.frames.specs.declared.frame.Frame.{Frame}
-use Rattle.machine.specs.Code.{Code, Fetched, Head}
-use Rattle.machine.specs.Moved.{Follows, moved, moved_fetched, moved_frame, moved_step, StatementsMove}
+use Rattle.machine.specs.Code.{Code, Fetched, BlockHead}
+use Rattle.machine.specs.Moved.{Follows, moved_activation, moved_fetched, moved_frame, moved_step, StatementsMove}
 use Rattle.machine.specs.Statement.{Step, Went, Ended, SyncError, SysCall, Stop, Stuck, statement}
 use Rattle.machine.specs.SystemCalls.{Given}
 use Rattle.monitor.specs.declared.MonRecord.{MonRecord}
-use Rattle.ob_sched.specs.Course.{Course, requested}
-use Rattle.ob_sched.specs.Scheduler.{Scheduler, retriggered, delay_of, delay_started, delay_cancelled}
+use Rattle.ob_sched.specs.TickState.{TickState, ob_requested}
+use Rattle.ob_sched.specs.Scheduler.{Scheduler, cycle_retriggered, delay_of, delay_started, delay_cancelled}
 use Rattle.ob_sched.specs.StartInformation.{ob_of_error, start_info}
-use Rattle.ob_sched.specs.Millisecond.{ticked, begun as course_begun}
-use Rattle.ob_sched.specs.OrganizationBlock.{class_in, is_delay}
+use Rattle.ob_sched.specs.Millisecond.{after_tick, tick_begun as course_begun}
+use Rattle.ob_sched.specs.OrganizationBlock.{priority_class_in, is_delay}
 use Rattle.ob_sched.specs.Request.{best_of}
 use Rattle.ob_sched.specs.declared.requests.Pending.{Pending}
 use Rattle.ob_sched.specs.declared.start_infos.StartEvent.TheVariants.{Arrival}
@@ -33,23 +33,23 @@ use Rattle.var_access.specs.declared.Request.{Request}
 use Rattle.var_access.specs.declared.Request.TheVariants as ask
 use Rattle.var_access.specs.declared.What.{What}
 use Rattle.var_access.specs.declared.What.TheVariants as what
-use Rattle.controller.specs.Asking.{answered, asked, done_if}
-use Rattle.controller.specs.Beginning.{ob_block, ob_frame, told_from, ob_begun, ob_in, begun_above}
-use Rattle.controller.specs.CyclePoint.{cycle_point, cycle_info, cycle_passed}
-use Rattle.controller.specs.Errors.{copied_from, error_in, error_answered, failed, failure, is_synchronous}
-use Rattle.controller.specs.Event.{counted, effect, state_after}
-use Rattle.controller.specs.Monitoring.{is_monitored, monitoring_record, record_at, regs_after, regs_served, step_record}
+use Rattle.controller.specs.Asking.{request_reply, request_effect, done_if}
+use Rattle.controller.specs.Beginning.{ob_block, ob_frame, with_start_bytes, ob_begun, ob_in, begun_above}
+use Rattle.controller.specs.CyclePoint.{cycle_point, cycle_info, cycle_finished}
+use Rattle.controller.specs.Errors.{copied_from, error_in, error_ob_started, error_raised, error_event, is_synchronous}
+use Rattle.controller.specs.Event.{entry_counted, entry_effect, state_after}
+use Rattle.controller.specs.Monitoring.{is_monitored, monitoring_record, mon_record_at, regs_after, regs_served, step_record}
 use Rattle.controller.specs.Moved.{moved_state, EntriesMove, HistoriesMove}
 use Rattle.controller.specs.Replay.{Happened, happened_to, happens, replay, reply_to, run_from}
-use Rattle.controller.specs.Requests.{stopped_if, course_taken, arrived}
-use Rattle.controller.specs.Serving.{Served, Returns, Passes, Stops, served, after_service, system_called, input}
-use Rattle.controller.specs.Settling.{may_start, request_taken, request_started, best_started, settled}
-use Rattle.controller.specs.Shown.{changes, shown}
-use Rattle.controller.specs.Start.{all_obs, before_start, cleared, restarted, start, started_up, startup_info, startup_ob}
-use Rattle.controller.specs.State.{State, is_stop, diagnosed, each_diagnosed}
-use Rattle.controller.specs.Stepping.{run_starts, ob_ended, after_statement, stepped_on, stepped}
-use Rattle.controller.specs.Stopping.{spot_of, spot, halted_at, halted}
-use Rattle.controller.specs.Ticking.{active, time_passed, tick_taken, timers_moved}
+use Rattle.controller.specs.Requests.{stopped_if, tick_state_taken, arrival_served}
+use Rattle.controller.specs.Serving.{Served, Returns, Passes, Stops, system_function_served, after_service, system_call_served, in_parameter}
+use Rattle.controller.specs.Settling.{may_start, request_taken, request_started, best_started, after_settling}
+use Rattle.controller.specs.Shown.{observed_changes, entry_shown}
+use Rattle.controller.specs.Start.{all_obs, before_start, restart_cleared, warm_restarted, start, started_up, startup_info, startup_ob}
+use Rattle.controller.specs.State.{State, is_stop, diagnosis_recorded, each_diagnosed}
+use Rattle.controller.specs.Stepping.{run_starts, ob_ended, after_statement, step_of_first, after_step}
+use Rattle.controller.specs.Stopping.{spot_of, running_spot, stop_entered_at, stop_entered}
+use Rattle.controller.specs.Ticking.{active_obs, time_passed, tick_taken, timers_moved}
 
 abbrev Positions : Type 0
 Positions = BlockId → ℕ → ℕ
@@ -58,49 +58,49 @@ Positions = BlockId → ℕ → ℕ
 
 byte_moves :
     (f : Positions) (o : Option LocalData) (a : Activation)
-    → unwrap_or (option_map (λ (l : LocalData). record (moved f a) { running = record (moved f a).running { locals = l } }) o) (moved f a)
-    ≡ moved f (unwrap_or (option_map (λ (l : LocalData). record a { running = record a.running { locals = l } }) o) a)
+    → unwrap_or (option_map (λ (l : LocalData). record (moved_activation f a) { running = record (moved_activation f a).running { locals = l } }) o) (moved_activation f a)
+    ≡ moved_activation f (unwrap_or (option_map (λ (l : LocalData). record a { running = record a.running { locals = l } }) o) a)
 byte_moves f None a = refl
 byte_moves f (Some l) a = refl
 
 told_moves :
     (f : Positions) (byte : ℕ) (values : List ℕ) (a : Activation)
-    → told_from byte values (moved f a) ≡ moved f (told_from byte values a)
+    → with_start_bytes byte values (moved_activation f a) ≡ moved_activation f (with_start_bytes byte values a)
 told_moves f byte [] a = refl
 told_moves f byte (value ∷ rest) a =
-    ap (told_from (byte + 1) rest) (byte_moves f (byte_set a.running.locals 0 byte value) a)
+    ap (with_start_bytes (byte + 1) rest) (byte_moves f (local_byte_set a.running.locals 0 byte value) a)
     ∙ told_moves f (byte + 1) rest (unwrap_or (with_local_byte 0 byte value a) a)
 
 begun_moves :
-    (profile : Profile) (f : Positions) (class ob : ℕ) (head : Head) → f (ob_block ob) 0 ≡ 0
-    → begun profile class ob (ob_frame ob head) ≡ moved f (begun profile class ob (ob_frame ob head))
+    (profile : Profile) (f : Positions) (class ob : ℕ) (head : BlockHead) → f (ob_block ob) 0 ≡ 0
+    → activation_begun profile class ob (ob_frame ob head) ≡ moved_activation f (activation_begun profile class ob (ob_frame ob head))
 begun_moves profile f class ob head start =
-    ap (λ (at : ℕ). begun profile class ob (record (ob_frame ob head) { at = at })) (sym start)
+    ap (λ (at : ℕ). activation_begun profile class ob (record (ob_frame ob head) { at = at })) (sym start)
 
 ob_moves :
-    (profile : Profile) (f : Positions) (class ob : ℕ) (info : StartInfo) (head : Head) → f (ob_block ob) 0 ≡ 0
-    → ob_begun profile class ob info head ≡ moved f (ob_begun profile class ob info head)
+    (profile : Profile) (f : Positions) (class ob : ℕ) (info : StartInfo) (head : BlockHead) → f (ob_block ob) 0 ≡ 0
+    → ob_begun profile class ob info head ≡ moved_activation f (ob_begun profile class ob info head)
 unfolding ob_begun
 ob_moves profile f class ob info head start =
-    ap (told_from 0 info.bytes) (begun_moves profile f class ob head start)
-    ∙ told_moves f 0 info.bytes (begun profile class ob (ob_frame ob head))
+    ap (with_start_bytes 0 info.bytes) (begun_moves profile f class ob head start)
+    ∙ told_moves f 0 info.bytes (activation_begun profile class ob (ob_frame ob head))
 
 head_moves :
-    (profile : Profile) (f : Positions) (class ob : ℕ) (info : StartInfo) (o : Option Head) → f (ob_block ob) 0 ≡ 0
-    → option_map (ob_begun profile class ob info) o ≡ option_map (moved f) (option_map (ob_begun profile class ob info) o)
+    (profile : Profile) (f : Positions) (class ob : ℕ) (info : StartInfo) (o : Option BlockHead) → f (ob_block ob) 0 ≡ 0
+    → option_map (ob_begun profile class ob info) o ≡ option_map (moved_activation f) (option_map (ob_begun profile class ob info) o)
 head_moves profile f class ob info None start = refl
 head_moves profile f class ob info (Some head) start = ap (λ (a : Activation). Some a) (ob_moves profile f class ob info head start)
 
 ob_in_moves :
     (profile : Profile) (f : Positions) (c d : Code) (class ob : ℕ) (info : StartInfo) → Follows f c d
-    → ob_in profile d class ob info ≡ option_map (moved f) (ob_in profile c class ob info)
+    → ob_in profile d class ob info ≡ option_map (moved_activation f) (ob_in profile c class ob info)
 ob_in_moves profile f c d class ob info follows =
     ap (option_map (ob_begun profile class ob info)) (follows.head (ob_block ob))
     ∙ head_moves profile f class ob info (c.head (ob_block ob)) (follows.start (ob_block ob))
 
 above_moves :
     (f : Positions) (o : Option Activation) (s : State)
-    → begun_above (option_map (moved f) o) (moved_state f s) ≡ moved_state f (begun_above o s)
+    → begun_above (option_map (moved_activation f) o) (moved_state f s) ≡ moved_state f (begun_above o s)
 above_moves f None s = refl
 above_moves f (Some a) s = refl
 
@@ -120,20 +120,20 @@ spot_moves f c d frame follows =
     ap (option_map (line_in frame.block)) (follows.fetch frame.block frame.at)
     ∙ fetched_spot (f frame.block) frame.block (c.fetch frame.block frame.at)
 
-spots_move : (f : Positions) (c d : Code) (activations : List Activation) → Follows f c d → spot d (map (moved f) activations) ≡ spot c activations
+spots_move : (f : Positions) (c d : Code) (activations : List Activation) → Follows f c d → running_spot d (map (moved_activation f) activations) ≡ running_spot c activations
 spots_move f c d [] follows = refl
 spots_move f c d (a ∷ below) follows = spot_moves f c d a.running.frame follows
 
 diagnosed_moves : (f : Positions) (records : List (ℕ × ℕ)) (s : State) → each_diagnosed records (moved_state f s) ≡ moved_state f (each_diagnosed records s)
 diagnosed_moves f [] s = refl
-diagnosed_moves f (one ∷ rest) s = diagnosed_moves f rest (diagnosed one.0 one.1 s)
+diagnosed_moves f (one ∷ rest) s = diagnosed_moves f rest (diagnosis_recorded one.0 one.1 s)
 
 halted_moves :
     (f : Positions) (c d : Code) (cause : ℕ) (s : State) → Follows f c d
-    → halted d cause (moved_state f s) ≡ moved_state f (halted c cause s)
-unfolding halted
+    → stop_entered d cause (moved_state f s) ≡ moved_state f (stop_entered c cause s)
+unfolding stop_entered
 halted_moves f c d cause s follows =
-    ap (λ (at : Option Spot). halted_at at cause (moved_state f s)) (spots_move f c d s.activations follows)
+    ap (λ (at : Option Spot). stop_entered_at at cause (moved_state f s)) (spots_move f c d s.activations follows)
 
 stopped_moves :
     (f : Positions) (c d : Code) (cause : Option ℕ) (s : State) → Follows f c d
@@ -142,8 +142,8 @@ stopped_moves f c d None s follows = refl
 stopped_moves f c d (Some cause) s follows = halted_moves f c d cause s follows
 
 course_moves :
-    (f : Positions) (c d : Code) (course : Course) (s : State) → Follows f c d
-    → course_taken d course (moved_state f s) ≡ moved_state f (course_taken c course s)
+    (f : Positions) (c d : Code) (course : TickState) (s : State) → Follows f c d
+    → tick_state_taken d course (moved_state f s) ≡ moved_state f (tick_state_taken c course s)
 course_moves f c d course s follows =
     ap (stopped_if d course.passed.stop) (diagnosed_moves f course.passed.records.items (record s { sched = course.sched }))
     ∙ stopped_moves f c d course.passed.stop (each_diagnosed course.passed.records.items (record s { sched = course.sched })) follows
@@ -151,12 +151,12 @@ course_moves f c d course s follows =
 -- ---- system functions
 
 abbrev moved_served : Positions → Served → Served
-moved_served f (Returns r) = Returns (record r { activation = moved f r.activation })
-moved_served f (Passes sched a) = Passes sched (moved f a)
-moved_served f (Stops cause a) = Stops cause (moved f a)
+moved_served f (Returns r) = Returns (record r { activation = moved_activation f r.activation })
+moved_served f (Passes sched a) = Passes sched (moved_activation f a)
+moved_served f (Stops cause a) = Stops cause (moved_activation f a)
 
 abbrev moved_returned : Positions → Returned → Returned
-moved_returned f r = record r { activation = moved f r.activation }
+moved_returned f r = record r { activation = moved_activation f r.activation }
 
 either :
     {A : Type 0} (g : A → A) (b : Bool) (x x' y y' : A) → x' ≡ g x → y' ≡ g y
@@ -164,23 +164,23 @@ either :
 either g true x x' y y' h k = h
 either g false x x' y y' h k = k
 
-srt_moves : (f : Positions) (s : Scheduler) (a : Activation) (n t g : ℕ) → srt_dint s (moved f a) n t g ≡ moved_returned f (srt_dint s a n t g)
+srt_moves : (f : Positions) (s : Scheduler) (a : Activation) (n t g : ℕ) → srt_dint s (moved_activation f a) n t g ≡ moved_returned f (srt_dint s a n t g)
 unfolding srt_dint
 srt_moves f s a n t g = by (not (is_delay n)) (not (nat_le 1 t && nat_le t 60000))
   where
     by : (other late : Bool)
-        → (if other then returned s (moved f a) 0x8090 else if late then returned s (moved f a) 0x8091 else returned (delay_started n t s) (moved f a) 0)
+        → (if other then returned s (moved_activation f a) 0x8090 else if late then returned s (moved_activation f a) 0x8091 else returned (delay_started n t s) (moved_activation f a) 0)
         ≡ moved_returned f (if other then returned s a 0x8090 else if late then returned s a 0x8091 else returned (delay_started n t s) a 0)
     by true late = refl
     by false true = refl
     by false false = refl
 
-can_moves : (f : Positions) (s : Scheduler) (a : Activation) (n : ℕ) → can_dint s (moved f a) n ≡ moved_returned f (can_dint s a n)
+can_moves : (f : Positions) (s : Scheduler) (a : Activation) (n : ℕ) → can_dint s (moved_activation f a) n ≡ moved_returned f (can_dint s a n)
 unfolding can_dint
 can_moves f s a n = by (not (is_delay n)) (is_some (delay_of s.countdowns n))
   where
     by : (other started : Bool)
-        → (if other then returned s (moved f a) 0x8090 else if started then returned (delay_cancelled n s) (moved f a) 0 else returned s (moved f a) 0x80A0)
+        → (if other then returned s (moved_activation f a) 0x8090 else if started then returned (delay_cancelled n s) (moved_activation f a) 0 else returned s (moved_activation f a) 0x80A0)
         ≡ moved_returned f (if other then returned s a 0x8090 else if started then returned (delay_cancelled n s) a 0 else returned s a 0x80A0)
     by true started = refl
     by false true = refl
@@ -188,33 +188,33 @@ can_moves f s a n = by (not (is_delay n)) (is_some (delay_of s.countdowns n))
 
 set_moves :
     (f : Positions) (refused : Option ℕ) (disabled : Bool) (mode n : ℕ) (s : Scheduler) (a : Activation)
-    → set_unless refused disabled mode n s (moved f a) ≡ moved_returned f (set_unless refused disabled mode n s a)
+    → set_unless refused disabled mode n s (moved_activation f a) ≡ moved_returned f (set_unless refused disabled mode n s a)
 set_moves f (Some code) disabled mode n s a = refl
 set_moves f None disabled mode n s a = refl
 
-dis_moves : (f : Positions) (s : Scheduler) (a : Activation) (mode n : ℕ) → dis_irt s (moved f a) mode n ≡ moved_returned f (dis_irt s a mode n)
+dis_moves : (f : Positions) (s : Scheduler) (a : Activation) (mode n : ℕ) → dis_irt s (moved_activation f a) mode n ≡ moved_returned f (dis_irt s a mode n)
 unfolding dis_irt
 dis_moves f s a mode n = set_moves f (refusal mode n) true mode n s a
 
-en_moves : (f : Positions) (s : Scheduler) (a : Activation) (mode n : ℕ) → en_irt s (moved f a) mode n ≡ moved_returned f (en_irt s a mode n)
+en_moves : (f : Positions) (s : Scheduler) (a : Activation) (mode n : ℕ) → en_irt s (moved_activation f a) mode n ≡ moved_returned f (en_irt s a mode n)
 unfolding en_irt
 en_moves f s a mode n = set_moves f (refusal mode n) false mode n s a
 
-delays_move : (f : Positions) (s : Scheduler) (a : Activation) → dis_airt s (moved f a) ≡ moved_returned f (dis_airt s a)
+delays_move : (f : Positions) (s : Scheduler) (a : Activation) → dis_airt s (moved_activation f a) ≡ moved_returned f (dis_airt s a)
 unfolding dis_airt
 delays_move f s a = refl
 
-delays_end : (f : Positions) (s : Scheduler) (a : Activation) → en_airt s (moved f a) ≡ moved_returned f (en_airt s a)
+delays_end : (f : Positions) (s : Scheduler) (a : Activation) → en_airt s (moved_activation f a) ≡ moved_returned f (en_airt s a)
 unfolding en_airt
 delays_end f s a = by (a.delay == 0)
   where
     by : (none : Bool)
-        → (if none then returned s (moved f a) 0x8080 else returned s (with_delay (a.delay - 1) (moved f a)) (a.delay - 1))
+        → (if none then returned s (moved_activation f a) 0x8080 else returned s (with_delay (a.delay - 1) (moved_activation f a)) (a.delay - 1))
         ≡ moved_returned f (if none then returned s a 0x8080 else returned s (with_delay (a.delay - 1) a) (a.delay - 1))
     by true = refl
     by false = refl
 
-time_moves : (f : Positions) (s : Scheduler) (a : Activation) → time_tck s (moved f a) ≡ moved_returned f (time_tck s a)
+time_moves : (f : Positions) (s : Scheduler) (a : Activation) → time_tck s (moved_activation f a) ≡ moved_returned f (time_tck s a)
 unfolding time_tck
 time_moves f s a = refl
 
@@ -223,23 +223,23 @@ returns_move f r r' h = ap (λ (z : Returned). Returns z) h
 
 abbrev chosen : (b32 b33 b39 b40 b41 b42 b43 b46 : Bool) → (inputs : List ℕ) → Scheduler → Activation → Served
 chosen b32 b33 b39 b40 b41 b42 b43 b46 inputs s a =
-    if b32 then Returns (srt_dint s a (input 0 inputs) (input 1 inputs) (input 2 inputs))
-    else if b33 then Returns (can_dint s a (input 0 inputs))
-    else if b39 then Returns (dis_irt s a (input 0 inputs) (input 1 inputs))
-    else if b40 then Returns (en_irt s a (input 0 inputs) (input 1 inputs))
+    if b32 then Returns (srt_dint s a (in_parameter 0 inputs) (in_parameter 1 inputs) (in_parameter 2 inputs))
+    else if b33 then Returns (can_dint s a (in_parameter 0 inputs))
+    else if b39 then Returns (dis_irt s a (in_parameter 0 inputs) (in_parameter 1 inputs))
+    else if b40 then Returns (en_irt s a (in_parameter 0 inputs) (in_parameter 1 inputs))
     else if b41 then Returns (dis_airt s a)
     else if b42 then Returns (en_airt s a)
-    else if b43 then Passes (retriggered s) (passed a)
+    else if b43 then Passes (cycle_retriggered s) (passed a)
     else if b46 then Stops causes.by_program (passed a)
     else Returns (time_tck s a)
 
 chosen_moves :
     (f : Positions) (b32 b33 b39 b40 b41 b42 b43 b46 : Bool) (inputs : List ℕ) (s : Scheduler) (a : Activation)
-    → chosen b32 b33 b39 b40 b41 b42 b43 b46 inputs s (moved f a) ≡ moved_served f (chosen b32 b33 b39 b40 b41 b42 b43 b46 inputs s a)
-chosen_moves f true b33 b39 b40 b41 b42 b43 b46 inputs s a = returns_move f _ _ (srt_moves f s a (input 0 inputs) (input 1 inputs) (input 2 inputs))
-chosen_moves f false true b39 b40 b41 b42 b43 b46 inputs s a = returns_move f _ _ (can_moves f s a (input 0 inputs))
-chosen_moves f false false true b40 b41 b42 b43 b46 inputs s a = returns_move f _ _ (dis_moves f s a (input 0 inputs) (input 1 inputs))
-chosen_moves f false false false true b41 b42 b43 b46 inputs s a = returns_move f _ _ (en_moves f s a (input 0 inputs) (input 1 inputs))
+    → chosen b32 b33 b39 b40 b41 b42 b43 b46 inputs s (moved_activation f a) ≡ moved_served f (chosen b32 b33 b39 b40 b41 b42 b43 b46 inputs s a)
+chosen_moves f true b33 b39 b40 b41 b42 b43 b46 inputs s a = returns_move f _ _ (srt_moves f s a (in_parameter 0 inputs) (in_parameter 1 inputs) (in_parameter 2 inputs))
+chosen_moves f false true b39 b40 b41 b42 b43 b46 inputs s a = returns_move f _ _ (can_moves f s a (in_parameter 0 inputs))
+chosen_moves f false false true b40 b41 b42 b43 b46 inputs s a = returns_move f _ _ (dis_moves f s a (in_parameter 0 inputs) (in_parameter 1 inputs))
+chosen_moves f false false false true b41 b42 b43 b46 inputs s a = returns_move f _ _ (en_moves f s a (in_parameter 0 inputs) (in_parameter 1 inputs))
 chosen_moves f false false false false true b42 b43 b46 inputs s a = returns_move f _ _ (delays_move f s a)
 chosen_moves f false false false false false true b43 b46 inputs s a = returns_move f _ _ (delays_end f s a)
 chosen_moves f false false false false false false true b46 inputs s a = refl
@@ -248,14 +248,14 @@ chosen_moves f false false false false false false false false inputs s a = retu
 
 served_moves :
     (f : Positions) (number : ℕ) (inputs : List ℕ) (s : Scheduler) (a : Activation)
-    → served number inputs s (moved f a) ≡ moved_served f (served number inputs s a)
-unfolding served
+    → system_function_served number inputs s (moved_activation f a) ≡ moved_served f (system_function_served number inputs s a)
+unfolding system_function_served
 served_moves f number inputs s a =
     chosen_moves f (number == 32) (number == 33) (number == 39) (number == 40) (number == 41) (number == 42) (number == 43) (number == 46) inputs s a
 
 service_moves :
     (f : Positions) (call : Option Spot) (r : Served) (to : Option Binding) (below : List Activation) (s : State)
-    → after_service call (moved_served f r) to (map (moved f) below) (moved_state f s) ≡ moved_state f (after_service call r to below s)
+    → after_service call (moved_served f r) to (map (moved_activation f) below) (moved_state f s) ≡ moved_state f (after_service call r to below s)
 service_moves f call (Returns r) None below s = refl
 service_moves f call (Returns r) (Some to) below s = refl
 service_moves f call (Passes sched a) to below s = refl
@@ -263,42 +263,42 @@ service_moves f call (Stops cause a) to below s = refl
 
 system_moves :
     (f : Positions) (call : Option Spot) (number : ℕ) (given : Given) (a : Activation) (below : List Activation) (s : State)
-    → system_called call number given (moved f a) (map (moved f) below) (moved_state f s) ≡ moved_state f (system_called call number given a below s)
+    → system_call_served call number given (moved_activation f a) (map (moved_activation f) below) (moved_state f s) ≡ moved_state f (system_call_served call number given a below s)
 system_moves f call number given a below s =
-    ap (λ (r : Served). after_service call r given.result (map (moved f) below) (moved_state f s)) (served_moves f number given.inputs s.sched a)
-    ∙ service_moves f call (served number given.inputs s.sched a) given.result below s
+    ap (λ (r : Served). after_service call r given.result (map (moved_activation f) below) (moved_state f s)) (served_moves f number given.inputs s.sched a)
+    ∙ service_moves f call (system_function_served number given.inputs s.sched a) given.result below s
 
 -- ---- synchronous errors
 
 copied_moves :
     (f : Positions) (a : Activation) (o : Option Activation)
-    → option_map (copied_from (moved f a)) (option_map (moved f) o) ≡ option_map (moved f) (option_map (copied_from a) o)
+    → option_map (copied_from (moved_activation f a)) (option_map (moved_activation f) o) ≡ option_map (moved_activation f) (option_map (copied_from a) o)
 copied_moves f a None = refl
 copied_moves f a (Some fresh) = refl
 
 error_moves :
     (f : Positions) (c d : Code) (error : ℕ) (at : Option Spot) (a : Activation) → Follows f c d
-    → error_in d error at (moved f a) ≡ option_map (moved f) (error_in c error at a)
+    → error_in d error at (moved_activation f a) ≡ option_map (moved_activation f) (error_in c error at a)
 error_moves f c d error at a follows =
-    ap (option_map (copied_from (moved f a))) (ob_in_moves a.profile f c d a.class (ob_of_error error) (start_info (failure error at) a.class) follows)
-    ∙ copied_moves f a (ob_in a.profile c a.class (ob_of_error error) (start_info (failure error at) a.class))
+    ap (option_map (copied_from (moved_activation f a))) (ob_in_moves a.profile f c d a.class (ob_of_error error) (start_info (error_event error at) a.class) follows)
+    ∙ copied_moves f a (ob_in a.profile c a.class (ob_of_error error) (start_info (error_event error at) a.class))
 
 answered_moves :
     (f : Positions) (o : Option Activation) (error : ℕ) (at : Option Spot) (a : Activation) (below : List Activation) (s : State)
-    → error_answered (option_map (moved f) o) error at (moved f a) (map (moved f) below) (moved_state f s) ≡ moved_state f (error_answered o error at a below s)
+    → error_ob_started (option_map (moved_activation f) o) error at (moved_activation f a) (map (moved_activation f) below) (moved_state f s) ≡ moved_state f (error_ob_started o error at a below s)
 answered_moves f None error at a below s = refl
 answered_moves f (Some fresh) error at a below s = refl
 
 failed_moves :
     (f : Positions) (c d : Code) (error : ℕ) (at : Option Spot) (a : Activation) (below : List Activation) (s : State) → Follows f c d
-    → failed d error at (moved f a) (map (moved f) below) (moved_state f s) ≡ moved_state f (failed c error at a below s)
-unfolding failed
+    → error_raised d error at (moved_activation f a) (map (moved_activation f) below) (moved_state f s) ≡ moved_state f (error_raised c error at a below s)
+unfolding error_raised
 failed_moves f c d error at a below s follows =
-    either (moved_state f) (is_synchronous a.ob) (halted_at at causes.in_error_ob (diagnosed 4 error s)) _
-    (error_answered (error_in c error at a) error at a below (diagnosed 4 error s)) _ refl
-    (ap (λ (o : Option Activation). error_answered o error at (moved f a) (map (moved f) below) (moved_state f (diagnosed 4 error s)))
+    either (moved_state f) (is_synchronous a.ob) (stop_entered_at at causes.in_error_ob (diagnosis_recorded 4 error s)) _
+    (error_ob_started (error_in c error at a) error at a below (diagnosis_recorded 4 error s)) _ refl
+    (ap (λ (o : Option Activation). error_ob_started o error at (moved_activation f a) (map (moved_activation f) below) (moved_state f (diagnosis_recorded 4 error s)))
     (error_moves f c d error at a follows)
-    ∙ answered_moves f (error_in c error at a) error at a below (diagnosed 4 error s))
+    ∙ answered_moves f (error_in c error at a) error at a below (diagnosis_recorded 4 error s))
 
 -- ---- steps
 
@@ -307,7 +307,7 @@ ended_moves f ob s = either (moved_state f) (ob == 100) (run_starts s) _ s _ ref
 
 after_moves :
     (f : Positions) (c d : Code) (step : Step) (ob : ℕ) (at : Option Spot) (below : List Activation) (s : State) → Follows f c d
-    → after_statement d (moved_step f step) ob at (map (moved f) below) (moved_state f s) ≡ moved_state f (after_statement c step ob at below s)
+    → after_statement d (moved_step f step) ob at (map (moved_activation f) below) (moved_state f s) ≡ moved_state f (after_statement c step ob at below s)
 after_moves f c d (Went a w) ob at below s follows = refl
 after_moves f c d (Ended regs w) ob at below s follows = ended_moves f ob (record s { world = w; activations = below })
 after_moves f c d (SyncError error a) ob at below s follows = failed_moves f c d error at a below s follows
@@ -319,50 +319,50 @@ cycle_moves :
     (f : Positions) (c d : Code) (s : State) → Follows f c d → cycle_point d (moved_state f s) ≡ moved_state f (cycle_point c s)
 unfolding cycle_point
 cycle_moves f c d s follows =
-    ap (λ (o : Option Activation). begun_above o (moved_state f (cycle_passed s))) (ob_in_moves s.profile f c d _ 1 (cycle_info s) follows)
-    ∙ above_moves f (ob_in s.profile c _ 1 (cycle_info s)) (cycle_passed s)
+    ap (λ (o : Option Activation). begun_above o (moved_state f (cycle_finished s))) (ob_in_moves s.profile f c d _ 1 (cycle_info s) follows)
+    ∙ above_moves f (ob_in s.profile c _ 1 (cycle_info s)) (cycle_finished s)
 
 stepped_on_moves :
     (f : Positions) (c d : Code) (activations : List Activation) (s : State) → StatementsMove → Follows f c d
-    → stepped_on d (map (moved f) activations) (moved_state f s) ≡ moved_state f (stepped_on c activations s)
+    → step_of_first d (map (moved_activation f) activations) (moved_state f s) ≡ moved_state f (step_of_first c activations s)
 stepped_on_moves f c d [] s statements follows = cycle_moves f c d s follows
 stepped_on_moves f c d (a ∷ below) s statements follows =
-    ap (λ (step : Step). after_statement d step a.ob (spot_of d (moved_frame f a.running.frame)) (map (moved f) below) (moved_state f s))
+    ap (λ (step : Step). after_statement d step a.ob (spot_of d (moved_frame f a.running.frame)) (map (moved_activation f) below) (moved_state f s))
     (statements f c d a s.world follows)
-    ∙ ap (λ (at : Option Spot). after_statement d (moved_step f (statement c a s.world)) a.ob at (map (moved f) below) (moved_state f s))
+    ∙ ap (λ (at : Option Spot). after_statement d (moved_step f (statement c a s.world)) a.ob at (map (moved_activation f) below) (moved_state f s))
     (spot_moves f c d a.running.frame follows)
     ∙ after_moves f c d (statement c a s.world) a.ob (spot_of c a.running.frame) below s follows
 
 stepped_moves :
-    (f : Positions) (c d : Code) (s : State) → StatementsMove → Follows f c d → stepped d (moved_state f s) ≡ moved_state f (stepped c s)
-unfolding stepped
+    (f : Positions) (c d : Code) (s : State) → StatementsMove → Follows f c d → after_step d (moved_state f s) ≡ moved_state f (after_step c s)
+unfolding after_step
 stepped_moves f c d s statements follows = stepped_on_moves f c d s.activations s statements follows
 
 -- ---- arrivals, time, settling
 
 arrived_moves :
-    (f : Positions) (c d : Code) (ob value : ℕ) (s : State) → Follows f c d → arrived d ob value (moved_state f s) ≡ moved_state f (arrived c ob value s)
-unfolding arrived
-arrived_moves f c d ob value s follows = either (moved_state f) (is_stop s.mode) s _ (course_taken c (arrival_of s ob value) s) _ refl (course_moves f c d (arrival_of s ob value) s follows)
+    (f : Positions) (c d : Code) (ob value : ℕ) (s : State) → Follows f c d → arrival_served d ob value (moved_state f s) ≡ moved_state f (arrival_served c ob value s)
+unfolding arrival_served
+arrived_moves f c d ob value s follows = either (moved_state f) (is_stop s.mode) s _ (tick_state_taken c (arrival_of s ob value) s) _ refl (course_moves f c d (arrival_of s ob value) s follows)
   where
-    arrival_of : State → (ob value : ℕ) → Course
-    arrival_of s ob value = requested s.mode ob (start_info (Arrival ob value) (class_in s.mode ob)) (course_begun s.sched)
+    arrival_of : State → (ob value : ℕ) → TickState
+    arrival_of s ob value = ob_requested s.mode ob (start_info (Arrival ob value) (priority_class_in s.mode ob)) (course_begun s.sched)
 
-active_same : (f : Positions) (activations : List Activation) → active (map (moved f) activations) ≡ active activations
+active_same : (f : Positions) (activations : List Activation) → active_obs (map (moved_activation f) activations) ≡ active_obs activations
 active_same f activations =
     ap (map (λ (a : Activation). a.ob)) (reversed activations) ∙ obs (reverse activations)
   where
-    over : (xs ys : List Activation) → map (moved f) (xs ++ ys) ≡ map (moved f) xs ++ map (moved f) ys
+    over : (xs ys : List Activation) → map (moved_activation f) (xs ++ ys) ≡ map (moved_activation f) xs ++ map (moved_activation f) ys
     over [] ys = refl
-    over (x ∷ xs) ys = ap (λ (z : List Activation). moved f x ∷ z) (over xs ys)
+    over (x ∷ xs) ys = ap (λ (z : List Activation). moved_activation f x ∷ z) (over xs ys)
 
-    reversed : (xs : List Activation) → reverse (map (moved f) xs) ≡ map (moved f) (reverse xs)
+    reversed : (xs : List Activation) → reverse (map (moved_activation f) xs) ≡ map (moved_activation f) (reverse xs)
     reversed [] = refl
-    reversed (x ∷ xs) = reverse-append (moved f x ∷ []) (map (moved f) xs)
-        ∙ ap (λ (z : List Activation). z ++ moved f x ∷ []) (reversed xs)
-        ∙ sym (over (reverse xs) (x ∷ [])) ∙ ap (map (moved f)) (sym (reverse-append (x ∷ []) xs))
+    reversed (x ∷ xs) = reverse-append (moved_activation f x ∷ []) (map (moved_activation f) xs)
+        ∙ ap (λ (z : List Activation). z ++ moved_activation f x ∷ []) (reversed xs)
+        ∙ sym (over (reverse xs) (x ∷ [])) ∙ ap (map (moved_activation f)) (sym (reverse-append (x ∷ []) xs))
 
-    obs : (xs : List Activation) → map (λ (a : Activation). a.ob) (map (moved f) xs) ≡ map (λ (a : Activation). a.ob) xs
+    obs : (xs : List Activation) → map (λ (a : Activation). a.ob) (map (moved_activation f) xs) ≡ map (λ (a : Activation). a.ob) xs
     obs [] = refl
     obs (x ∷ xs) = ap (λ (z : List ℕ). x.ob ∷ z) (obs xs)
 
@@ -370,11 +370,11 @@ time_passes_moves :
     (f : Positions) (c d : Code) (ms : ℕ) (s : State) → Follows f c d → time_passed d ms (moved_state f s) ≡ moved_state f (time_passed c ms s)
 unfolding time_passed
 time_passes_moves f c d ms s follows =
-    ap (λ (obs : List ℕ). tick_taken d (ticked s.mode obs ms s.sched) (moved_state f s)) (active_same f s.activations)
-    ∙ course_moves f c d (ticked s.mode (active s.activations) ms s.sched)
-    (record s { world = timers_moved (ticked s.mode (active s.activations) ms s.sched).passed.ms s.world }) follows
+    ap (λ (obs : List ℕ). tick_taken d (after_tick s.mode obs ms s.sched) (moved_state f s)) (active_same f s.activations)
+    ∙ course_moves f c d (after_tick s.mode (active_obs s.activations) ms s.sched)
+    (record s { world = timers_moved (after_tick s.mode (active_obs s.activations) ms s.sched).passed.ms s.world }) follows
 
-may_start_same : (f : Positions) (class : ℕ) (activations : List Activation) → may_start class (map (moved f) activations) ≡ may_start class activations
+may_start_same : (f : Positions) (class : ℕ) (activations : List Activation) → may_start class (map (moved_activation f) activations) ≡ may_start class activations
 may_start_same f class [] = refl
 may_start_same f class (a ∷ below) = refl
 
@@ -389,49 +389,49 @@ best_moves f c d (Some best) s follows =
     ∙ above_moves f (ob_in s.profile c best.class best.ob best.info) (request_taken s)) refl
 
 settled_moves :
-    (f : Positions) (c d : Code) (s : State) → Follows f c d → settled d (moved_state f s) ≡ moved_state f (settled c s)
-unfolding settled
+    (f : Positions) (c d : Code) (s : State) → Follows f c d → after_settling d (moved_state f s) ≡ moved_state f (after_settling c s)
+unfolding after_settling
 settled_moves f c d s follows =
     either (moved_state f) (is_stop s.mode) s _ (best_started c (best_of s.mode s.sched.pending) s) _ refl (best_moves f c d (best_of s.mode s.sched.pending) s follows)
 
 -- ---- requests of operators
 
-started_moves : (f : Positions) (o : Option Activation) (s : State) → started_up (option_map (moved f) o) (moved_state f s) ≡ moved_state f (started_up o s)
+started_moves : (f : Positions) (o : Option Activation) (s : State) → started_up (option_map (moved_activation f) o) (moved_state f s) ≡ moved_state f (started_up o s)
 started_moves f None s = refl
 started_moves f (Some a) s = refl
 
 restarted_moves :
-    (f : Positions) (c d : Code) (s : State) → Follows f c d → restarted d (moved_state f s) ≡ moved_state f (restarted c s)
-unfolding restarted
+    (f : Positions) (c d : Code) (s : State) → Follows f c d → warm_restarted d (moved_state f s) ≡ moved_state f (warm_restarted c s)
+unfolding warm_restarted
 restarted_moves f c d s follows =
-    ap (λ (o : Option Activation). started_up o (moved_state f (cleared (diagnosed 6 0 s)))) (ob_in_moves s.profile f c d 27 100 startup_info follows)
-    ∙ started_moves f (startup_ob s.profile c) (cleared (diagnosed 6 0 s))
+    ap (λ (o : Option Activation). started_up o (moved_state f (restart_cleared (diagnosis_recorded 6 0 s)))) (ob_in_moves s.profile f c d 27 100 startup_info follows)
+    ∙ started_moves f (startup_ob s.profile c) (restart_cleared (diagnosis_recorded 6 0 s))
 
 asked_moves :
     (f : Positions) (c d : Code) (request : Request) (s : State) → Follows f c d
-    → asked d request (moved_state f s) ≡ moved_state f (asked c request s)
-unfolding asked
+    → request_effect d request (moved_state f s) ≡ moved_state f (request_effect c request s)
+unfolding request_effect
 asked_moves f c d (ask.ReadVars vars) s follows = refl
 asked_moves f c d (ask.WriteVar var value) s follows = refl
 asked_moves f c d ask.Stop s follows =
-    either (moved_state f) (is_stop s.mode) s _ (halted c causes.by_operator s) _ refl (halted_moves f c d causes.by_operator s follows)
+    either (moved_state f) (is_stop s.mode) s _ (stop_entered c causes.by_operator s) _ refl (halted_moves f c d causes.by_operator s follows)
 asked_moves f c d ask.Restart s follows =
-    either (moved_state f) (is_stop s.mode) (restarted c s) _ s _ (restarted_moves f c d s follows) refl
+    either (moved_state f) (is_stop s.mode) (warm_restarted c s) _ s _ (restarted_moves f c d s follows) refl
 asked_moves f c d (ask.MonitorOn block) s follows =
-    ap (λ (o : Option Head). if is_some o then moved_state f (record s { monitored = Some block }) else moved_state f s) (follows.head block)
+    ap (λ (o : Option BlockHead). if is_some o then moved_state f (record s { monitored = Some block }) else moved_state f s) (follows.head block)
     ∙ either (moved_state f) (is_some (c.head block)) (record s { monitored = Some block }) _ s _ refl refl
 asked_moves f c d ask.MonitorOff s follows = refl
 asked_moves f c d ask.Diag s follows = refl
 
 answer_moves :
     (f : Positions) (c d : Code) (request : Request) (s : State) → Follows f c d
-    → answered d request (moved_state f s) ≡ answered c request s
-unfolding answered
+    → request_reply d request (moved_state f s) ≡ request_reply c request s
+unfolding request_reply
 answer_moves f c d (ask.ReadVars vars) s follows = refl
 answer_moves f c d (ask.WriteVar var value) s follows = refl
 answer_moves f c d ask.Stop s follows = refl
 answer_moves f c d ask.Restart s follows = refl
-answer_moves f c d (ask.MonitorOn block) s follows = ap (λ (o : Option Head). done_if (is_some o)) (follows.head block)
+answer_moves f c d (ask.MonitorOn block) s follows = ap (λ (o : Option BlockHead). done_if (is_some o)) (follows.head block)
 answer_moves f c d ask.MonitorOff s follows = refl
 answer_moves f c d ask.Diag s follows = refl
 
@@ -451,27 +451,27 @@ served_regs f (Returns r) = refl
 served_regs f (Passes sched a) = refl
 served_regs f (Stops cause a) = refl
 
-regs_same : (f : Positions) (s : Scheduler) (step : Step) (a : Activation) → regs_after s (moved_step f step) (moved f a) ≡ regs_after s step a
+regs_same : (f : Positions) (s : Scheduler) (step : Step) (a : Activation) → regs_after s (moved_step f step) (moved_activation f a) ≡ regs_after s step a
 regs_same f s (Went b w) a = refl
 regs_same f s (Ended regs w) a = refl
 regs_same f s (SyncError code b) a = refl
 regs_same f s (SysCall number given b) a =
-    ap regs_served (served_moves f number given.inputs s b) ∙ served_regs f (served number given.inputs s b)
+    ap regs_served (served_moves f number given.inputs s b) ∙ served_regs f (system_function_served number given.inputs s b)
 regs_same f s (Stop cause) a = refl
 regs_same f s Stuck a = refl
 
 step_record_same :
     (f : Positions) (c d : Code) (activations : List Activation) (s : State) → StatementsMove → Follows f c d
-    → step_record d (moved_state f s) (map (moved f) activations) ≡ step_record c s activations
+    → step_record d (moved_state f s) (map (moved_activation f) activations) ≡ step_record c s activations
 step_record_same f c d [] s statements follows = refl
 step_record_same f c d (a ∷ below) s statements follows =
-    ap (λ (step : Step). recorded (regs_after s.sched step (moved f a)) (spot_of d (moved_frame f a.running.frame)))
+    ap (λ (step : Step). recorded (regs_after s.sched step (moved_activation f a)) (spot_of d (moved_frame f a.running.frame)))
     (statements f c d a s.world follows)
     ∙ ap (λ (r : Regs). recorded r (spot_of d (moved_frame f a.running.frame))) (regs_same f s.sched (statement c a s.world) a)
     ∙ ap (λ (at : Option Spot). recorded (regs_after s.sched (statement c a s.world) a) at) (spot_moves f c d a.running.frame follows)
   where
     recorded : Regs → Option Spot → Option MonRecord
-    recorded regs at = if is_monitored s.monitored a.running.frame.block then option_map (record_at regs) at else None
+    recorded regs at = if is_monitored s.monitored a.running.frame.block then option_map (mon_record_at regs) at else None
 
 record_same :
     (f : Positions) (c d : Code) (entry : What) (s : State) → StatementsMove → Follows f c d
@@ -488,8 +488,8 @@ record_same f c d (what.Ask request) s statements follows = refl
 
 effect_moves :
     (f : Positions) (c d : Code) (entry : What) (s : State) → StatementsMove → Follows f c d
-    → effect d entry (moved_state f s) ≡ moved_state f (effect c entry s)
-effect_moves f c d what.Step s statements follows = either (moved_state f) (is_stop s.mode) s _ (stepped c s) _ refl (stepped_moves f c d s statements follows)
+    → entry_effect d entry (moved_state f s) ≡ moved_state f (entry_effect c entry s)
+effect_moves f c d what.Step s statements follows = either (moved_state f) (is_stop s.mode) s _ (after_step c s) _ refl (stepped_moves f c d s statements follows)
 effect_moves f c d (what.Input byte value) s statements follows = refl
 effect_moves f c d (what.Arrive ob value) s statements follows = arrived_moves f c d ob value s follows
 effect_moves f c d (what.Tick ms) s statements follows = time_passes_moves f c d ms s follows
@@ -500,18 +500,18 @@ after_entry_moves :
     → state_after d entry (moved_state f s) ≡ moved_state f (state_after c entry s)
 unfolding state_after
 after_entry_moves f c d s entry statements follows =
-    ap (settled d) (effect_moves f c d entry (counted s) statements follows) ∙ settled_moves f c d (effect c entry (counted s)) follows
+    ap (after_settling d) (effect_moves f c d entry (entry_counted s) statements follows) ∙ settled_moves f c d (entry_effect c entry (entry_counted s)) follows
 
 -- what happened, by the states and by what was answered and recorded
 abbrev happened_with : (before after : State) → Reply → Option MonRecord → Happened
 happened_with before after reply mon = record {
   state = after;
   reply = reply;
-  seen = changes mon before.world.memory.peripheral_outputs before.mode after;
+  seen = observed_changes mon before.world.memory.peripheral_outputs before.mode after;
 }
 
 pub entries_move : StatementsMove → EntriesMove
-unfolding happens shown
+unfolding happens entry_shown
 entries_move statements f c d s entry follows =
     ap (λ (after : State). happened_to d (moved_state f s) entry after) (after_entry_moves f c d s entry statements follows)
     ∙ ap

@@ -9,7 +9,7 @@ use Rattle.flat_code.specs.Loading.{Verifies}
 use Rattle.flat_code.specs.Programs.{Program}
 use Rattle.machine.specs.Code.{Code}
 use Rattle.machine.specs.Flat.{code_of}
-use Rattle.machine.specs.Lasting.{FitsProgram, IsReady, Lasts}
+use Rattle.machine.specs.Lasting.{FitsProgram, IsStatementReady, Lasts}
 use Rattle.machine.specs.Silent.{GoesSilently, RunsSilently, StaysReady}
 use Rattle.machine.specs.Statement.{World, Step, Went, statement}
 use Rattle.ob_sched.specs.Request.{best_of}
@@ -19,16 +19,16 @@ use Rattle.controller.specs.Fitting.{AllFit, IsFit}
 use Rattle.controller.specs.Monitoring.{monitoring_record}
 use Rattle.controller.specs.Quiet.{GoesOnQuietly, GoesOnReady, ShowNothing}
 use Rattle.controller.specs.Replay.{happens, run_from}
-use Rattle.controller.specs.Settling.{settled}
-use Rattle.controller.specs.Shown.{changed_mode, changed_outputs, is_same_mode, nothing_shown, shown}
+use Rattle.controller.specs.Settling.{after_settling}
+use Rattle.controller.specs.Shown.{changed_mode, changed_outputs, is_same_mode, nothing_shown, entry_shown}
 use Rattle.controller.specs.State.{State, is_stop}
-use Rattle.controller.specs.Stepping.{stepped}
+use Rattle.controller.specs.Stepping.{after_step}
 use Rattle.controller.proofs.ObservingLemmas.{none_changed}
 
 -- ---- what fits stays ready
 
 abbrev pub GoesLaw : Type 0
-GoesLaw = (p : Program) (m : Areas) (a : Activation) → Verifies p → FitsProgram p m a → IsReady p a
+GoesLaw = (p : Program) (m : Areas) (a : Activation) → Verifies p → FitsProgram p m a → IsStatementReady p a
 
 abbrev pub LastsLaw : Type 0
 LastsLaw = (p : Program) (a : Activation) (w : World)
@@ -96,7 +96,7 @@ none_there (Some x) h = absurd cc
 step_after : (code : Code) (s : State) (a next : Activation) (below : List Activation) (then : World)
     → IsQuiet s → s.activations ≡ a ∷ below → statement code a s.world ≡ Went next then
     → state_after code what.Step s ≡ gone_on s then (next ∷ below) 1
-unfolding state_after stepped settled
+unfolding state_after after_step after_settling
 step_after code s a next below then quiet were goes =
     rw (quiet.running, were, goes, quiet.running, quiet.none) refl
 
@@ -109,8 +109,8 @@ no_record code s a below quiet were = rw (quiet.running, were, quiet.unwatched) 
 shown_nothing : (code : Code) (s after : State)
     → monitoring_record code s what.Step ≡ None
     → after.world.memory.peripheral_outputs ≡ s.world.memory.peripheral_outputs
-    → after.mode ≡ s.mode → shown code s what.Step after ≡ nothing_shown
-unfolding shown
+    → after.mode ≡ s.mode → entry_shown code s what.Step after ≡ nothing_shown
+unfolding entry_shown
 shown_nothing code s after unwatched outputs mode =
     rw (unwatched, outputs, mode, outputs_kept s.world.memory.peripheral_outputs, mode_kept s.mode) refl
 
@@ -127,7 +127,7 @@ step_seen : (code : Code) (s : State) (a next : Activation) (below : List Activa
     → (happens code s what.Step).seen ≡ nothing_shown
 unfolding happens
 step_seen code s a next below then quiet were goes =
-    ap (shown code s what.Step) (step_after code s a next below then quiet were goes.goes)
+    ap (entry_shown code s what.Step) (step_after code s a next below then quiet were goes.goes)
     ∙ shown_nothing code s (gone_on s then (next ∷ below) 1) (no_record code s a below quiet were)
     goes.outputs refl
 

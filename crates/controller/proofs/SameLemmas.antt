@@ -5,25 +5,25 @@ use Rattle.std.specs.Option.{option_map}
 use Rattle.plc_base.specs.Kinds.{is_system_function}
 use Rattle.plc_base.specs.declared.BlockId.{BlockId}
 use Rattle.plc_mem.specs.Areas.{Areas}
-use Rattle.frames.specs.Activations.{refused, with_local_byte}
-use Rattle.frames.specs.Locals.{byte_set, LocalData}
+use Rattle.frames.specs.Activations.{entry_fault, with_local_byte}
+use Rattle.frames.specs.Locals.{local_byte_set, LocalData}
 use Rattle.frames.specs.declared.Activation.{Activation}
 use Rattle.frames.specs.declared.FrameFault.{FrameFault}
 use Rattle.frames.specs.declared.bindings.Binding.{Binding}
 use Rattle.frames.specs.declared.frame.Frame.{Frame}
 use Rattle.flat_code.specs.Instr.{Instr, Does, Jumps, JumpsByList, Calls, Returns, Passing}
 use Rattle.flat_code.specs.declared.programs.Param.{Param}
-use Rattle.machine.specs.Bindings.{bindings_of}
-use Rattle.machine.specs.Code.{Code, Fetched, Head}
+use Rattle.machine.specs.Bindings.{param_bindings}
+use Rattle.machine.specs.Code.{Code, Fetched, BlockHead}
 use Rattle.machine.specs.Effect.{effect_with}
-use Rattle.machine.specs.Entering.{Call, Fails, Stops, Enters, Callee, supplied, entered_if, called_with, call, fresh, caller_at, going_on}
-use Rattle.frames.specs.Activations.{entered}
+use Rattle.machine.specs.Entering.{Call, Fails, Stops, Enters, CalledBlock, instance_supplied, entered_if, called_with, call, fresh, caller_at, going_on}
+use Rattle.frames.specs.Activations.{block_entered}
 use Rattle.machine.specs.ExecState.{ExecState, local_of, exec_state_of}
-use Rattle.machine.specs.Returning.{Return, GoesOn, Ends, left, given_back, returning}
-use Rattle.machine.specs.Statement.{World, Step, Went, Ended, SyncError, SysCall, Stop, Stuck, continue_with, after_call, callee_of, block_called, after_system_call, system_called, called, is_called, not_called, after_return, returned, is_ended, step_of, step_found, statement}
+use Rattle.machine.specs.Returning.{Return, GoesOn, Ends, left, given_back, block_return}
+use Rattle.machine.specs.Statement.{World, Step, Went, Ended, SyncError, SysCall, Stop, Stuck, continue_with, call_step, called_block, block_called, after_system_call, system_call_made, call_made, is_call_made, not_called, after_return, return_made, is_ended, step_of, step_found, statement}
 use Rattle.machine.specs.SystemCalls.{Given, system_function, system_call}
 use Rattle.machine.specs.Jumps.{rlo_tested}
-use Rattle.controller.specs.Beginning.{told_from}
+use Rattle.controller.specs.Beginning.{with_start_bytes}
 
 abbrev pub Same : (a b : Activation) → Type 0
 Same a b = (b.class ≡ a.class) × (b.ob ≡ a.ob)
@@ -51,41 +51,41 @@ went_same (Ok p) next a = (refl, refl)
 went_same (Err code) next a = (refl, refl)
 
 supplied_same : (instance : Option ℕ) (params : List Param) (f : Frame) (next : ℕ)
-    (a : Activation) (m : Areas) → SameCall a (supplied instance params (entered f (caller_at next a)) m)
+    (a : Activation) (m : Areas) → SameCall a (instance_supplied instance params (block_entered f (caller_at next a)) m)
 supplied_same None params f next a m = (refl, refl)
 supplied_same (Some instance) params f next a m = (refl, refl)
 
-entered_same : (fault : Option FrameFault) (c : Callee) (bindings : List Binding) (next : ℕ)
+entered_same : (fault : Option FrameFault) (c : CalledBlock) (bindings : List Binding) (next : ℕ)
     (a : Activation) (m : Areas) → SameCall a (entered_if fault c bindings next a m)
 entered_same (Some fault) c bindings next a m = tt
 entered_same None c bindings next a m =
     supplied_same c.instance c.params (fresh c bindings a.running.frame) next a m
 
-called_same : (r : Result (List Binding) ℕ) (c : Callee) (next : ℕ) (a : Activation) (m : Areas)
+called_same : (r : Result (List Binding) ℕ) (c : CalledBlock) (next : ℕ) (a : Activation) (m : Areas)
     → SameCall a (called_with r c next a m)
 called_same (Err code) c next a m = tt
 called_same (Ok bindings) c next a m =
-    entered_same (refused c.local_len a) c bindings next a m
+    entered_same (entry_fault c.local_len a) c bindings next a m
 
-call_same : (c : Callee) (passings : List Passing) (next : ℕ) (a : Activation) (m : Areas)
+call_same : (c : CalledBlock) (passings : List Passing) (next : ℕ) (a : Activation) (m : Areas)
     → SameCall a (call c passings next a m)
 unfolding call
 call_same c passings next a m =
-    called_same (bindings_of c.params passings (local_of a.running) m) c next a m
+    called_same (param_bindings c.params passings (local_of a.running) m) c next a m
 
 after_call_same : (c : Call) (next : ℕ) (a : Activation) (w : World) → SameCall a c
-    → SameStep a (after_call c next a w)
+    → SameStep a (call_step c next a w)
 after_call_same (Fails code) next a w same = (refl, refl)
 after_call_same (Stops fault) next a w same = tt
 after_call_same (Enters b m) next a w same = same
 
-block_same : (h : Option Head) (block : BlockId) (instance : Option ℕ) (passings : List Passing)
+block_same : (h : Option BlockHead) (block : BlockId) (instance : Option ℕ) (passings : List Passing)
     (next : ℕ) (a : Activation) (w : World)
     → SameStep a (block_called h block instance passings next a w)
 block_same None block instance passings next a w = tt
 block_same (Some h) block instance passings next a w =
-    after_call_same (call (callee_of block instance h) passings next a w.memory) next a w
-    (call_same (callee_of block instance h) passings next a w.memory)
+    after_call_same (call (called_block block instance h) passings next a w.memory) next a w
+    (call_same (called_block block instance h) passings next a w.memory)
 
 after_system_same : (r : Result Given ℕ) (number next : ℕ) (a : Activation)
     → SameStep a (after_system_call r number next a)
@@ -93,17 +93,17 @@ after_system_same (Err code) number next a = (refl, refl)
 after_system_same (Ok given) number next a = (refl, refl)
 
 system_same : (params : Option (List Param)) (number : ℕ) (passings : List Passing) (next : ℕ)
-    (a : Activation) (w : World) → SameStep a (system_called params number passings next a w)
+    (a : Activation) (w : World) → SameStep a (system_call_made params number passings next a w)
 system_same None number passings next a w = tt
 system_same (Some params) number passings next a w =
     after_system_same (system_call params passings (local_of a.running) w.memory) number next a
 
 calls_same : (code : Code) (block : BlockId) (instance : Option ℕ) (passings : List Passing)
     (next : ℕ) (a : Activation) (w : World)
-    → SameStep a (called code block instance passings next a w)
+    → SameStep a (call_made code block instance passings next a w)
 calls_same code block instance passings next a w =
     if_same (is_system_function block.kind) a
-    (system_called (system_function block.number) block.number passings next a w)
+    (system_call_made (system_function block.number) block.number passings next a w)
     (block_called (code.head block) block instance passings next a w)
     (system_same (system_function block.number) block.number passings next a w)
     (block_same (code.head block) block instance passings next a w)
@@ -126,14 +126,14 @@ after_return_same (GoesOn b m) a w same = same
 after_return_same (Ends regs m) a w same = tt
 
 returning_same : (params : List Param) (a : Activation) (m : Areas)
-    → SameReturn a (returning params a m)
-unfolding returning
+    → SameReturn a (block_return params a m)
+unfolding block_return
 returning_same params a m = left_same a.below a.running.frame.instance params a m
 
-returned_same : (h : Option Head) (a : Activation) (w : World) → SameStep a (returned h a w)
+returned_same : (h : Option BlockHead) (a : Activation) (w : World) → SameStep a (return_made h a w)
 returned_same None a w = tt
 returned_same (Some h) a w =
-    after_return_same (returning h.params a w.memory) a w (returning_same h.params a w.memory)
+    after_return_same (block_return h.params a w.memory) a w (returning_same h.params a w.memory)
 
 performed_same : (code : Code) (i : Instr) (next : ℕ) (a : Activation) (w : World)
     → SameStep a (step_of code i next a w)
@@ -142,13 +142,13 @@ performed_same code (Does use_db operation operand) next a w =
 performed_same code (Jumps operation target) next a w = (refl, refl)
 performed_same code (JumpsByList targets otherwise) next a w = (refl, refl)
 performed_same code (Calls how block instance passings) next a w =
-    if_same (is_called how a.running.regs.status.rlo) a
-    (called code block instance passings next a w)
+    if_same (is_call_made how a.running.regs.status.rlo) a
+    (call_made code block instance passings next a w)
     (Went (going_on next (not_called a.running.regs) a) w)
     (calls_same code block instance passings next a w) (refl, refl)
 performed_same code (Returns how) next a w =
     if_same (is_ended how a.running.regs.status.rlo) a
-    (returned (code.head a.running.frame.block) a w)
+    (return_made (code.head a.running.frame.block) a w)
     (Went (going_on next (rlo_tested a.running.regs) a) w)
     (returned_same (code.head a.running.frame.block) a w) (refl, refl)
 
@@ -170,15 +170,15 @@ local_same None a = (refl, refl)
 local_same (Some locals) a = (refl, refl)
 
 pub told_class : (bytes : List ℕ) (byte : ℕ) (a : Activation)
-    → (told_from byte bytes a).class ≡ a.class
+    → (with_start_bytes byte bytes a).class ≡ a.class
 told_class [] byte a = refl
 told_class (value ∷ rest) byte a =
     told_class rest (byte + 1) (unwrap_or (with_local_byte 0 byte value a) a)
-    ∙ (local_same (byte_set a.running.locals 0 byte value) a).0
+    ∙ (local_same (local_byte_set a.running.locals 0 byte value) a).0
 
 pub told_ob : (bytes : List ℕ) (byte : ℕ) (a : Activation)
-    → (told_from byte bytes a).ob ≡ a.ob
+    → (with_start_bytes byte bytes a).ob ≡ a.ob
 told_ob [] byte a = refl
 told_ob (value ∷ rest) byte a =
     told_ob rest (byte + 1) (unwrap_or (with_local_byte 0 byte value a) a)
-    ∙ (local_same (byte_set a.running.locals 0 byte value) a).1
+    ∙ (local_same (local_byte_set a.running.locals 0 byte value) a).1

@@ -8,11 +8,11 @@ use Rattle.std.proofs.lemmas.Bool.Decides.{nat_tests}
 use Rattle.std.proofs.lemmas.List.{length-set, length-map}
 use Rattle.plc_base.specs.declared.Mode.{Mode}
 use Rattle.plc_base.specs.declared.Mode.TheVariants.{Run, Startup, Stop}
-use Rattle.ob_sched.specs.Course.{Course, after_error, time_error, not_loaded, after_request, requested, recorded, stopped_by, lost_event}
-use Rattle.ob_sched.specs.Millisecond.{unless_stopped, each_of, delay_ended, delay_counted, ending_from, period_ended, is_waiting_or_active, period_queued, periods_counted_from, due_from, with_cycle, cycle_counted, time_counted, delays_passed, periods_passed, run_passed, one_ms, begun, ticked}
-use Rattle.ob_sched.specs.OrganizationBlock.{class_of, class_in, can_wait, is_delay, is_cyclic, is_time_of_day, is_hardware}
-use Rattle.ob_sched.specs.Request.{Request, queued, best_of}
-use Rattle.ob_sched.specs.Scheduler.{Scheduler, arrival, arrived, after_arrival, is_disabled, is_loaded, started, delay_started, delay_cancelled, disabled_as, run_begun, stopped, cycle_begun, restarted, retriggered, at_rest}
+use Rattle.ob_sched.specs.TickState.{TickState, after_error, time_error, ob_not_loaded, after_request, ob_requested, record_made, stopped_by, lost_event}
+use Rattle.ob_sched.specs.Millisecond.{unless_stopped, each_ob, delay_ended, delay_counted, ending_from, period_ended, is_waiting_or_active, period_queued, periods_counted_from, due_from, with_cycle, cycle_counted, time_counted, delays_passed, periods_passed, run_passed, after_ms, tick_begun, after_tick}
+use Rattle.ob_sched.specs.OrganizationBlock.{priority_class, priority_class_in, can_wait, is_delay, is_cyclic, is_time_of_day, is_hardware}
+use Rattle.ob_sched.specs.Request.{Request, request_queued, best_of}
+use Rattle.ob_sched.specs.Scheduler.{Scheduler, arrival, request_arrived, after_arrival, is_ob_disabled, is_ob_loaded, best_removed, delay_started, delay_cancelled, disabled_as, run_begun, sched_stopped, cycle_begun, sched_restarted, cycle_retriggered, sched_at_rest}
 use Rattle.ob_sched.specs.StartInformation.{start_info}
 use Rattle.ob_sched.specs.declared.requests.Arrived.{Arrived}
 use Rattle.ob_sched.specs.declared.requests.Arrived.TheVariants.{Queued, Dropped, NotLoaded, Full}
@@ -36,14 +36,14 @@ waits request = can_wait request.0
 -- ---- pending requests
 
 queued_wait : (r : Request) (pending : List Request) → can_wait r.0 ≡ true
-    → list_all waits pending ≡ true → list_all waits (queued r pending) ≡ true
+    → list_all waits pending ≡ true → list_all waits (request_queued r pending) ≡ true
 queued_wait r [] known all = and_from (can_wait r.0) true known refl
 queued_wait r (first ∷ rest) known all =
     let parts = and_parts (can_wait first.0) (list_all waits rest) all in
     of_either (λ (xs : List Request). list_all waits xs ≡ true)
-    (nat_lt (class_of first.0) (class_of r.0)) (r ∷ first ∷ rest) (first ∷ queued r rest)
+    (nat_lt (priority_class first.0) (priority_class r.0)) (r ∷ first ∷ rest) (first ∷ request_queued r rest)
     (and_from (can_wait r.0) (list_all waits (first ∷ rest)) known all)
-    (and_from (can_wait first.0) (list_all waits (queued r rest)) parts.0
+    (and_from (can_wait first.0) (list_all waits (request_queued r rest)) parts.0
     (queued_wait r rest known parts.1))
 
 pub drop_waits : (pending : List Request) → list_all waits pending ≡ true
@@ -61,23 +61,23 @@ pub best_waits : (mode : Mode) (pending : List Request) (best : Pending)
     → IsTrue (can_wait best.ob)
 best_waits mode [] best is all = absurd cc
 best_waits mode (first ∷ rest) best is all =
-    let same : record { ob = first.0; class = class_in mode first.0; info = first.1 } ≡ best = cc in
+    let same : record { ob = first.0; class = priority_class_in mode first.0; info = first.1 } ≡ best = cc in
     subst (λ (b : Pending). IsTrue (can_wait b.ob)) same
     (and_parts (can_wait first.0) (list_all waits rest) all).0
 
 -- ---- single calls
 
-pub rest_schedule : (loaded : List ℕ) → IsSchedule (at_rest loaded)
+pub rest_schedule : (loaded : List ℕ) → IsSchedule (sched_at_rest loaded)
 rest_schedule loaded = record { pending = refl; delays = refl; periods = refl }
 
-pub started_schedule : (s : Scheduler) → IsSchedule s → IsSchedule (started s)
+pub started_schedule : (s : Scheduler) → IsSchedule s → IsSchedule (best_removed s)
 started_schedule s h = record {
   pending = drop_waits s.pending h.pending;
   delays = h.delays;
   periods = h.periods;
 }
 
-pub stopped_schedule : (s : Scheduler) → IsSchedule s → IsSchedule (stopped s)
+pub stopped_schedule : (s : Scheduler) → IsSchedule s → IsSchedule (sched_stopped s)
 stopped_schedule s h = record { pending = refl; delays = refl; periods = h.periods }
 
 pub run_schedule : (s : Scheduler) → IsSchedule s → IsSchedule (run_begun s)
@@ -86,10 +86,10 @@ run_schedule s h = record { pending = h.pending; delays = h.delays; periods = re
 pub cycle_schedule : (s : Scheduler) → IsSchedule s → IsSchedule (cycle_begun s)
 cycle_schedule s h = record { pending = h.pending; delays = h.delays; periods = h.periods }
 
-pub restarted_schedule : (s : Scheduler) → IsSchedule s → IsSchedule (restarted s)
+pub restarted_schedule : (s : Scheduler) → IsSchedule s → IsSchedule (sched_restarted s)
 restarted_schedule s h = record { pending = h.pending; delays = h.delays; periods = h.periods }
 
-pub retriggered_schedule : (s : Scheduler) → IsSchedule s → IsSchedule (retriggered s)
+pub retriggered_schedule : (s : Scheduler) → IsSchedule s → IsSchedule (cycle_retriggered s)
 retriggered_schedule s h = record { pending = h.pending; delays = h.delays; periods = h.periods }
 
 pub delay_schedule : (ob ms : ℕ) (s : Scheduler) → IsSchedule s → IsSchedule (delay_started ob ms s)
@@ -127,7 +127,7 @@ all_schedule disabled mode ob_nr s h = each_schedule disabled mode ob_nr 10 38 s
 
 -- ---- requests and what they lead to
 
-abbrev Known : Course → Type 0
+abbrev Known : TickState → Type 0
 Known c = IsSchedule c.sched
 
 arrived_by : (a : Arrived) (ob : ℕ) (info : StartInfo) (s : Scheduler) → can_wait ob ≡ true
@@ -142,45 +142,45 @@ arrived_by NotLoaded ob info s known h = h
 arrived_by Full ob info s known h = h
 
 arrived_schedule : (ob : ℕ) (info : StartInfo) (s : Scheduler) → can_wait ob ≡ true
-    → IsSchedule s → IsSchedule (arrived ob info s)
+    → IsSchedule s → IsSchedule (request_arrived ob info s)
 arrived_schedule ob info s known h = arrived_by (arrival s ob) ob info s known h
 
-error_known : (ob cause : ℕ) (a : Arrived) (c : Course) → Known c
+error_known : (ob cause : ℕ) (a : Arrived) (c : TickState) → Known c
     → Known (after_error ob cause a c)
 error_known ob cause Queued c h = h
 error_known ob cause Dropped c h = h
 error_known ob cause NotLoaded c h = h
 error_known ob cause Full c h = h
 
-time_error_known : (mode : Mode) (event : StartEvent) (ob : ℕ) (c : Course) → Known c
+time_error_known : (mode : Mode) (event : StartEvent) (ob : ℕ) (c : TickState) → Known c
     → Known (time_error mode event ob c)
 unfolding time_error
 time_error_known mode event ob c h =
     error_known 80 9 (arrival c.sched 80)
-    (record (recorded 1 ob c) { sched = arrived 80 (start_info event (class_in mode 80)) c.sched })
-    (arrived_schedule 80 (start_info event (class_in mode 80)) c.sched refl h)
+    (record (record_made 1 ob c) { sched = request_arrived 80 (start_info event (priority_class_in mode 80)) c.sched })
+    (arrived_schedule 80 (start_info event (priority_class_in mode 80)) c.sched refl h)
 
-not_loaded_known : (mode : Mode) (ob : ℕ) (c : Course) → Known c → Known (not_loaded mode ob c)
-unfolding not_loaded
+not_loaded_known : (mode : Mode) (ob : ℕ) (c : TickState) → Known c → Known (ob_not_loaded mode ob c)
+unfolding ob_not_loaded
 not_loaded_known mode ob c h =
     error_known 85 8 (arrival c.sched 85)
-    (record (recorded 3 ob c) {
-      sched = arrived 85 (start_info (OfNotLoaded ob) (class_in mode 85)) c.sched;
+    (record (record_made 3 ob c) {
+      sched = request_arrived 85 (start_info (OfNotLoaded ob) (priority_class_in mode 85)) c.sched;
     })
-    (arrived_schedule 85 (start_info (OfNotLoaded ob) (class_in mode 85)) c.sched refl h)
+    (arrived_schedule 85 (start_info (OfNotLoaded ob) (priority_class_in mode 85)) c.sched refl h)
 
-request_known : (mode : Mode) (ob : ℕ) (a : Arrived) (c : Course) → Known c
+request_known : (mode : Mode) (ob : ℕ) (a : Arrived) (c : TickState) → Known c
     → Known (after_request mode ob a c)
 request_known mode ob Queued c h = h
 request_known mode ob Dropped c h = h
 request_known mode ob NotLoaded c h = not_loaded_known mode ob c h
 request_known mode ob Full c h = time_error_known mode (lost_event ob) ob c h
 
-pub requested_known : (mode : Mode) (ob : ℕ) (info : StartInfo) (c : Course)
-    → can_wait ob ≡ true → IsSchedule c.sched → IsSchedule (requested mode ob info c).sched
-unfolding requested
+pub requested_known : (mode : Mode) (ob : ℕ) (info : StartInfo) (c : TickState)
+    → can_wait ob ≡ true → IsSchedule c.sched → IsSchedule (ob_requested mode ob info c).sched
+unfolding ob_requested
 requested_known mode ob info c known h =
-    request_known mode ob (arrival c.sched ob) (record c { sched = arrived ob info c.sched })
+    request_known mode ob (arrival c.sched ob) (record c { sched = request_arrived ob info c.sched })
     (arrived_schedule ob info c.sched known h)
 
 pub arrival_waits : (ob : ℕ) → IsTrue (is_time_of_day ob || is_hardware ob)
@@ -195,20 +195,20 @@ period_waits ob h = grind (arith, nat_tests)
 
 -- ---- passing time
 
-unless_known : (next : Course → Course) (c : Course) → Known (next c) → Known c
+unless_known : (next : TickState → TickState) (c : TickState) → Known (next c) → Known c
     → Known (unless_stopped next c)
 unless_known next c h was = of_either Known (is_some c.passed.stop) c (next c) was h
 
-each_known : (p : ℕ → Bool) (next : ℕ → Course → Course) (obs : List ℕ) (c : Course)
-    → ((ob : ℕ) (d : Course) → p ob ≡ true → Known d → Known (next ob d))
-    → list_all p obs ≡ true → Known c → Known (each_of next obs c)
+each_known : (p : ℕ → Bool) (next : ℕ → TickState → TickState) (obs : List ℕ) (c : TickState)
+    → ((ob : ℕ) (d : TickState) → p ob ≡ true → Known d → Known (next ob d))
+    → list_all p obs ≡ true → Known c → Known (each_ob next obs c)
 each_known p next [] c step all h = h
 each_known p next (ob ∷ rest) c step all h =
     let parts = and_parts (p ob) (list_all p rest) all in
     each_known p next rest (unless_stopped (next ob) c) step parts.1
     (unless_known (next ob) c (step ob c parts.0 h) h)
 
-delays_known : (mode : Mode) (c : Course) → Known c → Known (delays_passed mode c)
+delays_known : (mode : Mode) (c : TickState) → Known c → Known (delays_passed mode c)
 delays_known mode c h =
     each_known is_delay (delay_ended mode) (ending_from 20 c.sched.countdowns.delays)
     (record c {
@@ -218,7 +218,7 @@ delays_known mode c h =
         };
       };
     })
-    (λ ob d known was. requested_known mode ob (start_info (Delay ob) (class_in mode ob)) d
+    (λ ob d known was. requested_known mode ob (start_info (Delay ob) (priority_class_in mode ob)) d
     (delay_waits ob known) was)
     (ending_known is_delay 20 c.sched.countdowns.delays
     (λ k less. delay_number k (omega (arith, less, h.delays))))
@@ -233,27 +233,27 @@ counted_length : (ob : ℕ) (periods : List ℕ)
 counted_length ob [] = refl
 counted_length ob (left ∷ rest) = omega (arith, counted_length (ob + 1) rest)
 
-queued_known : (mode : Mode) (ob : ℕ) (c : Course) → can_wait ob ≡ true → Known c
+queued_known : (mode : Mode) (ob : ℕ) (c : TickState) → can_wait ob ≡ true → Known c
     → Known (period_queued mode ob c)
 queued_known mode ob c known h = record {
   pending =
-      queued_wait (ob, start_info (Period ob) (class_in mode ob)) c.sched.pending known h.pending;
+      queued_wait (ob, start_info (Period ob) (priority_class_in mode ob)) c.sched.pending known h.pending;
   delays = h.delays;
   periods = h.periods;
 }
 
-period_known : (mode : Mode) (active : List ℕ) (ob : ℕ) (c : Course) → is_cyclic ob ≡ true
+period_known : (mode : Mode) (active : List ℕ) (ob : ℕ) (c : TickState) → is_cyclic ob ≡ true
     → Known c → Known (period_ended mode active ob c)
 unfolding period_ended
 period_known mode active ob c known h =
-    of_either Known (is_disabled c.sched ob) c _ h
-    (of_either Known (not (is_loaded c.sched ob)) c _ h
+    of_either Known (is_ob_disabled c.sched ob) c _ h
+    (of_either Known (not (is_ob_loaded c.sched ob)) c _ h
     (of_either Known (is_waiting_or_active active ob c.sched) (time_error mode (Missed ob) ob c)
     (period_queued mode ob c)
     (time_error_known mode (Missed ob) ob c h)
     (queued_known mode ob c (period_waits ob known) h)))
 
-periods_known : (mode : Mode) (active : List ℕ) (c : Course) → Known c
+periods_known : (mode : Mode) (active : List ℕ) (c : TickState) → Known c
     → Known (periods_passed mode active c)
 periods_known mode active c h =
     each_known is_cyclic (period_ended mode active) (due_from 30 c.sched.countdowns.periods)
@@ -273,12 +273,12 @@ periods_known mode active c h =
       periods = counted_length 30 c.sched.countdowns.periods ∙ h.periods;
     })
 
-with_cycle_known : (counter : ℕ) (exceeded : Bool) (c : Course) → Known c
+with_cycle_known : (counter : ℕ) (exceeded : Bool) (c : TickState) → Known c
     → Known (with_cycle counter exceeded c)
 with_cycle_known counter exceeded c h =
     record { pending = h.pending; delays = h.delays; periods = h.periods }
 
-cycle_known : (mode : Mode) (c : Course) → Known c → Known (cycle_counted mode c)
+cycle_known : (mode : Mode) (c : TickState) → Known c → Known (cycle_counted mode c)
 unfolding cycle_counted
 cycle_known mode c h =
     of_either Known (nat_lt (c.sched.cycle.counter + 1) 151)
@@ -289,32 +289,32 @@ cycle_known mode c h =
     (with_cycle_known 0 true c h)
     (time_error_known mode CycleTime 1 (with_cycle 0 true c) (with_cycle_known 0 true c h)))
 
-run_known : (mode : Mode) (active : List ℕ) (c : Course) → Known c
+run_known : (mode : Mode) (active : List ℕ) (c : TickState) → Known c
     → Known (run_passed mode active c)
 run_known Run active c h =
-    let one : Course = unless_stopped (periods_passed Run active) c in
+    let one : TickState = unless_stopped (periods_passed Run active) c in
     let known : Known one = unless_known (periods_passed Run active) c (periods_known Run active c h) h in
     unless_known (cycle_counted Run) one (cycle_known Run one known) known
 run_known Startup active c h = h
 run_known (Stop cause at) active c h = h
 
-ms_known : (mode : Mode) (active : List ℕ) (c : Course) → Known c → Known (one_ms mode active c)
-unfolding one_ms
+ms_known : (mode : Mode) (active : List ℕ) (c : TickState) → Known c → Known (after_ms mode active c)
+unfolding after_ms
 ms_known mode active c h =
-    unless_known (λ (d : Course). run_passed mode active (delays_passed mode (time_counted d))) c
+    unless_known (λ (d : TickState). run_passed mode active (delays_passed mode (time_counted d))) c
     (run_known mode active (delays_passed mode (time_counted c))
     (delays_known mode (time_counted c)
     (record { pending = h.pending; delays = h.delays; periods = h.periods })))
     h
 
-iterate_known : (mode : Mode) (active : List ℕ) (n : ℕ) (c : Course) → Known c
-    → Known (iterate (one_ms mode active) n c)
+iterate_known : (mode : Mode) (active : List ℕ) (n : ℕ) (c : TickState) → Known c
+    → Known (iterate (after_ms mode active) n c)
 iterate_known mode active zero c h = h
 iterate_known mode active (suc n) c h =
-    iterate_known mode active n (one_ms mode active c) (ms_known mode active c h)
+    iterate_known mode active n (after_ms mode active c) (ms_known mode active c h)
 
 pub ticked_known : (mode : Mode) (active : List ℕ) (n : ℕ) (s : Scheduler) → IsSchedule s
-    → IsSchedule (ticked mode active n s).sched
-ticked_known Run active n s h = iterate_known Run active n (begun s) h
-ticked_known Startup active n s h = iterate_known Startup active n (begun s) h
+    → IsSchedule (after_tick mode active n s).sched
+ticked_known Run active n s h = iterate_known Run active n (tick_begun s) h
+ticked_known Startup active n s h = iterate_known Startup active n (tick_begun s) h
 ticked_known (Stop cause at) active n s h = h

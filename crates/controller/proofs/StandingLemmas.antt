@@ -7,10 +7,10 @@ use Rattle.plc_base.specs.declared.Profile.{Profile}
 use Rattle.plc_base.specs.declared.Profile.TheVariants.{Small}
 use Rattle.plc_base.specs.declared.Mode.{Mode}
 use Rattle.plc_base.specs.declared.Mode.TheVariants.{Run, Startup, Stop}
-use Rattle.frames.specs.Activations.{begun}
+use Rattle.frames.specs.Activations.{activation_begun}
 use Rattle.frames.specs.declared.Activation.{Activation}
-use Rattle.machine.specs.Code.{Code, Head}
-use Rattle.ob_sched.specs.OrganizationBlock.{can_wait, class_in, is_error}
+use Rattle.machine.specs.Code.{Code, BlockHead}
+use Rattle.ob_sched.specs.OrganizationBlock.{can_wait, priority_class_in, is_error}
 use Rattle.ob_sched.specs.Request.{Request, best_of}
 use Rattle.ob_sched.specs.StartInformation.{ob_of_error}
 use Rattle.ob_sched.specs.declared.requests.Pending.{Pending}
@@ -18,18 +18,18 @@ use Rattle.ob_sched.specs.declared.start_infos.StartInfo.{StartInfo}
 use Rattle.controller.specs.Beginning.{ob_begun, ob_block, ob_frame, ob_in}
 use Rattle.controller.specs.Errors.{is_synchronous}
 use Rattle.controller.specs.Settling.{may_start}
-use Rattle.controller.specs.Stack.{IsAbove, IsStarted, StandsOn, IsStack, RunsInStartup, IsStanding, MayBegin}
+use Rattle.controller.specs.Stack.{IsAbove, IsStarted, StandsOn, IsStack, RunsInStartup, IsActivationStack, MayBegin}
 use Rattle.controller.specs.Start.{started_up, startup_info, startup_ob}
 use Rattle.controller.specs.State.{State, is_stop}
 use Rattle.controller.proofs.SameLemmas.{told_class, told_ob}
 use Rattle.controller.proofs.StackLemmas.{at_most_48, no_stack, startup_class}
 
 -- some activation of a class
-some_head : Head
+some_head : BlockHead
 some_head = record { local_len = 0; instance_len = 0; params = [] }
 
 abbrev some_of : (class ob : ℕ) → Activation
-some_of class ob = begun Small class ob (ob_frame ob some_head)
+some_of class ob = activation_begun Small class ob (ob_frame ob some_head)
 
 pub not_empty : (mode : Mode) (a : Activation) (below : List Activation)
     → RunsInStartup mode (a ∷ below)
@@ -48,7 +48,7 @@ stack_more mode class ob a below class_is ob_is stack may = (
 )
 
 pub room_to_begin : (mode : Mode) (class ob : ℕ) (below : List Activation)
-    → IsStanding mode below → MayBegin mode class ob below → length below < 48
+    → IsActivationStack mode below → MayBegin mode class ob below → length below < 48
 room_to_begin mode class ob below standing may =
     omega (
       arith,
@@ -57,8 +57,8 @@ room_to_begin mode class ob below standing may =
     )
 
 pub begun_stands : (mode : Mode) (class ob : ℕ) (a : Activation) (below : List Activation)
-    → a.class ≡ class → a.ob ≡ ob → IsStanding mode below → MayBegin mode class ob below
-    → IsStanding mode (a ∷ below)
+    → a.class ≡ class → a.ob ≡ ob → IsActivationStack mode below → MayBegin mode class ob below
+    → IsActivationStack mode (a ∷ below)
 begun_stands mode class ob a below class_is ob_is standing may = record {
   stack = stack_more mode class ob a below class_is ob_is standing.stack may;
   startup = not_empty mode a below;
@@ -66,23 +66,23 @@ begun_stands mode class ob a below class_is ob_is standing may = record {
 
 -- the best request
 pub best_class : (mode : Mode) (pending : List Request) (best : Pending)
-    → best_of mode pending ≡ Some best → best.class ≡ class_in mode best.ob
+    → best_of mode pending ≡ Some best → best.class ≡ priority_class_in mode best.ob
 best_class mode [] best h = absurd cc
 best_class mode (first ∷ rest) best h =
-    let same : record { ob = first.0; class = class_in mode first.0; info = first.1 } ≡ best =
+    let same : record { ob = first.0; class = priority_class_in mode first.0; info = first.1 } ≡ best =
     search (rules, h) in
-    subst (λ (b : Pending). b.class ≡ class_in mode b.ob) same refl
+    subst (λ (b : Pending). b.class ≡ priority_class_in mode b.ob) same refl
 
 no_synchronous : (ob : ℕ) → IsTrue (can_wait ob) → is_synchronous ob ≡ false
 no_synchronous ob h = grind (arith, nat_tests)
 
-above_27 : (ob class : ℕ) → IsTrue (can_wait ob) → class ≡ class_in Startup ob → 27 < class
+above_27 : (ob class : ℕ) → IsTrue (can_wait ob) → class ≡ priority_class_in Startup ob → 27 < class
     → IsTrue (is_error ob)
 above_27 ob class waits is above = grind (arith, nat_tests)
 
 started_above : (mode : Mode) (class ob : ℕ) (below : List Activation) → is_stop mode ≡ false
-    → IsTrue (can_wait ob) → class ≡ class_in mode ob → IsAbove class below
-    → IsStanding mode below → IsStarted mode class ob below
+    → IsTrue (can_wait ob) → class ≡ priority_class_in mode ob → IsAbove class below
+    → IsActivationStack mode below → IsStarted mode class ob below
 started_above Run class ob below running waits is above standing =
     record { stands = waits; class_is = is; above = above }
 started_above Startup class ob [] running waits is above standing = absurd standing.startup
@@ -101,8 +101,8 @@ above_running class [] may = tt
 above_running class (a ∷ below) may = grind (arith, nat_tests)
 
 pub best_may_begin : (mode : Mode) (class ob : ℕ) (activations : List Activation)
-    → is_stop mode ≡ false → IsTrue (can_wait ob) → class ≡ class_in mode ob
-    → may_start class activations ≡ true → IsStanding mode activations
+    → is_stop mode ≡ false → IsTrue (can_wait ob) → class ≡ priority_class_in mode ob
+    → may_start class activations ≡ true → IsActivationStack mode activations
     → MayBegin mode class ob activations
 best_may_begin mode class ob activations running waits is may standing = (
   no_synchronous ob waits,
@@ -111,12 +111,12 @@ best_may_begin mode class ob activations running waits is may standing = (
 )
 
 pub cycle_may_begin : (mode : Mode) (activations : List Activation) → activations ≡ []
-    → is_stop mode ≡ false → IsStanding mode activations
-    → MayBegin mode (class_in mode 1) 1 activations
+    → is_stop mode ≡ false → IsActivationStack mode activations
+    → MayBegin mode (priority_class_in mode 1) 1 activations
 cycle_may_begin mode activations idle running standing = (
   refl,
-  started_above mode (class_in mode 1) 1 activations running refl refl
-      (subst (λ acts. IsAbove (class_in mode 1) acts) (sym idle) tt) standing,
+  started_above mode (priority_class_in mode 1) 1 activations running refl refl
+      (subst (λ acts. IsAbove (priority_class_in mode 1) acts) (sym idle) tt) standing,
 )
 
 -- an OB 121 or 122
@@ -137,7 +137,7 @@ error_stack mode error fresh a below class_is ob_is single stack = (
 )
 
 pub room_for_error : (mode : Mode) (a : Activation) (below : List Activation)
-    → is_synchronous a.ob ≡ false → IsStanding mode (a ∷ below) → length (a ∷ below) < 48
+    → is_synchronous a.ob ≡ false → IsActivationStack mode (a ∷ below) → length (a ∷ below) < 48
 room_for_error mode a below single standing =
     omega (
       arith,
@@ -147,7 +147,7 @@ room_for_error mode a below single standing =
 
 pub error_stands : (mode : Mode) (error : ℕ) (fresh a : Activation) (below : List Activation)
     → fresh.class ≡ a.class → fresh.ob ≡ ob_of_error error → is_synchronous a.ob ≡ false
-    → IsStanding mode (a ∷ below) → IsStanding mode (fresh ∷ a ∷ below)
+    → IsActivationStack mode (a ∷ below) → IsActivationStack mode (fresh ∷ a ∷ below)
 error_stands mode error fresh a below class_is ob_is single standing = record {
   stack = error_stack mode error fresh a below class_is ob_is single standing.stack;
   startup = not_empty mode fresh (a ∷ below);
@@ -158,13 +158,13 @@ unfoldable pub IsOf : (class ob : ℕ) → Option Activation → Type 0
 IsOf class ob None = Unit {0}
 IsOf class ob (Some a) = (a.class ≡ class) × (a.ob ≡ ob)
 
-ob_is_by : (profile : Profile) (class ob : ℕ) (info : StartInfo) (found : Option Head)
+ob_is_by : (profile : Profile) (class ob : ℕ) (info : StartInfo) (found : Option BlockHead)
     → IsOf class ob (option_map (ob_begun profile class ob info) found)
 unfolding IsOf ob_begun
 ob_is_by profile class ob info None = tt
 ob_is_by profile class ob info (Some h) = (
-  told_class info.bytes 0 (begun profile class ob (ob_frame ob h)),
-  told_ob info.bytes 0 (begun profile class ob (ob_frame ob h)),
+  told_class info.bytes 0 (activation_begun profile class ob (ob_frame ob h)),
+  told_ob info.bytes 0 (activation_begun profile class ob (ob_frame ob h)),
 )
 
 pub ob_is : (profile : Profile) (code : Code) (class ob : ℕ) (info : StartInfo)
@@ -180,7 +180,7 @@ stop_idle Startup (a ∷ below) is stack = absurd cc
 stop_idle (Stop cause at) (a ∷ below) is stack = absurd (no_stack cause at a below stack)
 
 -- in STARTUP OB 100 is the first one
-pub first_stands : (a : Activation) → a.class ≡ 27 → a.ob ≡ 100 → IsStanding Startup (a ∷ [])
+pub first_stands : (a : Activation) → a.class ≡ 27 → a.ob ≡ 100 → IsActivationStack Startup (a ∷ [])
 first_stands a class_is ob_is = record {
   stack =
       stack_more Startup 27 100 a [] class_is ob_is tt
@@ -190,17 +190,17 @@ first_stands a class_is ob_is = record {
 
 -- so after a start of which none stood before OB 100 stands, or none
 started_stands : (one : Option Activation) (s : State) → IsOf 27 100 one → s.activations ≡ []
-    → IsStanding (started_up one s).mode (started_up one s).activations
+    → IsActivationStack (started_up one s).mode (started_up one s).activations
 unfolding IsOf
 started_stands None s is idle =
-    subst (λ (acts : List Activation). IsStanding Run acts) (sym idle)
+    subst (λ (acts : List Activation). IsActivationStack Run acts) (sym idle)
     (record { stack = tt; startup = tt })
 started_stands (Some a) s is idle =
-    subst (λ (acts : List Activation). IsStanding Startup (a ∷ acts)) (sym idle)
+    subst (λ (acts : List Activation). IsActivationStack Startup (a ∷ acts)) (sym idle)
     (first_stands a is.0 is.1)
 
 pub start_stands : (profile : Profile) (code : Code) (s t : State) → s.activations ≡ []
-    → t ≡ started_up (startup_ob profile code) s → IsStanding t.mode t.activations
+    → t ≡ started_up (startup_ob profile code) s → IsActivationStack t.mode t.activations
 start_stands profile code s t idle is =
-    subst (λ (u : State). IsStanding u.mode u.activations) (sym is)
+    subst (λ (u : State). IsActivationStack u.mode u.activations) (sym is)
     (started_stands (startup_ob profile code) s (ob_is profile code 27 100 startup_info) idle)

@@ -15,16 +15,16 @@ use Rattle.machine.specs.declared.outcomes.Outcome.{Outcome}
 use Rattle.machine.specs.declared.outcomes.Outcome.TheVariants as outcome
 use Rattle.ob_sched.specs.OrganizationBlock.{can_wait, is_error}
 use Rattle.controller.specs.CyclePoint.{cycle_point}
-use Rattle.controller.specs.Errors.{failed, error_answered, error_in, is_synchronous}
-use Rattle.controller.specs.Leaves.{Steps, StepsTo, stand_of, mode_after, finished}
+use Rattle.controller.specs.Errors.{error_raised, error_ob_started, error_in, is_synchronous}
+use Rattle.controller.specs.Leaves.{Steps, StepsTo, stand_of, mode_after, statement_finished}
 use Rattle.controller.specs.Monitoring.{regs_left}
 use Rattle.controller.specs.Ready.{HasStatement, IsReady}
-use Rattle.controller.specs.Serving.{Served, Returns, Passes, Stops as Halts, after_service, served}
-use Rattle.controller.specs.Stack.{IsStarted, IsErrorIn, StandsOn, RunsInStartup, IsStanding}
-use Rattle.controller.specs.State.{State, diagnosed}
-use Rattle.controller.specs.Stepping.{stepped, stepped_on, after_statement}
-use Rattle.controller.specs.Stopping.{halted_at, spot_at}
-use Rattle.controller.specs.declared.activations.Stand.{Stand}
+use Rattle.controller.specs.Serving.{Served, Returns, Passes, Stops as Halts, after_service, system_function_served}
+use Rattle.controller.specs.Stack.{IsStarted, IsErrorIn, StandsOn, RunsInStartup, IsActivationStack}
+use Rattle.controller.specs.State.{State, diagnosis_recorded}
+use Rattle.controller.specs.Stepping.{after_step, step_of_first, after_statement}
+use Rattle.controller.specs.Stopping.{stop_entered_at, statement_spot}
+use Rattle.controller.specs.declared.activations.At.{At}
 use Rattle.controller.proofs.ReadyLemmas.{statement_there}
 use Rattle.controller.proofs.SameLemmas.{Same, SameStep, statement_same}
 
@@ -37,7 +37,7 @@ idle code (a ∷ below) new w w' steps = absurd steps
 
 idle_on : (code : Code) (s : State) (old new : List Activation) (w' : World)
     → s.activations ≡ old → Steps code old new s.world w' None
-    → stepped_on code old s ≡ cycle_point code (record s { world = w'; activations = new })
+    → step_of_first code old s ≡ cycle_point code (record s { world = w'; activations = new })
 idle_on code s [] new w' were steps =
     ap (λ (acts : List Activation). cycle_point code (record s { activations = acts })) were
     ∙ rw (steps.0, steps.1) refl
@@ -45,8 +45,8 @@ idle_on code s (a ∷ below) new w' were steps = absurd steps
 
 pub stepped_idle : (code : Code) (s : State) (new : List Activation) (w' : World)
     → Steps code s.activations new s.world w' None
-    → stepped code s ≡ cycle_point code (record s { world = w'; activations = new })
-unfolding stepped
+    → after_step code s ≡ cycle_point code (record s { world = w'; activations = new })
+unfolding after_step
 stepped_idle code s new w' steps = idle_on code s s.activations new w' refl steps
 
 -- ---- where one runs
@@ -54,32 +54,32 @@ stepped_idle code s new w' steps = idle_on code s s.activations new w' refl step
 -- an error looks at no activation but those that it is told of
 answered_from : (fresh : Option Activation) (error : ℕ) (at : Option Spot) (a : Activation)
     (below acts : List Activation) (s : State)
-    → error_answered fresh error at a below s
-    ≡ error_answered fresh error at a below (record s { activations = acts })
+    → error_ob_started fresh error at a below s
+    ≡ error_ob_started fresh error at a below (record s { activations = acts })
 answered_from None error at a below acts s = refl
 answered_from (Some fresh) error at a below acts s = refl
 
 failed_by : (test : Bool) (code : Code) (error : ℕ) (at : Option Spot) (a : Activation)
     (below acts : List Activation) (s : State)
-    → (if test then halted_at at causes.in_error_ob (diagnosed 4 error s)
-    else error_answered (error_in code error at a) error at a below (diagnosed 4 error s))
-    ≡ (if test then halted_at at causes.in_error_ob (diagnosed 4 error (record s { activations = acts }))
-    else error_answered (error_in code error at a) error at a below
-    (diagnosed 4 error (record s { activations = acts })))
+    → (if test then stop_entered_at at causes.in_error_ob (diagnosis_recorded 4 error s)
+    else error_ob_started (error_in code error at a) error at a below (diagnosis_recorded 4 error s))
+    ≡ (if test then stop_entered_at at causes.in_error_ob (diagnosis_recorded 4 error (record s { activations = acts }))
+    else error_ob_started (error_in code error at a) error at a below
+    (diagnosis_recorded 4 error (record s { activations = acts })))
 failed_by true code error at a below acts s = refl
 failed_by false code error at a below acts s =
-    answered_from (error_in code error at a) error at a below acts (diagnosed 4 error s)
+    answered_from (error_in code error at a) error at a below acts (diagnosis_recorded 4 error s)
 
 failed_from : (code : Code) (error : ℕ) (at : Option Spot) (a : Activation)
     (below acts : List Activation) (s : State)
-    → failed code error at a below s ≡ failed code error at a below (record s { activations = acts })
-unfolding failed
+    → error_raised code error at a below s ≡ error_raised code error at a below (record s { activations = acts })
+unfolding error_raised
 failed_from code error at a below acts s =
     failed_by (is_synchronous a.ob) code error at a below acts s
 
 abbrev after : Code → Step → Activation → List Activation → State → State
 after code step a below s =
-    after_statement code step a.ob (spot_at code a.running.frame.block a.running.frame.at) below s
+    after_statement code step a.ob (statement_spot code a.running.frame.block a.running.frame.at) below s
 
 service_from : (at : Option Spot) (sv : Served) (to : Option Binding) (below acts : List Activation)
     (s : State)
@@ -92,51 +92,51 @@ step_done : (code : Code) (s : State) (step : Step) (a : Activation) (regs : Reg
     (below new : List Activation) (w' : World) (done : Outcome) → s.activations ≡ a ∷ below
     → StepsTo step a below new s.world w' done
     → after code step a below s
-    ≡ finished code (stand_of a regs) done (record s { world = w'; activations = new })
-unfolding finished
+    ≡ statement_finished code (stand_of a regs) done (record s { world = w'; activations = new })
+unfolding statement_finished
 step_done code s (Went a' w) a regs below new w' outcome.Went were steps = rw (steps.0, steps.1) refl
 step_done code s (Ended r w) a regs below new w' outcome.Ended were steps = rw (steps.0, steps.1) refl
 step_done code s (SyncError error a') a regs below new w' (outcome.SyncError e) were steps =
     rw (steps.0, steps.1, steps.2)
-    (failed_from code error (spot_at code a.running.frame.block a.running.frame.at) a' below
+    (failed_from code error (statement_spot code a.running.frame.block a.running.frame.at) a' below
     (a' ∷ below) s)
 step_done code s (SysCall number given a') a regs below new w' (outcome.SysCall n inputs to) were steps =
     rw (steps.0, steps.1, steps.2, steps.3, steps.4)
-    (service_from (spot_at code a.running.frame.block a.running.frame.at)
-    (served number given.inputs s.sched a') given.result below (a' ∷ below) s)
+    (service_from (statement_spot code a.running.frame.block a.running.frame.at)
+    (system_function_served number given.inputs s.sched a') given.result below (a' ∷ below) s)
 step_done code s (Stops cause) a regs below new w' (outcome.Stop why) were steps =
     rw (steps.0, steps.2) refl
 step_done code s step a regs below new w' done were steps = absurd steps
 
 running_on : (code : Code) (s : State) (old new : List Activation) (w' : World)
-    (done : Stand × Outcome) → s.activations ≡ old → Steps code old new s.world w' (Some done)
-    → stepped_on code old s ≡ finished code done.0 done.1 (record s { world = w'; activations = new })
+    (done : At × Outcome) → s.activations ≡ old → Steps code old new s.world w' (Some done)
+    → step_of_first code old s ≡ statement_finished code done.0 done.1 (record s { world = w'; activations = new })
 running_on code s [] new w' done were steps = absurd steps
 running_on code s (a ∷ below) new w' done were steps =
     step_done code s (statement code a s.world) a (regs_left (statement code a s.world) a) below new
     w' done.1 were steps.1
-    ∙ ap (λ (stand : Stand). finished code stand done.1 (record s { world = w'; activations = new }))
+    ∙ ap (λ (stand : At). statement_finished code stand done.1 (record s { world = w'; activations = new }))
     (sym steps.0)
 
 pub stepped_from : (code : Code) (s : State) (new : List Activation) (w' : World)
-    (done : Stand × Outcome) → Steps code s.activations new s.world w' (Some done)
-    → stepped code s ≡ finished code done.0 done.1 (record s { world = w'; activations = new })
-unfolding stepped
+    (done : At × Outcome) → Steps code s.activations new s.world w' (Some done)
+    → after_step code s ≡ statement_finished code done.0 done.1 (record s { world = w'; activations = new })
+unfolding after_step
 stepped_from code s new w' done steps =
     running_on code s s.activations new w' done refl steps
 
 pub step_there : (code : Code) (old new : List Activation) (w w' : World)
-    (done : Stand × Outcome) → IsReady code old → Steps code old new w w' (Some done)
+    (done : At × Outcome) → IsReady code old → Steps code old new w w' (Some done)
     → HasStatement code done.0.block done.0.at
 step_there code [] new w w' done ready steps = absurd steps
 step_there code (a ∷ below) new w w' done ready steps =
-    subst (λ (stand : Stand). HasStatement code stand.block stand.at) (sym steps.0)
+    subst (λ (stand : At). HasStatement code stand.block stand.at) (sym steps.0)
     (statement_there code a w (ready.there w))
 
 -- ---- those that stand afterwards
 
 pub same_stack : (mode : Mode) (a b : Activation) (below : List Activation) → Same a b
-    → IsStanding mode (a ∷ below) → IsStanding mode (b ∷ below)
+    → IsActivationStack mode (a ∷ below) → IsActivationStack mode (b ∷ below)
 same_stack mode a b below same standing = record {
   stack = (stands (is_synchronous a.ob) refl standing.stack.0, standing.stack.1);
   startup = some mode standing.startup;
@@ -196,10 +196,10 @@ left_in_startup false Startup a [] not stands = absurd (no (sym not ∙ stands.s
     no h = absurd cc
 
 pub ended_by : (test : Bool) (mode : Mode) (a : Activation) (below : List Activation)
-    → (a.ob == 100) ≡ test → IsStanding mode (a ∷ below)
-    → IsStanding (if test then Run else mode) below
+    → (a.ob == 100) ≡ test → IsActivationStack mode (a ∷ below)
+    → IsActivationStack (if test then Run else mode) below
 ended_by true mode a below is standing =
-    subst (λ acts. IsStanding Run acts)
+    subst (λ acts. IsActivationStack Run acts)
     (sym (startup_alone mode a below is
     (subst (λ t. StandsOn t mode a below) (is_startup a.ob is) standing.stack.0)))
     (record { stack = tt; startup = tt })
@@ -210,26 +210,26 @@ ended_by false mode a below is standing = record {
 
 step_left : (mode : Mode) (code : Code) (step : Step) (a : Activation)
     (below new : List Activation) (w w' : World) (done : Outcome) → SameStep a step
-    → StepsTo step a below new w w' done → IsStanding mode (a ∷ below)
-    → IsStanding (mode_after mode a.ob done) new
+    → StepsTo step a below new w w' done → IsActivationStack mode (a ∷ below)
+    → IsActivationStack (mode_after mode a.ob done) new
 step_left mode code (Went a' after) a below new w w' outcome.Went same steps standing =
-    subst (λ acts. IsStanding mode acts) (sym steps.0) (same_stack mode a a' below same standing)
+    subst (λ acts. IsActivationStack mode acts) (sym steps.0) (same_stack mode a a' below same standing)
 step_left mode code (Ended regs after) a below new w w' outcome.Ended same steps standing =
-    subst (λ acts. IsStanding (if a.ob == 100 then Run else mode) acts) (sym steps.0)
+    subst (λ acts. IsActivationStack (if a.ob == 100 then Run else mode) acts) (sym steps.0)
     (ended_by (a.ob == 100) mode a below refl standing)
 step_left mode code (SyncError e a') a below new w w' (outcome.SyncError error) same steps standing =
-    subst (λ acts. IsStanding mode acts) (sym steps.1) (same_stack mode a a' below same standing)
+    subst (λ acts. IsActivationStack mode acts) (sym steps.1) (same_stack mode a a' below same standing)
 step_left mode code (SysCall n given a') a below new w w' (outcome.SysCall number inputs to) same steps standing =
-    subst (λ acts. IsStanding mode acts) (sym steps.3) (same_stack mode a a' below same standing)
+    subst (λ acts. IsActivationStack mode acts) (sym steps.3) (same_stack mode a a' below same standing)
 step_left mode code (Stops cause) a below new w w' (outcome.Stop why) same steps standing =
-    subst (λ acts. IsStanding mode acts) (sym steps.1) standing
+    subst (λ acts. IsActivationStack mode acts) (sym steps.1) standing
 step_left mode code step a below new w w' done same steps standing = absurd steps
 
 pub step_stands : (mode : Mode) (code : Code) (old new : List Activation) (w w' : World)
-    (done : Stand × Outcome) → Steps code old new w w' (Some done) → IsStanding mode old
-    → IsStanding (mode_after mode done.0.ob done.1) new
+    (done : At × Outcome) → Steps code old new w w' (Some done) → IsActivationStack mode old
+    → IsActivationStack (mode_after mode done.0.ob done.1) new
 step_stands mode code [] new w w' done steps standing = absurd steps
 step_stands mode code (a ∷ below) new w w' done steps standing =
-    subst (λ (stand : Stand). IsStanding (mode_after mode stand.ob done.1) new) (sym steps.0)
+    subst (λ (stand : At). IsActivationStack (mode_after mode stand.ob done.1) new) (sym steps.0)
     (step_left mode code (statement code a w) a below new w w' done.1 (statement_same code a w)
     steps.1 standing)

@@ -3,7 +3,7 @@ use Rattle.std.specs.Prelude.{ℕ, ◌+◌, Bool, true, false, List, [], ◌∷�
 use Rattle.plc_base.specs.StopCauses as causes
 use Rattle.plc_mem.specs.Areas.{Areas}
 use Rattle.plc_mem.specs.Number.{number_at}
-use Rattle.plc_mem.specs.Writing.{written}
+use Rattle.plc_mem.specs.Writing.{number_written}
 use Rattle.machine.specs.Code.{Code}
 use Rattle.machine.specs.Statement.{World}
 use Rattle.var_access.specs.declared.Reply.{Reply}
@@ -11,31 +11,31 @@ use Rattle.var_access.specs.declared.Reply.TheVariants as reply
 use Rattle.var_access.specs.declared.Request.{Request}
 use Rattle.var_access.specs.declared.Request.TheVariants.{ReadVars, WriteVar, Stop, Restart, MonitorOn, MonitorOff, Diag}
 use Rattle.var_access.specs.declared.Var.{Var}
-use Rattle.controller.specs.Start.{restarted}
+use Rattle.controller.specs.Start.{warm_restarted}
 use Rattle.controller.specs.State.{State, is_stop}
-use Rattle.controller.specs.Stopping.{halted}
+use Rattle.controller.specs.Stopping.{stop_entered}
 
 -- the number of a variable; none where a bit of it doesn't exist
-abbrev pub value_of : Areas → Var → Option ℕ
-value_of m var = number_at m var.place var.width
+abbrev pub var_value : Areas → Var → Option ℕ
+var_value m var = number_at m var.place var.width
 
 -- a variable takes a value; nothing changes where it doesn't exist
 abbrev pub var_written : Var → (value : ℕ) → World → World
 var_written var value w =
-    record w { memory = unwrap_or (written w.memory var.place var.width value) w.memory }
+    record w { memory = unwrap_or (number_written w.memory var.place var.width value) w.memory }
 
 -- what a request does. A stop by the operator is at the next statement, and in STOP it changes nothing;
 -- a restart is a warm restart in STOP alone; one block at a time is monitored, which must be loaded.
 -- All else is done in every mode
-unfoldable pub asked : Code → Request → State → State
-asked code (WriteVar var value) s = record s { world = var_written var value s.world }
-asked code Stop s = if is_stop s.mode then s else halted code causes.by_operator s
-asked code Restart s = if is_stop s.mode then restarted code s else s
-asked code (MonitorOn block) s =
+unfoldable pub request_effect : Code → Request → State → State
+request_effect code (WriteVar var value) s = record s { world = var_written var value s.world }
+request_effect code Stop s = if is_stop s.mode then s else stop_entered code causes.by_operator s
+request_effect code Restart s = if is_stop s.mode then warm_restarted code s else s
+request_effect code (MonitorOn block) s =
     if is_some (code.head block) then record s { monitored = Some block } else s
-asked code MonitorOff s = record s { monitored = None }
-asked code (ReadVars vars) s = s
-asked code Diag s = s
+request_effect code MonitorOff s = record s { monitored = None }
+request_effect code (ReadVars vars) s = s
+request_effect code Diag s = s
 
 -- a value before others; without one the index of its variable
 abbrev pub value_before : Option ℕ → (index : ℕ) → Result (List ℕ) ℕ → Result (List ℕ) ℕ
@@ -48,12 +48,12 @@ value_before (Some value) index (Err absent) = Err absent
 abbrev pub values_from : Areas → (index : ℕ) → List Var → Result (List ℕ) ℕ
 values_from m index [] = Ok []
 values_from m index (var ∷ rest) =
-    value_before (value_of m var) index (values_from m (index + 1) rest)
+    value_before (var_value m var) index (values_from m (index + 1) rest)
 
 -- the answer to a read
-abbrev pub read_answered : Result (List ℕ) ℕ → Reply
-read_answered (Ok values) = reply.Values values
-read_answered (Err absent) = reply.NoSuch absent
+abbrev pub read_reply : Result (List ℕ) ℕ → Reply
+read_reply (Ok values) = reply.Values values
+read_reply (Err absent) = reply.NoSuch absent
 
 -- the answer where something is there: it is done; the one thing that is named has the index 1
 abbrev pub done_if : (is_there : Bool) → Reply
@@ -61,11 +61,11 @@ done_if true = reply.Done
 done_if false = reply.NoSuch 1
 
 -- what a request is answered, in the state in which it is asked. Indexes count from 1
-unfoldable pub answered : Code → Request → State → Reply
-answered code (ReadVars vars) s = read_answered (values_from s.world.memory 1 vars)
-answered code (WriteVar var value) s = done_if (is_some (value_of s.world.memory var))
-answered code (MonitorOn block) s = done_if (is_some (code.head block))
-answered code Restart s = if is_stop s.mode then reply.Done else reply.NotStopped
-answered code Diag s = reply.Diag s.diagnostics
-answered code Stop s = reply.Done
-answered code MonitorOff s = reply.Done
+unfoldable pub request_reply : Code → Request → State → Reply
+request_reply code (ReadVars vars) s = read_reply (values_from s.world.memory 1 vars)
+request_reply code (WriteVar var value) s = done_if (is_some (var_value s.world.memory var))
+request_reply code (MonitorOn block) s = done_if (is_some (code.head block))
+request_reply code Restart s = if is_stop s.mode then reply.Done else reply.NotStopped
+request_reply code Diag s = reply.Diag s.diagnostics
+request_reply code Stop s = reply.Done
+request_reply code MonitorOff s = reply.Done

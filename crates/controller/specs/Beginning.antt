@@ -4,10 +4,10 @@ use Rattle.std.specs.Option.{option_map}
 use Rattle.plc_base.specs.declared.Profile.{Profile}
 use Rattle.plc_base.specs.declared.blocks.BlockKind.TheVariants.{Ob}
 use Rattle.plc_base.specs.declared.BlockId.{BlockId}
-use Rattle.frames.specs.Activations.{begun, frame_begun, with_local_byte}
+use Rattle.frames.specs.Activations.{activation_begun, frame_begun, with_local_byte}
 use Rattle.frames.specs.declared.Activation.{Activation}
 use Rattle.frames.specs.declared.frame.Frame.{Frame}
-use Rattle.machine.specs.Code.{Code, Head}
+use Rattle.machine.specs.Code.{Code, BlockHead}
 use Rattle.ob_sched.specs.declared.start_infos.StartInfo.{StartInfo}
 use Rattle.controller.specs.State.{State}
 
@@ -17,19 +17,19 @@ ob_block ob = record { kind = Ob; number = ob }
 
 -- the frame of an organization block: at its first statement, nothing open, and its local bytes, 1,024
 -- at most (no program that is loaded has more)
-abbrev pub ob_frame : (ob : ℕ) → Head → Frame
+abbrev pub ob_frame : (ob : ℕ) → BlockHead → Frame
 ob_frame ob head = frame_begun (ob_block ob) (min head.local_len 1024)
 
 -- bytes from a local byte of the outermost frame on, as far as there are such local bytes
-abbrev pub told_from : (byte : ℕ) → List ℕ → Activation → Activation
-told_from byte [] a = a
-told_from byte (value ∷ rest) a =
-    told_from (byte + 1) rest (unwrap_or (with_local_byte 0 byte value a) a)
+abbrev pub with_start_bytes : (byte : ℕ) → List ℕ → Activation → Activation
+with_start_bytes byte [] a = a
+with_start_bytes byte (value ∷ rest) a =
+    with_start_bytes (byte + 1) rest (unwrap_or (with_local_byte 0 byte value a) a)
 
 -- an organization block as it begins, with its start information in its first 20 local bytes: all
 -- registers and the status word 0, nothing delayed
-unfoldable pub ob_begun : Profile → (class ob : ℕ) → StartInfo → Head → Activation
-ob_begun profile class ob info head = told_from 0 info.bytes (begun profile class ob (ob_frame ob head))
+unfoldable pub ob_begun : Profile → (class ob : ℕ) → StartInfo → BlockHead → Activation
+ob_begun profile class ob info head = with_start_bytes 0 info.bytes (activation_begun profile class ob (ob_frame ob head))
 
 -- an organization block of a program as it begins; none where it isn't loaded
 abbrev pub ob_in : Profile → Code → (class ob : ℕ) → StartInfo → Option Activation

@@ -1,9 +1,9 @@
 -- The cycle point: a step where nothing runs.
 use Rattle.std.specs.Prelude.{false}
-use Rattle.plc_mem.specs.Refresh.{refreshed}
+use Rattle.plc_mem.specs.Refresh.{memory_refreshed}
 use Rattle.machine.specs.Code.{Code}
 use Rattle.machine.specs.Statement.{World}
-use Rattle.ob_sched.specs.OrganizationBlock.{class_in}
+use Rattle.ob_sched.specs.OrganizationBlock.{priority_class_in}
 use Rattle.ob_sched.specs.Scheduler.{cycle_begun}
 use Rattle.ob_sched.specs.StartInformation.{start_info}
 use Rattle.ob_sched.specs.declared.start_infos.StartInfo.{StartInfo}
@@ -14,12 +14,12 @@ use Rattle.controller.specs.State.{State}
 -- the process image of the outputs is written to the peripheral outputs, and the peripheral inputs are
 -- read to the process image of the inputs
 abbrev pub images_updated : World → World
-images_updated w = record w { memory = refreshed w.memory }
+images_updated w = record w { memory = memory_refreshed w.memory }
 
 -- and the cycle counter and the mark of an exceeded cycle time are cleared; the next cycle isn't the
 -- first one any more
-abbrev pub cycle_passed : State → State
-cycle_passed s =
+abbrev pub cycle_finished : State → State
+cycle_finished s =
     record s {
       world = images_updated s.world;
       sched = cycle_begun s.sched;
@@ -28,9 +28,9 @@ cycle_passed s =
 
 -- the start information of OB 1: start code 16#01 in the first cycle after a start, else 16#03
 abbrev pub cycle_info : State → StartInfo
-cycle_info s = start_info (Cycle s.first_cycle) (class_in s.mode 1)
+cycle_info s = start_info (Cycle s.first_cycle) (priority_class_in s.mode 1)
 
 -- then OB 1 begins, if it is loaded
 unfoldable pub cycle_point : Code → State → State
 cycle_point code s =
-    begun_above (ob_in s.profile code (class_in s.mode 1) 1 (cycle_info s)) (cycle_passed s)
+    begun_above (ob_in s.profile code (priority_class_in s.mode 1) 1 (cycle_info s)) (cycle_finished s)

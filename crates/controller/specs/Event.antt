@@ -5,16 +5,16 @@ use Rattle.machine.specs.Code.{Code}
 use Rattle.machine.specs.Statement.{World}
 use Rattle.var_access.specs.declared.What.{What}
 use Rattle.var_access.specs.declared.What.TheVariants.{Step, Input, Arrive, Tick, Ask}
-use Rattle.controller.specs.Asking.{asked}
-use Rattle.controller.specs.Requests.{arrived}
-use Rattle.controller.specs.Settling.{settled}
+use Rattle.controller.specs.Asking.{request_effect}
+use Rattle.controller.specs.Requests.{arrival_served}
+use Rattle.controller.specs.Settling.{after_settling}
 use Rattle.controller.specs.State.{State, is_stop}
-use Rattle.controller.specs.Stepping.{stepped}
+use Rattle.controller.specs.Stepping.{after_step}
 use Rattle.controller.specs.Ticking.{time_passed}
 
 -- the entry is counted
-abbrev pub counted : State → State
-counted s = record s { entries = s.entries + 1 }
+abbrev pub entry_counted : State → State
+entry_counted s = record s { entries = s.entries + 1 }
 
 -- a byte of the peripheral inputs takes its value; nothing changes where there is no such byte
 abbrev pub input_set : (byte value : ℕ) → World → World
@@ -23,13 +23,13 @@ input_set byte value w =
 
 -- what an entry does by its kind: an input takes its value in every mode; a step, an arrival and a
 -- tick do nothing in STOP
-abbrev pub effect : Code → What → State → State
-effect code Step s = if is_stop s.mode then s else stepped code s
-effect code (Input byte value) s = record s { world = input_set byte value s.world }
-effect code (Arrive ob value) s = arrived code ob value s
-effect code (Tick ms) s = time_passed code ms s
-effect code (Ask request) s = asked code request s
+abbrev pub entry_effect : Code → What → State → State
+entry_effect code Step s = if is_stop s.mode then s else after_step code s
+entry_effect code (Input byte value) s = record s { world = input_set byte value s.world }
+entry_effect code (Arrive ob value) s = arrival_served code ob value s
+entry_effect code (Tick ms) s = time_passed code ms s
+entry_effect code (Ask request) s = request_effect code request s
 
 -- one entry: it is counted, has its effect, and settling follows
 unfoldable pub state_after : Code → What → State → State
-state_after code what s = settled code (effect code what (counted s))
+state_after code what s = after_settling code (entry_effect code what (entry_counted s))

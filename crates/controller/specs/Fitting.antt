@@ -17,7 +17,7 @@ use Rattle.var_access.specs.declared.What.{What}
 use Rattle.var_access.specs.Entry.{IsInRange}
 use Rattle.controller.specs.Ready.{IsReady}
 use Rattle.controller.specs.Replay.{happens, replay}
-use Rattle.controller.specs.Stack.{IsStanding}
+use Rattle.controller.specs.Stack.{IsActivationStack}
 use Rattle.controller.specs.Start.{start}
 use Rattle.controller.specs.State.{State}
 
@@ -29,16 +29,23 @@ AllFit p m (a ∷ below) = FitsProgram p m a × AllFit p m below
 -- each pending request is of an OB that can wait; there are the four delays of OB 20 to 23, and the
 -- nine periods of OB 30 to 38
 pub record IsSchedule (s : Scheduler) : Type 0 where
+  -- each pending request is of an OB that can wait
   pub pending : list_all (λ (request : Request). can_wait request.0) s.pending ≡ true
+  -- the delays of OB 20 to 23
   pub delays : length s.countdowns.delays ≡ 4
+  -- the periods of OB 30 to 38
   pub periods : length s.countdowns.periods ≡ 9
 
 -- a state fits a program: its memory and its activations do, these stand on each other as in the
 -- mode, and what is pending can wait
 pub record IsFit (p : Program) (s : State) : Type 0 where
+  -- memory has the data blocks and areas of the program
   pub memory : IsMemoryOf (code_of p) s.world.memory
+  -- each activation fits the program and its memory
   pub activations : AllFit p s.world.memory s.activations
-  pub standing : IsStanding s.mode s.activations
+  -- the activations stand on each other as the mode has it
+  pub standing : IsActivationStack s.mode s.activations
+  -- what is pending can wait, and each delay and period is there
   pub sched : IsSchedule s.sched
 
 -- what each entry of a history does is in the ranges; its worker isn't asked for

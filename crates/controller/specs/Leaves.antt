@@ -15,15 +15,15 @@ use Rattle.monitor.specs.declared.MonRecord.{MonRecord}
 use Rattle.ob_sched.specs.Scheduler.{Scheduler}
 use Rattle.sys_funcs.specs.Returned.{LeavesReturned}
 use Rattle.status_word.specs.declared.Regs.{Regs}
-use Rattle.controller.specs.Errors.{error_in, failed}
+use Rattle.controller.specs.Errors.{error_in, error_raised}
 use Rattle.controller.specs.Monitoring.{regs_left, regs_served, statement_record}
-use Rattle.controller.specs.Serving.{Served, Returns, Passes, Stops, result_given, after_service, served}
+use Rattle.controller.specs.Serving.{Served, Returns, Passes, Stops, result_given, after_service, system_function_served}
 use Rattle.controller.specs.State.{State}
 use Rattle.controller.specs.Stepping.{ob_ended}
-use Rattle.controller.specs.Stopping.{halted_at, spot_at}
+use Rattle.controller.specs.Stopping.{stop_entered_at, statement_spot}
 use Rattle.controller.specs.declared.serving.Answer.{Answer}
 use Rattle.controller.specs.declared.serving.Answer.TheVariants as answers
-use Rattle.controller.specs.declared.activations.Stand.{Stand}
+use Rattle.controller.specs.declared.activations.At.{At}
 
 -- the running activation is the first of those that stand; none where nothing runs
 abbrev pub running_of : List Activation → Option Activation
@@ -32,7 +32,7 @@ running_of (a ∷ below) = Some a
 
 -- where its statement stood: its OB, and the innermost block with the position in that block; and the
 -- registers after it
-abbrev pub stand_of : Activation → Regs → Stand
+abbrev pub stand_of : Activation → Regs → At
 stand_of a regs = record {
   ob = a.ob;
   block = a.running.frame.block;
@@ -42,16 +42,16 @@ stand_of a regs = record {
 
 -- an organization block begins above those that stand (true); where there is none, they stay
 -- (false)
-abbrev pub Begins : Option Activation → (old new : List Activation) → Bool → Type 0
-Begins None old new false = new ≡ old
-Begins (Some a) old new true = new ≡ a ∷ old
-Begins a old new answer = ⊥
+abbrev pub ObBegins : Option Activation → (old new : List Activation) → Bool → Type 0
+ObBegins None old new false = new ≡ old
+ObBegins (Some a) old new true = new ≡ a ∷ old
+ObBegins a old new answer = ⊥
 
 -- the running activation has other registers, and interrupts are delayed so often in it; where none
 -- runs nothing is handed on
-abbrev pub HandedOn : (delay : ℕ) → Regs → (old new : List Activation) → Type 0
-HandedOn delay regs [] new = new ≡ []
-HandedOn delay regs (a ∷ below) new =
+abbrev pub HandsRegsOn : (delay : ℕ) → Regs → (old new : List Activation) → Type 0
+HandsRegsOn delay regs [] new = new ≡ []
+HandsRegsOn delay regs (a ∷ below) new =
     new ≡ record a { delay = delay; running = record a.running { regs = regs } } ∷ below
 
 -- the organization block of an error of the running activation begins above it (true), or there is
@@ -60,7 +60,7 @@ abbrev pub ErrorBegins :
     Code → (error : ℕ) → (at : Option Spot) → (old new : List Activation) → Bool → Type 0
 ErrorBegins code error at [] new answer = (new ≡ []) × (answer ≡ false)
 ErrorBegins code error at (a ∷ below) new answer =
-    Begins (error_in code error at a) (a ∷ below) new answer
+    ObBegins (error_in code error at a) (a ∷ below) new answer
 
 -- the activations, memory with timers and counters, and the answer after a statement of `a`, above
 -- `below`. By a stop `a` is as it was; for a statement that is stuck there is no answer
@@ -80,7 +80,7 @@ StepsTo step a below new w w' answer = ⊥
 -- a statement of the running activation, and where it stood, with the registers before a system
 -- function does its work; no answer where nothing runs
 abbrev pub Steps :
-    Code → (old new : List Activation) (w w' : World) → Option (Stand × Outcome) → Type 0
+    Code → (old new : List Activation) (w w' : World) → Option (At × Outcome) → Type 0
 Steps code [] new w w' None = (new ≡ []) × (w' ≡ w)
 Steps code (a ∷ below) new w w' (Some done) =
     (done.0 ≡ stand_of a (regs_left (statement code a w) a))
@@ -95,34 +95,34 @@ mode_after mode ob _ = mode
 
 -- what is left to do after a statement with a synchronous error, which stood at `stand`: its OB
 -- begins, or it is a stop; nothing where nothing runs
-abbrev pub error_left : Code → (error : ℕ) → Stand → List Activation → State → State
+abbrev pub error_left : Code → (error : ℕ) → At → List Activation → State → State
 error_left code error stand [] s = s
 error_left code error stand (a ∷ below) s =
-    failed code error (spot_at code stand.block stand.at) a below s
+    error_raised code error (statement_spot code stand.block stand.at) a below s
 
 -- what is left to do after a call of a system function: it does its work, RET_VAL goes where it is
 -- bound, and a stop has the spot of the call; nothing where nothing runs
 abbrev pub call_left :
-    Code → (number : ℕ) → List ℕ → Option Binding → Stand → List Activation → State → State
+    Code → (number : ℕ) → List ℕ → Option Binding → At → List Activation → State → State
 call_left code number inputs to stand [] s = s
 call_left code number inputs to stand (a ∷ below) s =
-    after_service (spot_at code stand.block stand.at) (served number inputs s.sched a) to below s
+    after_service (statement_spot code stand.block stand.at) (system_function_served number inputs s.sched a) to below s
 
 -- what is left to do after a statement, by what came of it: the end of OB 100 begins RUN, an error
 -- begins its OB, a system function does its work, a stop is STOP with the spot of the statement
-unfoldable pub finished : Code → Stand → Outcome → State → State
-finished code stand outcome.Went s = s
-finished code stand outcome.Ended s = ob_ended stand.ob s
-finished code stand (outcome.SyncError error) s = error_left code error stand s.activations s
-finished code stand (outcome.SysCall number inputs to) s =
+unfoldable pub statement_finished : Code → At → Outcome → State → State
+statement_finished code stand outcome.Went s = s
+statement_finished code stand outcome.Ended s = ob_ended stand.ob s
+statement_finished code stand (outcome.SyncError error) s = error_left code error stand s.activations s
+statement_finished code stand (outcome.SysCall number inputs to) s =
     call_left code number inputs to stand s.activations s
-finished code stand (outcome.Stop cause) s =
-    halted_at (spot_at code stand.block stand.at) cause s
+statement_finished code stand (outcome.Stop cause) s =
+    stop_entered_at (statement_spot code stand.block stand.at) cause s
 
 -- the registers after a call of a system function, which had left these; they stay where nothing runs
 abbrev pub regs_called : (number : ℕ) → List ℕ → Scheduler → List Activation → Regs → Regs
 regs_called number inputs s [] regs = regs
-regs_called number inputs s (a ∷ below) regs = regs_served (served number inputs s a)
+regs_called number inputs s (a ∷ below) regs = regs_served (system_function_served number inputs s a)
 
 -- the registers after a whole statement, by what came of it: a system function is still to do its work
 abbrev pub regs_finished : Outcome → Scheduler → List Activation → Regs → Regs
@@ -131,8 +131,8 @@ regs_finished (outcome.SysCall number inputs to) s activations regs =
 regs_finished _ s activations regs = regs
 
 -- what is recorded of a statement that stood at `stand`, with the registers after it
-abbrev pub stand_record : Code → (monitored : Option BlockId) → Stand → Regs → Option MonRecord
-stand_record code monitored stand regs = statement_record code monitored stand.block stand.at regs
+abbrev pub record_of_statement : Code → (monitored : Option BlockId) → At → Regs → Option MonRecord
+record_of_statement code monitored stand regs = statement_record code monitored stand.block stand.at regs
 
 -- what a system function leaves of the scheduler and its activation, and what it answers: RET_VAL,
 -- nothing, or its stop cause, which changes nothing of the scheduler
@@ -163,5 +163,5 @@ abbrev pub ServesRunning :
     (s s' : Scheduler) → Option ℕ → Type 0
 ServesRunning number inputs to [] new m m' s s' None = (new ≡ []) × (m' ≡ m) × (s' ≡ s)
 ServesRunning number inputs to (a ∷ below) new m m' s s' answer =
-    ServesTo (served number inputs s a) to below new m m' s s' answer
+    ServesTo (system_function_served number inputs s a) to below new m m' s s' answer
 ServesRunning number inputs to old new m m' s s' answer = ⊥

@@ -4,7 +4,7 @@ use Rattle.std.specs.Option.{option_map}
 use Rattle.plc_base.specs.Kinds.{is_same_block}
 use Rattle.plc_base.specs.declared.BlockId.{BlockId}
 use Rattle.plc_base.specs.declared.Spot.{Spot}
-use Rattle.status_word.specs.StatusNumber.{number_of}
+use Rattle.status_word.specs.StatusNumber.{status_number}
 use Rattle.status_word.specs.declared.Regs.{Regs}
 use Rattle.frames.specs.declared.Activation.{Activation}
 use Rattle.machine.specs.Code.{Code}
@@ -13,9 +13,9 @@ use Rattle.monitor.specs.declared.MonRecord.{MonRecord}
 use Rattle.ob_sched.specs.Scheduler.{Scheduler}
 use Rattle.var_access.specs.declared.What.{What}
 use Rattle.var_access.specs.declared.What.TheVariants as what
-use Rattle.controller.specs.Serving.{Served, Returns, Passes, Stops, served}
+use Rattle.controller.specs.Serving.{Served, Returns, Passes, Stops, system_function_served}
 use Rattle.controller.specs.State.{State, is_stop}
-use Rattle.controller.specs.Stopping.{spot_at}
+use Rattle.controller.specs.Stopping.{statement_spot}
 
 -- the registers as a system function leaves them; RET_VAL isn't one of them
 abbrev pub regs_served : Served → Regs
@@ -35,7 +35,7 @@ regs_left Stuck a = a.running.regs
 
 -- after the whole statement, the work of the system function included
 abbrev pub regs_after : Scheduler → Step → (a : Activation) → Regs
-regs_after s (SysCall number given b) a = regs_served (served number given.inputs s b)
+regs_after s (SysCall number given b) a = regs_served (system_function_served number given.inputs s b)
 regs_after s step a = regs_left step a
 
 -- a block is the monitored one
@@ -44,11 +44,11 @@ is_monitored None block = false
 is_monitored (Some monitored) block = is_same_block monitored block
 
 -- the record of a statement at a spot, with all nine bits of the status word and the accumulators
-abbrev pub record_at : Regs → Spot → MonRecord
-record_at regs at = record {
+abbrev pub mon_record_at : Regs → Spot → MonRecord
+mon_record_at regs at = record {
   block = at.block;
   line = at.line;
-  stw = number_of regs.status;
+  stw = status_number regs.status;
   a1 = regs.a1;
   a2 = regs.a2;
 }
@@ -58,7 +58,7 @@ record_at regs at = record {
 abbrev pub statement_record :
     Code → (monitored : Option BlockId) → BlockId → (at : ℕ) → Regs → Option MonRecord
 statement_record code monitored block at regs =
-    if is_monitored monitored block then option_map (record_at regs) (spot_at code block at)
+    if is_monitored monitored block then option_map (mon_record_at regs) (statement_spot code block at)
     else None
 
 -- of the next statement of the first of these activations; a cycle point has none

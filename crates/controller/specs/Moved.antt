@@ -3,7 +3,7 @@ use Rattle.std.specs.Prelude.{◌≡◌, ℕ, List, map}
 use Rattle.plc_base.specs.declared.Profile.{Profile}
 use Rattle.plc_base.specs.declared.BlockId.{BlockId}
 use Rattle.machine.specs.Code.{Code}
-use Rattle.machine.specs.Moved.{Follows, moved}
+use Rattle.machine.specs.Moved.{Follows, moved_activation}
 use Rattle.var_access.specs.declared.What.{What}
 use Rattle.controller.specs.Replay.{Happened, happens, replay}
 use Rattle.controller.specs.State.{State}
@@ -11,7 +11,7 @@ use Rattle.controller.specs.State.{State}
 -- the state with each frame at the position that the function gives for its own; nothing else has
 -- a position
 abbrev pub moved_state : (BlockId → ℕ → ℕ) → State → State
-moved_state f s = record s { activations = map (moved f) s.activations }
+moved_state f s = record s { activations = map (moved_activation f) s.activations }
 
 -- what happened, with the state moved so; the answer and what was shown are the same
 abbrev pub moved_happened : (BlockId → ℕ → ℕ) → Happened → Happened

@@ -12,8 +12,11 @@ HasStatement code block at = IsSome (code.fetch block at)
 
 -- a frame stands, each frame has its local data, and nothing that its statement needs is missing
 pub record CanGo (code : Code) (a : Activation) : Type 0 where
+  -- a frame stands
   pub stands : a.left ≡ false
+  -- each frame has its local data
   pub depth : length a.running.locals.starts ≡ length (frames_of a)
+  -- nothing that the statement needs is missing
   pub there : (w : World) → IsNotStuck (statement code a w)
 
 -- this is so of the running activation, if one runs

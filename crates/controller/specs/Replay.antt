@@ -6,23 +6,26 @@ use Rattle.var_access.specs.declared.Reply.{Reply}
 use Rattle.var_access.specs.declared.Reply.TheVariants.{Done}
 use Rattle.var_access.specs.declared.What.{What}
 use Rattle.var_access.specs.declared.What.TheVariants.{Ask}
-use Rattle.controller.specs.Asking.{answered}
+use Rattle.controller.specs.Asking.{request_reply}
 use Rattle.controller.specs.Event.{state_after}
-use Rattle.controller.specs.Shown.{nothing_shown, shown}
+use Rattle.controller.specs.Shown.{nothing_shown, entry_shown}
 use Rattle.controller.specs.Start.{start}
 use Rattle.controller.specs.State.{State}
 use Rattle.controller.specs.declared.observing.Observed.{Observed}
 
 -- the state after an entry, the answer, and what was shown
 pub record Happened : Type 0 where
+  -- the state after the entry
   pub state : State
+  -- what the entry was answered
   pub reply : Reply
+  -- what it showed
   pub seen : Observed
 
 -- what an entry is answered, by the state before it: a request its answer, each other entry that it
 -- is done
 abbrev pub reply_to : Code → (before : State) → What → Reply
-reply_to code before (Ask request) = answered code request before
+reply_to code before (Ask request) = request_reply code request before
 reply_to code before what = Done
 
 -- an entry, by the states before and after it
@@ -30,7 +33,7 @@ abbrev pub happened_to : Code → (before : State) → What → (after : State) 
 happened_to code before what after = record {
   state = after;
   reply = reply_to code before what;
-  seen = shown code before what after;
+  seen = entry_shown code before what after;
 }
 
 -- what an entry does in a state

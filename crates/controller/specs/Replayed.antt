@@ -10,25 +10,25 @@ use Rattle.controller.specs.declared.observing.Observed.{Observed}
 use Rattle.controller.specs.Recording.{Recording}
 
 -- what the entries of a history do, whoever makes them
-abbrev pub events : List Entry → List What
-events history = map (λ (e : Entry). e.what) history
+abbrev pub entry_events : List Entry → List What
+entry_events history = map (λ (e : Entry). e.what) history
 
 -- the state of the CPU after all entries
-abbrev pub replayed : Recording → State
-replayed r = replay r.profile (code_of r.program) (events r.history)
+abbrev pub final_state : Recording → State
+final_state r = replay r.profile (code_of r.program) (entry_events r.history)
 
 -- what a further entry does then
 abbrev pub next_happens : Recording → Entry → Happened
-next_happens r e = happens (code_of r.program) (replayed r) e.what
+next_happens r e = happens (code_of r.program) (final_state r) e.what
 
 -- what the last entry showed; nothing before the first one
-abbrev pub seen : Recording → Observed
-seen r = last_seen r.profile (code_of r.program) (events r.history)
+abbrev pub last_shown : Recording → Observed
+last_shown r = last_seen r.profile (code_of r.program) (entry_events r.history)
 
 -- the loaded data blocks by rising number, with their bytes after all entries
-abbrev pub data_blocks : Recording → List (ℕ × List ℕ)
-data_blocks r = finmap.entries (replayed r).world.memory.data_blocks
+abbrev pub final_data_blocks : Recording → List (ℕ × List ℕ)
+final_data_blocks r = finmap.entries (final_state r).world.memory.data_blocks
 
 -- a number with its bytes
-abbrev pub numbered : (number : ℕ) → (bytes : List ℕ) → ℕ × List ℕ
-numbered number bytes = (number, bytes)
+abbrev pub block_bytes : (number : ℕ) → (bytes : List ℕ) → ℕ × List ℕ
+block_bytes number bytes = (number, bytes)

@@ -3,7 +3,7 @@ use Rattle.std.specs.Prelude.{ℕ, ◌==◌, ◌&&◌, nat_lt, Bool, true, List,
 use Rattle.frames.specs.declared.Activation.{Activation}
 use Rattle.machine.specs.Code.{Code}
 use Rattle.ob_sched.specs.Request.{best_of}
-use Rattle.ob_sched.specs.Scheduler.{started}
+use Rattle.ob_sched.specs.Scheduler.{best_removed}
 use Rattle.ob_sched.specs.declared.requests.Pending.{Pending}
 use Rattle.controller.specs.Beginning.{ob_in, begun_above}
 use Rattle.controller.specs.State.{State, is_stop}
@@ -16,7 +16,7 @@ may_start class (a ∷ below) = nat_lt a.class class && a.delay == 0
 
 -- the best request isn't pending any more
 abbrev pub request_taken : State → State
-request_taken s = record s { sched = started s.sched }
+request_taken s = record s { sched = best_removed s.sched }
 
 -- and its organization block begins above those that stand, in its class and with its start
 -- information; if it isn't loaded, none begins
@@ -32,6 +32,6 @@ best_started code (Some best) s =
 
 -- settling: the best request, with its class in the operating mode, is started where it may; none
 -- is in STOP
-unfoldable pub settled : Code → State → State
-settled code s =
+unfoldable pub after_settling : Code → State → State
+after_settling code s =
     if is_stop s.mode then s else best_started code (best_of s.mode s.sched.pending) s

@@ -47,29 +47,32 @@ abbrev pub nothing_shown : Observed
 nothing_shown = record { mon = None; outputs = []; mode = None }
 
 -- a monitoring record, and the changed peripheral outputs and the new mode between two moments
-abbrev pub changes :
+abbrev pub observed_changes :
     Option MonRecord → (outputs : PeripheralBytes) → Mode → (after : State) → Observed
-changes mon outputs mode after = record {
+observed_changes mon outputs mode after = record {
   mon = mon;
   outputs = changed_outputs outputs after.world.memory.peripheral_outputs;
   mode = changed_mode mode after.mode;
 }
 
 -- what an entry shows: its monitoring record, and what changed between the states before and after it
-unfoldable pub shown : Code → (before : State) → What → (after : State) → Observed
-shown code before what after =
-    changes (monitoring_record code before what) before.world.memory.peripheral_outputs before.mode
+unfoldable pub entry_shown : Code → (before : State) → What → (after : State) → Observed
+entry_shown code before what after =
+    observed_changes (monitoring_record code before what) before.world.memory.peripheral_outputs before.mode
     after
 
 -- what is kept from one entry to the next: the peripheral outputs and the mode, and what was shown
 pub record Watched : Type 0 where
+  -- the peripheral outputs
   pub outputs : PeripheralBytes
+  -- the operating mode
   pub mode : Mode
+  -- what was shown last
   pub seen : Observed
 
 -- what is kept of a state, with what was shown last
-abbrev pub watched : State → (seen : Observed) → Watched
-watched s seen = record {
+abbrev pub watched_state : State → (seen : Observed) → Watched
+watched_state s seen = record {
   outputs = s.world.memory.peripheral_outputs;
   mode = s.mode;
   seen = seen;
@@ -77,5 +80,5 @@ watched s seen = record {
 
 -- the next entry shows its monitoring record and what has changed since then, and the state after it is
 -- kept
-abbrev pub watched_on : Watched → Option MonRecord → (after : State) → Watched
-watched_on w mon after = watched after (changes mon w.outputs w.mode after)
+abbrev pub watched_next : Watched → Option MonRecord → (after : State) → Watched
+watched_next w mon after = watched_state after (observed_changes mon w.outputs w.mode after)

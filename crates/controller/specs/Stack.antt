@@ -6,7 +6,7 @@ use Rattle.std.specs.Prelude.{◌≡◌, ℕ, ◌<◌, ◌≤◌, Bool, true, fa
 use Rattle.plc_base.specs.declared.Mode.{Mode}
 use Rattle.plc_base.specs.declared.Mode.TheVariants.{Run, Startup, Stop}
 use Rattle.frames.specs.declared.Activation.{Activation}
-use Rattle.ob_sched.specs.OrganizationBlock.{can_wait, class_in, is_error}
+use Rattle.ob_sched.specs.OrganizationBlock.{can_wait, priority_class_in, is_error}
 use Rattle.controller.specs.Errors.{is_synchronous}
 
 -- which organization blocks are started, above others or above none: in RUN each that can wait, in
@@ -25,8 +25,11 @@ IsAbove class (b ∷ below) = b.class < class
 -- it stands there as one that was started: it may, its class is its own in this operating mode, and
 -- that is above the class of the one below it
 pub record IsStarted (mode : Mode) (class ob : ℕ) (below : List Activation) : Type 0 where
+  -- its organization block may stand there in this mode
   pub stands : IsTrue (may_stand mode ob below)
-  pub class_is : class ≡ class_in mode ob
+  -- its priority class is its own in this mode
+  pub class_is : class ≡ priority_class_in mode ob
+  -- that is above the class of the one below it
   pub above : IsAbove class below
 
 -- an OB 121 or 122 has the class of the one below it, which is neither of the two itself
@@ -51,8 +54,10 @@ RunsInStartup Startup [] = ⊥
 RunsInStartup mode activations = Unit {0}
 
 -- the activations that stand at once: each on those below it, and in STARTUP at least one
-pub record IsStanding (mode : Mode) (activations : List Activation) : Type 0 where
+pub record IsActivationStack (mode : Mode) (activations : List Activation) : Type 0 where
+  -- each stands on those below it
   pub stack : IsStack mode activations
+  -- in STARTUP at least one stands
   pub startup : RunsInStartup mode activations
 
 -- an organization block, none of a synchronous error, may begin above them in this class

@@ -3,20 +3,20 @@ use Rattle.std.specs.Prelude.{ℕ, true, List, [], ◌∷◌, filter, replicate,
 use Rattle.plc_base.specs.declared.Profile.{Profile}
 use Rattle.plc_base.specs.Profiles.{timer_count, counter_count}
 use Rattle.plc_base.specs.declared.Mode.TheVariants.{Run, Startup}
-use Rattle.plc_mem.specs.Fresh.{fresh}
-use Rattle.plc_mem.specs.Restart.{memory_cleared}
+use Rattle.plc_mem.specs.Fresh.{initial_memory}
+use Rattle.plc_mem.specs.Restart.{memory_after_restart}
 use Rattle.timers_counters.specs.Timer.{timer_at_rest}
 use Rattle.timers_counters.specs.Counter.{counter_at_rest}
 use Rattle.timers_counters.specs.Restart.{counters_retained}
 use Rattle.frames.specs.declared.Activation.{Activation}
 use Rattle.machine.specs.Code.{Code}
 use Rattle.machine.specs.Statement.{World}
-use Rattle.ob_sched.specs.Scheduler.{at_rest, restarted as sched_restarted}
+use Rattle.ob_sched.specs.Scheduler.{sched_at_rest, sched_restarted}
 use Rattle.ob_sched.specs.StartInformation.{start_info}
 use Rattle.ob_sched.specs.declared.start_infos.StartInfo.{StartInfo}
 use Rattle.ob_sched.specs.declared.start_infos.StartEvent.TheVariants.{Startup as OfStartup}
 use Rattle.controller.specs.Beginning.{ob_block, ob_in, begun_above}
-use Rattle.controller.specs.State.{State, diagnosed}
+use Rattle.controller.specs.State.{State, diagnosis_recorded}
 use Rattle.controller.specs.Stepping.{run_starts}
 
 -- the organization blocks that there are
@@ -33,7 +33,7 @@ loaded_obs code = filter (λ ob. is_some (code.head (ob_block ob))) all_obs
 -- data blocks have their first bytes, all other memory is 0, timers and counters are at rest
 abbrev pub world_at_rest : Profile → Code → World
 world_at_rest profile code = record {
-  memory = fresh profile code.blocks;
+  memory = initial_memory profile code.blocks;
   timers = replicate (timer_count profile) timer_at_rest;
   counters = replicate (counter_count profile) counter_at_rest;
 }
@@ -46,7 +46,7 @@ before_start profile code = record {
   world = world_at_rest profile code;
   mode = Run;
   activations = [];
-  sched = at_rest (loaded_obs code);
+  sched = sched_at_rest (loaded_obs code);
   first_cycle = true;
   monitored = None;
   diagnostics = [];
@@ -73,15 +73,15 @@ start profile code = started_up (startup_ob profile code) (before_start profile 
 -- of memory and counters what is retained stays, and all timers of the profile are at rest again
 abbrev pub world_cleared : Profile → World → World
 world_cleared profile w = record w {
-  memory = memory_cleared w.memory;
+  memory = memory_after_restart w.memory;
   timers = replicate (timer_count profile) timer_at_rest;
   counters = counters_retained w.counters;
 }
 
 -- disabling, the clock, the cycle counter and its mark are cleared too, and the first cycle is to
 -- come again; the monitored block and the records of diagnostics stay
-abbrev pub cleared : State → State
-cleared s =
+abbrev pub restart_cleared : State → State
+restart_cleared s =
     record s {
       world = world_cleared s.profile s.world;
       sched = sched_restarted s.sched;
@@ -90,5 +90,5 @@ cleared s =
 
 -- a warm restart out of STOP, recorded by code 6: what isn't retained is cleared, and OB 100 or RUN
 -- begins
-unfoldable pub restarted : Code → State → State
-restarted code s = started_up (startup_ob s.profile code) (cleared (diagnosed 6 0 s))
+unfoldable pub warm_restarted : Code → State → State
+warm_restarted code s = started_up (startup_ob s.profile code) (restart_cleared (diagnosis_recorded 6 0 s))

@@ -15,14 +15,23 @@ use Rattle.ob_sched.specs.Scheduler.{Scheduler}
 -- start is still to come; the monitored block, if there is one; the last 100 records of diagnostics; and
 -- how many entries there were
 pub record State : Type 0 where
+  -- the profile (docs/SEMANTICS.md, "Memory")
   pub profile : Profile
+  -- memory, timers and counters
   pub world : World
+  -- the operating mode: STARTUP, RUN or STOP
   pub mode : Mode
+  -- the organization blocks that run or are interrupted, the running one first
   pub activations : List Activation
+  -- the scheduler: requests, delays, periods, cycle time
   pub sched : Scheduler
+  -- the first cycle after a start is still to come
   pub first_cycle : Bool
+  -- the block that is monitored, if there is one
   pub monitored : Option BlockId
+  -- the diagnostic buffer: the last 100 records
   pub diagnostics : List DiagRecord
+  -- how many entries there were
   pub entries : ℕ
 
 -- STOP, whatever its cause and its spot are
@@ -32,8 +41,8 @@ is_stop Startup = false
 is_stop (Stop cause at) = true
 
 -- a record of a code and its detail is made by the entry that is the last so far
-abbrev pub diagnosed : (code info : ℕ) → State → State
-diagnosed code info s =
+abbrev pub diagnosis_recorded : (code info : ℕ) → State → State
+diagnosis_recorded code info s =
     record s {
       diagnostics = latest s.diagnostics (record { entry = s.entries; code = code; info = info });
     }
@@ -41,4 +50,4 @@ diagnosed code info s =
 -- records one after another
 abbrev pub each_diagnosed : List (ℕ × ℕ) → State → State
 each_diagnosed [] s = s
-each_diagnosed (one ∷ rest) s = each_diagnosed rest (diagnosed one.0 one.1 s)
+each_diagnosed (one ∷ rest) s = each_diagnosed rest (diagnosis_recorded one.0 one.1 s)

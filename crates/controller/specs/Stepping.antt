@@ -7,10 +7,10 @@ use Rattle.machine.specs.Code.{Code}
 use Rattle.machine.specs.Statement.{World, Step, Went, Ended, SyncError, SysCall, Stop, Stuck, statement}
 use Rattle.ob_sched.specs.Scheduler.{run_begun}
 use Rattle.controller.specs.CyclePoint.{cycle_point}
-use Rattle.controller.specs.Errors.{failed}
-use Rattle.controller.specs.Serving.{system_called}
+use Rattle.controller.specs.Errors.{error_raised}
+use Rattle.controller.specs.Serving.{system_call_served}
 use Rattle.controller.specs.State.{State}
-use Rattle.controller.specs.Stopping.{halted_at, spot_of}
+use Rattle.controller.specs.Stopping.{stop_entered_at, spot_of}
 
 -- RUN begins, with the periods of the cyclic interrupts and with the cycle counter at 0
 abbrev pub run_starts : State → State
@@ -30,18 +30,18 @@ abbrev pub after_statement :
     Code → Step → (ob : ℕ) → (at : Option Spot) → (below : List Activation) → State → State
 after_statement code (Went a w) ob at below s = with_activations w (a ∷ below) s
 after_statement code (Ended regs w) ob at below s = ob_ended ob (with_activations w below s)
-after_statement code (SyncError error a) ob at below s = failed code error at a below s
+after_statement code (SyncError error a) ob at below s = error_raised code error at a below s
 after_statement code (SysCall number given a) ob at below s =
-    system_called at number given a below s
-after_statement code (Stop cause) ob at below s = halted_at at cause s
+    system_call_served at number given a below s
+after_statement code (Stop cause) ob at below s = stop_entered_at at cause s
 after_statement code Stuck ob at below s = s
 
 -- the next statement of the first of these activations, or a cycle point where none stands
-abbrev pub stepped_on : Code → List Activation → State → State
-stepped_on code [] s = cycle_point code s
-stepped_on code (a ∷ below) s =
+abbrev pub step_of_first : Code → List Activation → State → State
+step_of_first code [] s = cycle_point code s
+step_of_first code (a ∷ below) s =
     after_statement code (statement code a s.world) a.ob (spot_of code a.running.frame) below s
 
 -- a step: of the activations that stand
-unfoldable pub stepped : Code → State → State
-stepped code s = stepped_on code s.activations s
+unfoldable pub after_step : Code → State → State
+after_step code s = step_of_first code s.activations s

@@ -4,28 +4,28 @@ use Rattle.std.specs.Fn.{iterate}
 use Rattle.frames.specs.declared.Activation.{Activation}
 use Rattle.machine.specs.Code.{Code}
 use Rattle.machine.specs.Statement.{World}
-use Rattle.timers_counters.specs.Timer.{one_ms}
-use Rattle.ob_sched.specs.Course.{Course}
-use Rattle.ob_sched.specs.Millisecond.{ticked}
+use Rattle.timers_counters.specs.Timer.{timer_after_ms}
+use Rattle.ob_sched.specs.TickState.{TickState}
+use Rattle.ob_sched.specs.Millisecond.{after_tick}
 use Rattle.controller.specs.State.{State}
-use Rattle.controller.specs.Requests.{course_taken}
+use Rattle.controller.specs.Requests.{tick_state_taken}
 
 -- the running timers, so many single milliseconds
 abbrev pub timers_moved : (ms : ℕ) → World → World
-timers_moved ms w = record w { timers = iterate (map one_ms) ms w.timers }
+timers_moved ms w = record w { timers = iterate (map timer_after_ms) ms w.timers }
 
 -- the organization blocks that are active, the lowest one first
-abbrev pub active : List Activation → List ℕ
-active activations = map (λ (a : Activation). a.ob) (reverse activations)
+abbrev pub active_obs : List Activation → List ℕ
+active_obs activations = map (λ (a : Activation). a.ob) (reverse activations)
 
 -- in each millisecond the timers move first, so they move in all that have passed, in that of a stop
 -- too
-abbrev pub tick_taken : Code → Course → State → State
+abbrev pub tick_taken : Code → TickState → State → State
 tick_taken code c s =
-    course_taken code c (record s { world = timers_moved c.passed.ms s.world })
+    tick_state_taken code c (record s { world = timers_moved c.passed.ms s.world })
 
 -- a tick of so many milliseconds: timers, the clock, delays, and in RUN cyclic interrupts and the cycle
 -- time. A stop ends it, and in STOP nothing passes
 unfoldable pub time_passed : Code → (ms : ℕ) → State → State
 time_passed code ms s =
-    tick_taken code (ticked s.mode (active s.activations) ms s.sched) s
+    tick_taken code (after_tick s.mode (active_obs s.activations) ms s.sched) s

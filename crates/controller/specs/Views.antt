@@ -12,8 +12,8 @@ abbrev pub activations_of : (standing : ℕ) → List Activation → List Activa
 activations_of standing all = reverse (take standing all)
 
 -- the state of the CPU that the fields of the code stand for
-abbrev pub state_of : Cpu → State
-state_of p = record {
+abbrev pub cpu_state : Cpu → State
+cpu_state p = record {
   profile = p.profile;
   world = world p.memory p.timers p.counters;
   mode = p.mode;

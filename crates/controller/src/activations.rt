@@ -1,19 +1,19 @@
 //! The running activation and those that it and others interrupted.
 ghost use Rattle.std.specs.Prelude.{◌≡◌, ◌<◌, ◌≤◌, false, [], ◌∷◌, ◌+◌, ◌++◌, length, map, set, take, vec_capacity, IfOk, IfSome};
 ghost use Rattle.std.specs.Option.{option_map};
-ghost use Rattle.frames.specs.Activations.{begun, frame_begun};
+ghost use Rattle.frames.specs.Activations.{activation_begun, frame_begun};
 ghost use Rattle.machine.specs.Flat.{code_of};
 ghost use Rattle.machine.specs.Statement.{world};
 ghost use Rattle.ob_sched.specs.StartInformation.{ob_of_error};
 ghost use Rattle.ob_sched.specs.Views.{scheduler_of};
-ghost use Rattle.controller.specs.Beginning.{ob_block as block_of_ob, ob_in, told_from};
+ghost use Rattle.controller.specs.Beginning.{ob_block as block_of_ob, ob_in, with_start_bytes};
 ghost use Rattle.controller.specs.Errors.{error_in};
-ghost use Rattle.controller.specs.Leaves.{Begins, ErrorBegins, HandedOn, Steps, ServesRunning, running_of};
+ghost use Rattle.controller.specs.Leaves.{ObBegins, ErrorBegins, HandsRegsOn, Steps, ServesRunning, running_of};
 ghost use Rattle.controller.specs.Quiet.{GoesOnQuietly, GoesOnReady, goes_on_quietly};
 ghost use Rattle.controller.specs.Ready.{CanGo, IsReady};
 ghost use Rattle.controller.specs.Settling.{may_start};
-ghost use Rattle.controller.specs.Stopping.{spot, spot_of as spot_of_frame};
-ghost use Rattle.controller.specs.Ticking.{active};
+ghost use Rattle.controller.specs.Stopping.{running_spot, spot_of as spot_of_frame};
+ghost use Rattle.controller.specs.Ticking.{active_obs};
 
 use crate::beginning::{at_begin, local_len_of, ob_block, tell};
 use crate::errors::failure;
@@ -37,7 +37,7 @@ const ACTIVATIONS: usize = 48;
 /// Where the running activation stood before a statement: its organization block, and the block and
 /// the offset of the statement; and its registers after it.
 #[derive(Clone, Copy)]
-pub(crate) struct Stand {
+pub(crate) struct At {
     pub(crate) ob: u16,
     pub(crate) block: BlockId,
     pub(crate) at: u32,
@@ -133,8 +133,8 @@ fn begin_in(
 )
     requires place { place < length all.old }
     requires local { local_len ≤ 1024 }
-    ensures { all.new ≡ set all.old place (told_from 0 info.now.bytes
-        (begun profile class ob (frame_begun (block_of_ob ob) local_len))) }
+    ensures { all.new ≡ set all.old place (with_start_bytes 0 info.now.bytes
+        (activation_begun profile class ob (frame_begun (block_of_ob ob) local_len))) }
 {
     let a = &mut all[place];
     a.restart(class, ob, ob_block(ob), local_len, profile);
@@ -172,7 +172,7 @@ impl Activations {
     /// The block of the running activation's statement, and its line.
     pub(crate) fn spot(&self, program: &Loaded) -> Option<Spot>
         requires { IsReady (code_of program.now.program) self.now }
-        ensures { result ≡ spot (code_of program.now.program) self.now }
+        ensures { result ≡ running_spot (code_of program.now.program) self.now }
     {
         let running = self.running()?;
         spot_of(program, running)
@@ -193,7 +193,7 @@ impl Activations {
     #[tactic(auto, using(crate::proofs::ActiveLemmas::active_standing, crate::proofs::ActiveLemmas::front_count, crate::proofs::ActiveLemmas::standing_count))]
     pub(crate) fn active(&self) -> ArrayVec<u16, ACTIVATIONS>
         requires { length self.now ≤ 48 }
-        ensures { result.items ≡ active self.now }
+        ensures { result.items ≡ active_obs self.now }
     {
         let mut obs = ArrayVec::new();
         add_obs(&mut obs, &self.all.as_slice()[..self.standing]);
@@ -205,8 +205,8 @@ impl Activations {
     fn push(&mut self, profile: Profile, class: u8, ob: u16, local_len: u16, info: &StartInfo)
         requires room { length self.old < 48 }
         requires local { local_len ≤ 1024 }
-        ensures { self.new ≡ told_from 0 info.now.bytes
-            (begun profile class ob (frame_begun (block_of_ob ob) local_len)) ∷ self.old }
+        ensures { self.new ≡ with_start_bytes 0 info.now.bytes
+            (activation_begun profile class ob (frame_begun (block_of_ob ob) local_len)) ∷ self.old }
     {
         make_place(&mut self.all, self.standing);
         begin_in(
@@ -233,7 +233,7 @@ impl Activations {
         info: &StartInfo,
     ) -> bool
         requires { length self.old < 48 }
-        ensures begins { Begins (ob_in profile (code_of program.now.program) class ob info.now)
+        ensures begins { ObBegins (ob_in profile (code_of program.now.program) class ob info.now)
             self.old self.new result }
         ensures is { IfSome (ob_in profile (code_of program.now.program) class ob info.now)
             (λ a. (a.class ≡ class) × (a.ob ≡ ob)) }
@@ -249,7 +249,7 @@ impl Activations {
 
     // The running activation gets other registers, and interrupts delayed so often.
     fn hand_on(&mut self, delay: u16, regs: Regs)
-        ensures { HandedOn delay regs self.old self.new }
+        ensures { HandsRegsOn delay regs self.old self.new }
     {
         let Some(place) = self.standing.checked_sub(1) else {
             return;
@@ -305,7 +305,7 @@ impl Activations {
         m: &mut Memory,
         t: &mut Timers,
         n: &mut Counters,
-    ) -> Option<(Stand, Outcome)>
+    ) -> Option<(At, Outcome)>
         requires { IsReady (code_of program.now.program) self.old }
         ensures { Steps (code_of program.now.program) self.old self.new
             (world m.old t.old n.old) (world m.new t.new n.new) result }
@@ -320,7 +320,7 @@ impl Activations {
             self.standing = place;
         }
         Some((
-            Stand {
+            At {
                 ob,
                 block,
                 at,

@@ -4,13 +4,13 @@ ghost use Rattle.plc_base.specs.StopCauses.{by_operator};
 ghost use Rattle.plc_base.specs.Widths.{bit_count};
 ghost use Rattle.machine.specs.Flat.{code_of};
 ghost use Rattle.var_access.specs.Entry.{IsRequest};
-ghost use Rattle.controller.specs.Asking.{answered, asked, done_if as answer_if, values_from, var_written};
+ghost use Rattle.controller.specs.Asking.{request_reply, request_effect, done_if as answer_if, values_from, var_written};
 ghost use Rattle.controller.specs.Ready.{IsReady};
-ghost use Rattle.controller.specs.Stack.{IsStanding};
-ghost use Rattle.controller.specs.Start.{restarted};
+ghost use Rattle.controller.specs.Stack.{IsActivationStack};
+ghost use Rattle.controller.specs.Start.{warm_restarted};
 ghost use Rattle.controller.specs.State.{is_stop as is_stop_of};
-ghost use Rattle.controller.specs.Stopping.{halted};
-ghost use Rattle.controller.specs.Views.{state_of};
+ghost use Rattle.controller.specs.Stopping.{stop_entered};
+ghost use Rattle.controller.specs.Views.{cpu_state};
 
 use crate::beginning::is_loaded;
 use crate::cpus::Cpu;
@@ -56,8 +56,8 @@ impl Cpu {
     // A variable takes a value, if it exists.
     fn write_var(&mut self, var: &Var, value: u32)
         requires { value < 2 ^ bit_count var.now.width }
-        ensures state { state_of self.new ≡ record (state_of self.old) {
-          world = var_written var.now value (state_of self.old).world;
+        ensures state { cpu_state self.new ≡ record (cpu_state self.old) {
+          world = var_written var.now value (cpu_state self.old).world;
         } }
         ensures activations { self.new.activations ≡ self.old.activations }
         ensures mode { self.new.mode ≡ self.old.mode }
@@ -68,11 +68,11 @@ impl Cpu {
     // A stop by the operator; in STOP it changes nothing.
     fn stop_by_operator(&mut self, program: &Loaded)
         requires ready { IsReady (code_of program.now.program) self.old.activations }
-        requires stack { IsStanding self.old.mode self.old.activations }
-        ensures state { state_of self.new
-            ≡ (if is_stop_of self.old.mode then state_of self.old
-            else halted (code_of program.now.program) by_operator (state_of self.old)) }
-        ensures stack { IsStanding self.new.mode self.new.activations }
+        requires stack { IsActivationStack self.old.mode self.old.activations }
+        ensures state { cpu_state self.new
+            ≡ (if is_stop_of self.old.mode then cpu_state self.old
+            else stop_entered (code_of program.now.program) by_operator (cpu_state self.old)) }
+        ensures stack { IsActivationStack self.new.mode self.new.activations }
     {
         if !is_stop(self.mode) {
             self.halt(program, stop_causes::BY_OPERATOR);
@@ -81,12 +81,12 @@ impl Cpu {
 
     // A warm restart; outside STOP there is none.
     fn restart_if_stopped(&mut self, program: &Loaded)
-        requires stack { IsStanding self.old.mode self.old.activations }
-        ensures state { state_of self.new
+        requires stack { IsActivationStack self.old.mode self.old.activations }
+        ensures state { cpu_state self.new
             ≡ (if is_stop_of self.old.mode
-            then restarted (code_of program.now.program) (state_of self.old)
-            else state_of self.old) }
-        ensures stack { IsStanding self.new.mode self.new.activations }
+            then warm_restarted (code_of program.now.program) (cpu_state self.old)
+            else cpu_state self.old) }
+        ensures stack { IsActivationStack self.new.mode self.new.activations }
     {
         if is_stop(self.mode) {
             self.restart(program);
@@ -95,9 +95,9 @@ impl Cpu {
 
     // A block is monitored, if it is loaded, and no other one.
     fn monitor(&mut self, program: &Loaded, block: BlockId)
-        ensures state { state_of self.new
+        ensures state { cpu_state self.new
             ≡ (if is_some ((code_of program.now.program).head block)
-            then record (state_of self.old) { monitored = Some block } else state_of self.old) }
+            then record (cpu_state self.old) { monitored = Some block } else cpu_state self.old) }
         ensures activations { self.new.activations ≡ self.old.activations }
         ensures mode { self.new.mode ≡ self.old.mode }
     {
@@ -107,14 +107,14 @@ impl Cpu {
     }
 
     /// What a request does.
-    #[tactic(auto, unfolding(crate::specs::Asking::asked))]
+    #[tactic(auto, unfolding(crate::specs::Asking::request_effect))]
     pub(crate) fn ask(&mut self, program: &Loaded, request: &Request)
         requires range { IsRequest request.now }
         requires ready { IsReady (code_of program.now.program) self.old.activations }
-        requires stack { IsStanding self.old.mode self.old.activations }
-        ensures state { state_of self.new
-            ≡ asked (code_of program.now.program) request.now (state_of self.old) }
-        ensures stack { IsStanding self.new.mode self.new.activations }
+        requires stack { IsActivationStack self.old.mode self.old.activations }
+        ensures state { cpu_state self.new
+            ≡ request_effect (code_of program.now.program) request.now (cpu_state self.old) }
+        ensures stack { IsActivationStack self.new.mode self.new.activations }
     {
         match request {
             Request::WriteVar { var, value } => self.write_var(var, *value),
@@ -127,10 +127,10 @@ impl Cpu {
     }
 
     /// What a request is answered in this state. Takes no memory.
-    #[tactic(auto, unfolding(crate::specs::Asking::answered))]
+    #[tactic(auto, unfolding(crate::specs::Asking::request_reply))]
     pub fn answer(&self, program: &Loaded, request: &Request) -> Reply
         requires { IsRequest request.now }
-        ensures { result ≡ answered (code_of program.now.program) request.now (state_of self.now) }
+        ensures { result ≡ request_reply (code_of program.now.program) request.now (cpu_state self.now) }
     {
         match request {
             Request::ReadVars { vars } => match read_vars(&self.memory, vars.as_slice()) {

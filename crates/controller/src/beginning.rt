@@ -4,7 +4,7 @@ ghost use Rattle.std.specs.Option.{option_map};
 ghost use Rattle.frames.specs.Activations.{with_local_byte};
 ghost use Rattle.machine.specs.Entering.{at_block};
 ghost use Rattle.machine.specs.Flat.{code_of};
-ghost use Rattle.controller.specs.Beginning.{ob_block as block_of_ob, told_from};
+ghost use Rattle.controller.specs.Beginning.{ob_block as block_of_ob, with_start_bytes};
 
 use frames::Activation;
 use image_file::Loaded;
@@ -41,7 +41,7 @@ fn tell_byte(a: &mut Activation, byte: u16, value: u8)
 /// Writes the first local bytes of the outermost frame, as far as there are such local bytes.
 pub(crate) fn tell(a: &mut Activation, bytes: &[u8])
     requires { length bytes.now ≤ 1024 }
-    ensures { a.new ≡ told_from 0 bytes.now a.old }
+    ensures { a.new ≡ with_start_bytes 0 bytes.now a.old }
 {
     let mut byte = 0;
     let mut left = bytes;

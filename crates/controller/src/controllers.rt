@@ -3,15 +3,15 @@ ghost use Rattle.std.specs.Prelude.{◌≡◌, ◌+◌, ◌-◌, ◌^◌, ◌<�
 ghost use Rattle.std.specs.Option.{option_copied, option_map};
 ghost use Rattle.std.specs.FinMap as finmap;
 ghost use Rattle.plc_mem.specs.Places.{IsMemory};
-ghost use Rattle.image_file.specs.Readers.{bytes_of};
+ghost use Rattle.image_file.specs.Readers.{data_bytes_of};
 ghost use Rattle.machine.specs.Flat.{code_of};
 ghost use Rattle.var_access.specs.Entry.{IsRequest, IsValid};
 ghost use Rattle.var_access.specs.Runs.{AreRuns, written_out};
 ghost use Rattle.var_access.specs.declared.What.TheVariants.{Step};
-ghost use Rattle.controller.specs.Asking.{answered};
+ghost use Rattle.controller.specs.Asking.{request_reply};
 ghost use Rattle.controller.specs.Quiet.{ShowNothing, steps_quietly};
 ghost use Rattle.controller.specs.Replay.{run_from};
-ghost use Rattle.controller.specs.Replayed.{data_blocks as blocks_after, next_happens, numbered as with_number, replayed, seen};
+ghost use Rattle.controller.specs.Replayed.{final_data_blocks as blocks_after, next_happens, block_bytes as with_number, final_state, last_shown};
 
 use crate::cpus::Cpu;
 use crate::observing::{Observed, Observer};
@@ -103,7 +103,7 @@ impl Controller {
     pub fn answer(&self, request: &Request) -> Reply
         requires { IsRequest request.now }
         ensures { result
-            ≡ answered (code_of self.now.program) request.now (replayed self.now) }
+            ≡ request_reply (code_of self.now.program) request.now (final_state self.now) }
     {
         self.cpu.answer(&self.program, request)
     }
@@ -116,8 +116,8 @@ impl Controller {
           history = self.old.history ++ e.now ∷ [];
           spare = self.old.spare - 1;
         } }
-        ensures shown { seen self.new ≡ (next_happens self.old e.now).seen }
-        ensures state { replayed self.new ≡ (next_happens self.old e.now).state }
+        ensures shown { last_shown self.new ≡ (next_happens self.old e.now).seen }
+        ensures state { final_state self.new ≡ (next_happens self.old e.now).state }
     {
         crate::laws::continues_replay();
         crate::laws::counts_entries();
@@ -139,8 +139,8 @@ impl Controller {
           spare = self.old.spare - 1;
         } }
         ensures reply { result ≡ (next_happens self.old e).reply }
-        ensures shown { seen self.new ≡ (next_happens self.old e).seen }
-        ensures state { replayed self.new ≡ (next_happens self.old e).state }
+        ensures shown { last_shown self.new ≡ (next_happens self.old e).seen }
+        ensures state { final_state self.new ≡ (next_happens self.old e).state }
     {
         let reply = match &e.what {
             What::Ask { request } => self.answer(request),
@@ -162,12 +162,12 @@ impl Controller {
           history = self.old.history ++ replicate result step.now;
           spare = self.old.spare - result;
         } }
-        ensures nothing { ShowNothing (code_of self.old.program) (replayed self.old)
+        ensures nothing { ShowNothing (code_of self.old.program) (final_state self.old)
             (replicate result Step) }
-        ensures state { replayed self.new ≡ run_from (code_of self.old.program)
-            (replayed self.old) (replicate result Step) }
+        ensures state { final_state self.new ≡ run_from (code_of self.old.program)
+            (final_state self.old) (replicate result Step) }
         ensures stops { result < most
-            → steps_quietly (code_of self.old.program) (replayed self.new) ≡ false }
+            → steps_quietly (code_of self.old.program) (final_state self.new) ≡ false }
     {
         crate::laws::continues_replay();
         crate::laws::counts_entries();
@@ -191,7 +191,7 @@ impl Controller {
 
     /// What the last entry showed.
     pub fn observed(&self) -> &Observed
-        ensures { result.now ≡ seen self.now }
+        ensures { result.now ≡ last_shown self.now }
     {
         self.observer.seen()
     }
@@ -224,14 +224,14 @@ impl Controller {
     /// Nothing is done. The contract says that the memory after the whole history has its areas, each
     /// of its size and made of bytes.
     pub fn law_of_memory(&self)
-        ensures { IsMemory (replayed self.now).world.memory }
+        ensures { IsMemory (final_state self.now).world.memory }
     {
         self.cpu.memory.law_of_areas();
     }
 
     /// The operating mode after the whole history.
     pub fn mode(&self) -> Mode
-        ensures { result ≡ (replayed self.now).mode }
+        ensures { result ≡ (final_state self.now).mode }
     {
         self.cpu.mode()
     }
@@ -240,8 +240,8 @@ impl Controller {
     /// block.
     pub fn db_bytes(&self, number: u16) -> Option<&[u8]>
         ensures value { option_copied result
-            ≡ finmap.get (replayed self.now).world.memory.data_blocks number }
-        ensures loaded { is_some result ≡ is_some (bytes_of number self.now.program.data_blocks) }
+            ≡ finmap.get (final_state self.now).world.memory.data_blocks number }
+        ensures loaded { is_some result ≡ is_some (data_bytes_of number self.now.program.data_blocks) }
     {
         self.cpu.db_bytes(number)
     }
@@ -261,7 +261,7 @@ impl Controller {
     // A data block's number with its bytes.
     fn numbered(&self, number: u16) -> Option<(u16, &[u8])>
         ensures { option_map (λ b. (b.0, b.1.now)) result ≡ option_map (with_number number)
-            (finmap.get (replayed self.now).world.memory.data_blocks number) }
+            (finmap.get (final_state self.now).world.memory.data_blocks number) }
     {
         match self.cpu.db_bytes(number) {
             None => None,

@@ -2,7 +2,7 @@
 ghost use Rattle.std.specs.Prelude.{◌≡◌};
 ghost use Rattle.std.specs.Option.{option_copied};
 ghost use Rattle.std.specs.FinMap as finmap;
-ghost use Rattle.controller.specs.Views.{state_of};
+ghost use Rattle.controller.specs.Views.{cpu_state};
 
 use crate::activations::Activations;
 use monitor::DiagRing;
@@ -11,7 +11,7 @@ use plc_base::{BlockId, Mode, Profile};
 use plc_mem::Memory;
 use timers_counters::{Counters, Timers};
 
-/// The CPU between two entries of its history. A contract sees its state (`state_of`).
+/// The CPU between two entries of its history. A contract sees its state (`cpu_state`).
 #[derive(Drop)]
 pub struct Cpu {
     /// The sizes of memory, timers, counters and activations.
@@ -31,7 +31,7 @@ pub struct Cpu {
 impl Cpu {
     /// The operating mode.
     pub fn mode(&self) -> Mode
-        ensures { result ≡ (state_of self.now).mode }
+        ensures { result ≡ (cpu_state self.now).mode }
     {
         self.mode
     }
@@ -39,7 +39,7 @@ impl Cpu {
     /// The bytes of a data block, if it is loaded.
     pub fn db_bytes(&self, number: u16) -> Option<&[u8]>
         ensures { option_copied result
-            ≡ finmap.get (state_of self.now).world.memory.data_blocks number }
+            ≡ finmap.get (cpu_state self.now).world.memory.data_blocks number }
     {
         self.memory.data_block(number)
     }

@@ -1,14 +1,14 @@
 //! Synchronous errors.
 ghost use Rattle.std.specs.Prelude.{◌≡◌};
 ghost use Rattle.machine.specs.Flat.{code_of};
-ghost use Rattle.ob_sched.specs.StartInformation.{IsEvent, ob_of, ob_of_error};
+ghost use Rattle.ob_sched.specs.StartInformation.{IsEvent, event_ob, ob_of_error};
 ghost use Rattle.controller.specs.Ready.{HasStatement};
-ghost use Rattle.controller.specs.Errors.{is_synchronous as is_error_ob, cause_without as cause_of_missing, failure as failure_of};
+ghost use Rattle.controller.specs.Errors.{is_synchronous as is_error_ob, cause_without as cause_of_missing, error_event as failure_of};
 ghost use Rattle.controller.specs.Leaves.{error_left};
-ghost use Rattle.controller.specs.Stack.{IsStanding};
-ghost use Rattle.controller.specs.Views.{state_of};
+ghost use Rattle.controller.specs.Stack.{IsActivationStack};
+ghost use Rattle.controller.specs.Views.{cpu_state};
 
-use crate::activations::Stand;
+use crate::activations::At;
 use crate::cpus::Cpu;
 use crate::spots::spot_at;
 use image_file::Loaded;
@@ -37,7 +37,7 @@ fn cause_without(ob: u16) -> u8
 /// What failed.
 pub(crate) fn failure(code: u8, at: Option<Spot>) -> StartEvent
     ensures value { result ≡ failure_of code at }
-    ensures ob { ob_of result ≡ ob_of_error code }
+    ensures ob { event_ob result ≡ ob_of_error code }
     ensures event { IsEvent result }
 {
     match at {
@@ -59,14 +59,14 @@ pub(crate) fn failure(code: u8, at: Option<Spot>) -> StartEvent
 impl Cpu {
     /// A synchronous error of the statement that stood at `stand`: its organization block begins, or
     /// the controller stops.
-    #[tactic(auto, unfolding(crate::specs::Errors::failed), using(crate::proofs::StandingLemmas::room_for_error, crate::proofs::StandingLemmas::error_stands))]
-    pub(crate) fn fail(&mut self, program: &Loaded, stand: &Stand, code: u8)
+    #[tactic(auto, unfolding(crate::specs::Errors::error_raised), using(crate::proofs::StandingLemmas::room_for_error, crate::proofs::StandingLemmas::error_stands))]
+    pub(crate) fn fail(&mut self, program: &Loaded, stand: &At, code: u8)
         requires there { HasStatement (code_of program.now.program) stand.now.block stand.now.at }
-        requires stack { IsStanding self.old.mode self.old.activations }
-        ensures state { state_of self.new
+        requires stack { IsActivationStack self.old.mode self.old.activations }
+        ensures state { cpu_state self.new
             ≡ error_left (code_of program.now.program) code stand.now self.old.activations
-            (state_of self.old) }
-        ensures stack { IsStanding self.new.mode self.new.activations }
+            (cpu_state self.old) }
+        ensures stack { IsActivationStack self.new.mode self.new.activations }
     {
         let Some(running) = self.activations.running() else {
             return;

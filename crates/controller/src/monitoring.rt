@@ -1,11 +1,11 @@
 //! Monitoring: the records of a block's statements.
 ghost use Rattle.std.specs.Prelude.{◌≡◌};
 ghost use Rattle.machine.specs.Flat.{code_of};
-ghost use Rattle.controller.specs.Leaves.{stand_record};
+ghost use Rattle.controller.specs.Leaves.{record_of_statement};
 ghost use Rattle.controller.specs.Monitoring.{is_monitored as is_monitored_block};
 ghost use Rattle.controller.specs.Ready.{HasStatement};
 
-use crate::activations::Stand;
+use crate::activations::At;
 use crate::spots::spot_at;
 use image_file::Loaded;
 use monitor::MonRecord;
@@ -26,11 +26,11 @@ fn is_monitored(monitored: Option<BlockId>, block: BlockId) -> bool
 pub(crate) fn statement_record(
     program: &Loaded,
     monitored: Option<BlockId>,
-    stand: &Stand,
+    stand: &At,
     regs: &Regs,
 ) -> Option<MonRecord>
     requires { HasStatement (code_of program.now.program) stand.now.block stand.now.at }
-    ensures { result ≡ stand_record (code_of program.now.program) monitored stand.now regs.now }
+    ensures { result ≡ record_of_statement (code_of program.now.program) monitored stand.now regs.now }
 {
     if !is_monitored(monitored, stand.block) {
         return None;

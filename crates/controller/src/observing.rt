@@ -1,8 +1,8 @@
 //! What an entry shows.
 ghost use Rattle.std.specs.Prelude.{◌≡◌, []};
 ghost use Rattle.plc_mem.specs.Places.{HasParts};
-ghost use Rattle.controller.specs.Shown.{changed_mode as mode_changed, changed_outputs, nothing_shown, watched, watched_on};
-ghost use Rattle.controller.specs.Views.{state_of};
+ghost use Rattle.controller.specs.Shown.{changed_mode as mode_changed, changed_outputs, nothing_shown, watched_state, watched_next};
+ghost use Rattle.controller.specs.Views.{cpu_state};
 
 use crate::cpus::Cpu;
 use arrayvec::ArrayVec;
@@ -163,7 +163,7 @@ impl Observer {
     /// Nothing was shown yet.
     #[tactic(auto, using(crate::proofs::ObservingLemmas::outputs_have_parts))]
     pub fn new(cpu: &Cpu) -> Observer
-        ensures { result ≡ watched (state_of cpu.now) nothing_shown }
+        ensures { result ≡ watched_state (cpu_state cpu.now) nothing_shown }
     {
         cpu.memory.law_of_areas();
         Observer {
@@ -180,7 +180,7 @@ impl Observer {
     /// Looks at the state after an entry, of which this was recorded.
     #[tactic(auto, using(crate::proofs::ObservingLemmas::outputs_have_parts))]
     pub fn look(&mut self, cpu: &Cpu, mon: Option<MonRecord>)
-        ensures { self.new ≡ watched_on self.old mon (state_of cpu.now) }
+        ensures { self.new ≡ watched_next self.old mon (cpu_state cpu.now) }
     {
         cpu.memory.law_of_areas();
         find_changes(

@@ -3,26 +3,26 @@ ghost use Rattle.std.specs.Prelude.{◌≡◌, ◌||◌, IsTrue};
 ghost use Rattle.machine.specs.Flat.{code_of};
 ghost use Rattle.ob_sched.specs.OrganizationBlock.{is_time_of_day, is_hardware};
 ghost use Rattle.controller.specs.Ready.{IsReady};
-ghost use Rattle.controller.specs.Requests.{arrived, stopped_if};
-ghost use Rattle.controller.specs.Stack.{IsStanding};
+ghost use Rattle.controller.specs.Requests.{arrival_served, stopped_if};
+ghost use Rattle.controller.specs.Stack.{IsActivationStack};
 ghost use Rattle.controller.specs.State.{each_diagnosed};
 ghost use Rattle.controller.specs.Ticking.{time_passed};
-ghost use Rattle.controller.specs.Views.{state_of};
+ghost use Rattle.controller.specs.Views.{cpu_state};
 
 use crate::cpus::Cpu;
 use crate::stopping::is_stop;
 use image_file::Loaded;
-use ob_sched::{Passed, StartEvent, StartInfo, class_in};
+use ob_sched::{StartEvent, StartInfo, TickResult, class_in};
 
 impl Cpu {
     // The records of the scheduler, and the stop that it came to.
-    fn take(&mut self, program: &Loaded, passed: &Passed)
+    fn take(&mut self, program: &Loaded, passed: &TickResult)
         requires ready { IsReady (code_of program.now.program) self.old.activations }
-        requires stack { IsStanding self.old.mode self.old.activations }
-        ensures state { state_of self.new
+        requires stack { IsActivationStack self.old.mode self.old.activations }
+        ensures state { cpu_state self.new
             ≡ stopped_if (code_of program.now.program) passed.now.stop
-            (each_diagnosed passed.now.records.items (state_of self.old)) }
-        ensures stack { IsStanding self.new.mode self.new.activations }
+            (each_diagnosed passed.now.records.items (cpu_state self.old)) }
+        ensures stack { IsActivationStack self.new.mode self.new.activations }
     {
         self.diagnose_all(passed.records.as_slice());
         if let Some(cause) = passed.stop {
@@ -31,21 +31,21 @@ impl Cpu {
     }
 
     /// An arrival requests its organization block.
-    #[tactic(auto, unfolding(crate::specs::Requests::arrived))]
+    #[tactic(auto, unfolding(crate::specs::Requests::arrival_served))]
     pub(crate) fn arrive(&mut self, program: &Loaded, ob: u16, value: u32)
         requires known { IsTrue (is_time_of_day ob || is_hardware ob) }
         requires ready { IsReady (code_of program.now.program) self.old.activations }
-        requires stack { IsStanding self.old.mode self.old.activations }
-        ensures state { state_of self.new
-            ≡ arrived (code_of program.now.program) ob value (state_of self.old) }
-        ensures stack { IsStanding self.new.mode self.new.activations }
+        requires stack { IsActivationStack self.old.mode self.old.activations }
+        ensures state { cpu_state self.new
+            ≡ arrival_served (code_of program.now.program) ob value (cpu_state self.old) }
+        ensures stack { IsActivationStack self.new.mode self.new.activations }
     {
         if is_stop(self.mode) {
             return;
         }
         let event = StartEvent::Arrival { ob, value };
         let info = StartInfo::new(event, class_in(self.mode, ob));
-        let mut passed = Passed::new();
+        let mut passed = TickResult::new();
         self.sched.request(self.mode, ob, info, &mut passed);
         self.take(program, &passed);
     }
@@ -54,10 +54,10 @@ impl Cpu {
     #[tactic(auto, unfolding(crate::specs::Ticking::time_passed), using(crate::proofs::StackLemmas::at_most_48))]
     pub(crate) fn pass(&mut self, program: &Loaded, ms: u32)
         requires ready { IsReady (code_of program.now.program) self.old.activations }
-        requires stack { IsStanding self.old.mode self.old.activations }
-        ensures state { state_of self.new
-            ≡ time_passed (code_of program.now.program) ms (state_of self.old) }
-        ensures stack { IsStanding self.new.mode self.new.activations }
+        requires stack { IsActivationStack self.old.mode self.old.activations }
+        ensures state { cpu_state self.new
+            ≡ time_passed (code_of program.now.program) ms (cpu_state self.old) }
+        ensures stack { IsActivationStack self.new.mode self.new.activations }
     {
         let active = self.activations.active();
         let passed = self.sched.pass_ms(ms, self.mode, active.as_slice());

@@ -5,7 +5,7 @@ ghost use Rattle.var_access.specs.declared.entries.What.TheVariants.{Step};
 ghost use Rattle.controller.specs.Fitting.{IsFit};
 ghost use Rattle.controller.specs.Quiet.{ShowNothing, steps_quietly};
 ghost use Rattle.controller.specs.Replay.{run_from};
-ghost use Rattle.controller.specs.Views.{state_of};
+ghost use Rattle.controller.specs.Views.{cpu_state};
 
 use crate::cpus::Cpu;
 use crate::stopping::is_stop;
@@ -17,18 +17,18 @@ impl Cpu {
     /// (`machine::run`) with which the running activation goes on, in STOP, where a block
     /// is monitored, or where a request waits: what it leaves is for `enter`.
     pub fn step_quietly(&mut self, program: &Loaded, most: u64) -> u64
-        requires fit { IsFit program.now.program (state_of self.old) }
+        requires fit { IsFit program.now.program (cpu_state self.old) }
         requires few { self.old.entries + most < 2 ^ 64 }
         ensures few { result ≤ most }
-        ensures nothing { ShowNothing (code_of program.now.program) (state_of self.old)
+        ensures nothing { ShowNothing (code_of program.now.program) (cpu_state self.old)
             (replicate result Step) }
-        ensures state { state_of self.new
-            ≡ run_from (code_of program.now.program) (state_of self.old) (replicate result Step) }
-        ensures outputs { (state_of self.new).world.memory.peripheral_outputs
-            ≡ (state_of self.old).world.memory.peripheral_outputs }
+        ensures state { cpu_state self.new
+            ≡ run_from (code_of program.now.program) (cpu_state self.old) (replicate result Step) }
+        ensures outputs { (cpu_state self.new).world.memory.peripheral_outputs
+            ≡ (cpu_state self.old).world.memory.peripheral_outputs }
         ensures mode { self.new.mode ≡ self.old.mode }
         ensures stops { result < most
-            → steps_quietly (code_of program.now.program) (state_of self.new) ≡ false }
+            → steps_quietly (code_of program.now.program) (cpu_state self.new) ≡ false }
     {
         if self.monitored.is_some() || is_stop(self.mode) || self.sched.best(self.mode).is_some() {
             return 0;

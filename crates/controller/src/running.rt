@@ -2,14 +2,14 @@
 ghost use Rattle.std.specs.Prelude.{◌≡◌, ◌+◌, ◌<◌, ◌^◌, None, if◌then◌else◌};
 ghost use Rattle.machine.specs.Flat.{code_of};
 ghost use Rattle.var_access.specs.Entry.{IsInRange};
-ghost use Rattle.controller.specs.Event.{effect, input_set};
+ghost use Rattle.controller.specs.Event.{entry_effect, input_set};
 ghost use Rattle.controller.specs.Monitoring.{monitoring_record, step_record};
 ghost use Rattle.controller.specs.Ready.{IsReady};
 ghost use Rattle.controller.specs.Replay.{happens};
-ghost use Rattle.controller.specs.Stack.{IsStanding};
+ghost use Rattle.controller.specs.Stack.{IsActivationStack};
 ghost use Rattle.controller.specs.State.{is_stop as is_stop_of};
-ghost use Rattle.controller.specs.Stepping.{stepped};
-ghost use Rattle.controller.specs.Views.{state_of};
+ghost use Rattle.controller.specs.Stepping.{after_step};
+ghost use Rattle.controller.specs.Views.{cpu_state};
 
 use crate::cpus::Cpu;
 use crate::stopping::is_stop;
@@ -20,8 +20,8 @@ use var_access::What;
 impl Cpu {
     // Another byte of the peripheral inputs.
     fn set_input(&mut self, byte: u16, value: u8)
-        ensures state { state_of self.new ≡ record (state_of self.old) {
-          world = input_set byte value (state_of self.old).world;
+        ensures state { cpu_state self.new ≡ record (cpu_state self.old) {
+          world = input_set byte value (cpu_state self.old).world;
         } }
         ensures activations { self.new.activations ≡ self.old.activations }
         ensures mode { self.new.mode ≡ self.old.mode }
@@ -32,14 +32,14 @@ impl Cpu {
     // A step; in STOP it does nothing. The answer is the record of its statement.
     fn step_unless_stopped(&mut self, program: &Loaded) -> Option<MonRecord>
         requires ready { IsReady (code_of program.now.program) self.old.activations }
-        requires stack { IsStanding self.old.mode self.old.activations }
-        ensures state { state_of self.new
-            ≡ (if is_stop_of self.old.mode then state_of self.old
-            else stepped (code_of program.now.program) (state_of self.old)) }
+        requires stack { IsActivationStack self.old.mode self.old.activations }
+        ensures state { cpu_state self.new
+            ≡ (if is_stop_of self.old.mode then cpu_state self.old
+            else after_step (code_of program.now.program) (cpu_state self.old)) }
         ensures record { result ≡ (if is_stop_of self.old.mode then None
-            else step_record (code_of program.now.program) (state_of self.old)
+            else step_record (code_of program.now.program) (cpu_state self.old)
             self.old.activations) }
-        ensures stack { IsStanding self.new.mode self.new.activations }
+        ensures stack { IsActivationStack self.new.mode self.new.activations }
     {
         if is_stop(self.mode) {
             return None;
@@ -52,12 +52,12 @@ impl Cpu {
     fn act(&mut self, program: &Loaded, what: &What) -> Option<MonRecord>
         requires range { IsInRange what.now }
         requires ready { IsReady (code_of program.now.program) self.old.activations }
-        requires stack { IsStanding self.old.mode self.old.activations }
-        ensures state { state_of self.new
-            ≡ effect (code_of program.now.program) what.now (state_of self.old) }
+        requires stack { IsActivationStack self.old.mode self.old.activations }
+        ensures state { cpu_state self.new
+            ≡ entry_effect (code_of program.now.program) what.now (cpu_state self.old) }
         ensures record { result
-            ≡ monitoring_record (code_of program.now.program) (state_of self.old) what.now }
-        ensures stack { IsStanding self.new.mode self.new.activations }
+            ≡ monitoring_record (code_of program.now.program) (cpu_state self.old) what.now }
+        ensures stack { IsActivationStack self.new.mode self.new.activations }
     {
         match what {
             What::Step => return self.step_unless_stopped(program),
@@ -71,17 +71,17 @@ impl Cpu {
 
     /// One entry of the history, over a program in which the running activation can go on, and settling
     /// after it. The answer is what is recorded of it. Takes no memory.
-    #[tactic(auto, unfolding(crate::specs::Event::state_after, crate::specs::Monitoring::monitoring_record, crate::specs::Replay::happens, crate::specs::Shown::shown))]
+    #[tactic(auto, unfolding(crate::specs::Event::state_after, crate::specs::Monitoring::monitoring_record, crate::specs::Replay::happens, crate::specs::Shown::entry_shown))]
     pub fn enter(&mut self, program: &Loaded, what: &What) -> Option<MonRecord>
         requires range { IsInRange what.now }
         requires few { self.old.entries + 1 < 2 ^ 64 }
         requires ready { IsReady (code_of program.now.program) self.old.activations }
-        requires stack { IsStanding self.old.mode self.old.activations }
-        ensures state { state_of self.new
-            ≡ (happens (code_of program.now.program) (state_of self.old) what.now).state }
+        requires stack { IsActivationStack self.old.mode self.old.activations }
+        ensures state { cpu_state self.new
+            ≡ (happens (code_of program.now.program) (cpu_state self.old) what.now).state }
         ensures record { result
-            ≡ (happens (code_of program.now.program) (state_of self.old) what.now).seen.mon }
-        ensures stack { IsStanding self.new.mode self.new.activations }
+            ≡ (happens (code_of program.now.program) (cpu_state self.old) what.now).seen.mon }
+        ensures stack { IsActivationStack self.new.mode self.new.activations }
     {
         self.entries += 1;
         let record = self.act(program, what);

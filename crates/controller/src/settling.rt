@@ -5,10 +5,10 @@ ghost use Rattle.ob_sched.specs.Request.{IsBest};
 ghost use Rattle.ob_sched.specs.Views.{scheduler_of};
 ghost use Rattle.controller.specs.Beginning.{ob_in, begun_above};
 ghost use Rattle.controller.specs.CyclePoint.{cycle_point};
-ghost use Rattle.controller.specs.Settling.{request_started, settled};
-ghost use Rattle.controller.specs.Stack.{IsStanding, MayBegin};
+ghost use Rattle.controller.specs.Settling.{request_started, after_settling};
+ghost use Rattle.controller.specs.Stack.{IsActivationStack, MayBegin};
 ghost use Rattle.controller.specs.State.{is_stop as is_stop_of};
-ghost use Rattle.controller.specs.Views.{state_of};
+ghost use Rattle.controller.specs.Views.{cpu_state};
 
 use crate::cpus::Cpu;
 use crate::stopping::is_stop;
@@ -22,12 +22,12 @@ impl Cpu {
     /// An organization block begins above those that stand, if it is loaded.
     #[tactic(auto, using(crate::proofs::StandingLemmas::room_to_begin, crate::proofs::StandingLemmas::begun_stands))]
     fn begin_ob(&mut self, program: &Loaded, class: u8, ob: u16, info: StartInfo)
-        requires stack { IsStanding self.old.mode self.old.activations }
+        requires stack { IsActivationStack self.old.mode self.old.activations }
         requires above { MayBegin self.old.mode class ob self.old.activations }
-        ensures state { state_of self.new
+        ensures state { cpu_state self.new
             ≡ begun_above (ob_in self.old.profile (code_of program.now.program) class ob info)
-            (state_of self.old) }
-        ensures stack { IsStanding self.new.mode self.new.activations }
+            (cpu_state self.old) }
+        ensures stack { IsActivationStack self.new.mode self.new.activations }
     {
         self.activations
             .begin(program, self.profile, class, ob, &info);
@@ -36,23 +36,23 @@ impl Cpu {
     // A request leaves those that are pending, and its organization block begins.
     fn start_request(&mut self, program: &Loaded, best: Pending)
         requires best { IsBest best (scheduler_of self.old.sched).pending }
-        requires stack { IsStanding self.old.mode self.old.activations }
+        requires stack { IsActivationStack self.old.mode self.old.activations }
         requires above { MayBegin self.old.mode best.class best.ob self.old.activations }
-        ensures state { state_of self.new
-            ≡ request_started (code_of program.now.program) best (state_of self.old) }
-        ensures stack { IsStanding self.new.mode self.new.activations }
+        ensures state { cpu_state self.new
+            ≡ request_started (code_of program.now.program) best (cpu_state self.old) }
+        ensures stack { IsActivationStack self.new.mode self.new.activations }
     {
         self.sched.start(best);
         self.begin_ob(program, best.class, best.ob, best.info);
     }
 
     /// Starts the best pending request, if it may start.
-    #[tactic(auto, unfolding(crate::specs::Settling::settled), using(crate::proofs::StandingLemmas::best_may_begin))]
+    #[tactic(auto, unfolding(crate::specs::Settling::after_settling), using(crate::proofs::StandingLemmas::best_may_begin))]
     pub(crate) fn settle(&mut self, program: &Loaded)
-        requires { IsStanding self.old.mode self.old.activations }
-        ensures state { state_of self.new
-            ≡ settled (code_of program.now.program) (state_of self.old) }
-        ensures stack { IsStanding self.new.mode self.new.activations }
+        requires { IsActivationStack self.old.mode self.old.activations }
+        ensures state { cpu_state self.new
+            ≡ after_settling (code_of program.now.program) (cpu_state self.old) }
+        ensures stack { IsActivationStack self.new.mode self.new.activations }
     {
         if is_stop(self.mode) {
             return;
@@ -70,10 +70,10 @@ impl Cpu {
     pub(crate) fn reach_cycle_point(&mut self, program: &Loaded)
         requires idle { self.old.activations ≡ [] }
         requires running { is_stop_of self.old.mode ≡ false }
-        requires stack { IsStanding self.old.mode self.old.activations }
-        ensures state { state_of self.new
-            ≡ cycle_point (code_of program.now.program) (state_of self.old) }
-        ensures stack { IsStanding self.new.mode self.new.activations }
+        requires stack { IsActivationStack self.old.mode self.old.activations }
+        ensures state { cpu_state self.new
+            ≡ cycle_point (code_of program.now.program) (cpu_state self.old) }
+        ensures stack { IsActivationStack self.new.mode self.new.activations }
     {
         let class = class_in(self.mode, CYCLE_OB);
         let info = StartInfo::new(

@@ -2,7 +2,7 @@
 ghost use Rattle.std.specs.Prelude.{◌≡◌};
 ghost use Rattle.machine.specs.Flat.{code_of};
 ghost use Rattle.controller.specs.Ready.{HasStatement};
-ghost use Rattle.controller.specs.Stopping.{spot_at as spot_in};
+ghost use Rattle.controller.specs.Stopping.{statement_spot as spot_in};
 
 use image_file::Loaded;
 use plc_base::{BlockId, Spot};

@@ -1,13 +1,13 @@
 //! The first start, and a warm restart.
 ghost use Rattle.std.specs.Prelude.{◌≡◌, [], true, map, IfOk};
 ghost use Rattle.machine.specs.Flat.{code_of};
-ghost use Rattle.plc_mem.specs.Blocks.{bytes_of};
-ghost use Rattle.plc_mem.specs.Fresh.{fresh};
-ghost use Rattle.controller.specs.Start.{loaded_obs as obs_loaded, restarted, start, started_up, startup_ob};
-ghost use Rattle.controller.specs.Stack.{IsStanding};
+ghost use Rattle.plc_mem.specs.Blocks.{bytes_by_number};
+ghost use Rattle.plc_mem.specs.Fresh.{initial_memory};
+ghost use Rattle.controller.specs.Start.{loaded_obs as obs_loaded, warm_restarted, start, started_up, startup_ob};
+ghost use Rattle.controller.specs.Stack.{IsActivationStack};
 ghost use Rattle.controller.specs.State.{is_stop};
-ghost use Rattle.controller.specs.Starting.{is_data_block as is_data_block_of, numbers_in as numbers_in_of, numbers_of, read_block as read_block_of};
-ghost use Rattle.controller.specs.Views.{state_of};
+ghost use Rattle.controller.specs.Starting.{is_data_block_id as is_data_block_of, data_block_numbers_in as numbers_in_of, data_block_numbers, read_block as read_block_of};
+ghost use Rattle.controller.specs.Views.{cpu_state};
 
 use crate::activations::Activations;
 use crate::beginning::{is_loaded, ob_block};
@@ -61,7 +61,7 @@ fn numbers_in(alloc: Global, ids: &[BlockId]) -> Result<Vec<u16>, NoMemory>
 /// The numbers of a program's data blocks, which rise.
 #[tactic(auto, using(crate::proofs::StartLemmas::numbers_among))]
 pub fn data_numbers(alloc: Global, program: &Loaded) -> Result<Vec<u16>, NoMemory>
-    ensures { IfOk result (λ v. v.items ≡ numbers_of (code_of program.now.program).blocks) }
+    ensures { IfOk result (λ v. v.items ≡ data_block_numbers (code_of program.now.program).blocks) }
 {
     program.law_of_verifying();
     let numbers = numbers_in(alloc, program.blocks())?;
@@ -85,7 +85,7 @@ fn read_blocks(
     program: &Loaded,
     numbers: &[u16],
 ) -> Result<Vec<(u16, Vec<u8>)>, NoMemory>
-    ensures { IfOk result (λ v. bytes_of v.items
+    ensures { IfOk result (λ v. bytes_by_number v.items
         ≡ map (read_block_of program.now.program.data_blocks) numbers.now) }
 {
     let mut blocks = Vec::new(alloc);
@@ -99,7 +99,7 @@ fn read_blocks(
 // Memory with copies of the program's data blocks, in which all else is 0.
 #[tactic(auto, using(crate::proofs::StartLemmas::blocks_read, crate::proofs::StartLemmas::blocks_differ))]
 fn memory_of(alloc: Global, program: &Loaded, profile: Profile) -> Result<Memory, NoMemory>
-    ensures { IfOk result (λ m. m ≡ fresh profile (code_of program.now.program).blocks) }
+    ensures { IfOk result (λ m. m ≡ initial_memory profile (code_of program.now.program).blocks) }
 {
     program.law_of_verifying();
     let numbers = data_numbers(alloc, program)?;
@@ -112,9 +112,9 @@ impl Cpu {
     // With OB 100 the mode is STARTUP, and it begins; else RUN begins.
     fn start_up(&mut self, program: &Loaded)
         requires { self.old.activations ≡ [] }
-        ensures { state_of self.new
+        ensures { cpu_state self.new
             ≡ started_up (startup_ob self.old.profile (code_of program.now.program))
-            (state_of self.old) }
+            (cpu_state self.old) }
     {
         let info = StartInfo::new(StartEvent::Startup, STARTUP_CLASS);
         if self
@@ -136,7 +136,7 @@ impl Cpu {
     /// `NoMemory` for want of memory.
     #[tactic(auto, unfolding(crate::specs::Start::start))]
     pub fn start(alloc: Global, program: &Loaded, profile: Profile) -> Result<Cpu, NoMemory>
-        ensures { IfOk result (λ p. state_of p ≡ start profile (code_of program.now.program)) }
+        ensures { IfOk result (λ p. cpu_state p ≡ start profile (code_of program.now.program)) }
     {
         let obs = loaded_obs(alloc, program)?;
         let mut cpu = Cpu {
@@ -158,13 +158,13 @@ impl Cpu {
 
     /// A warm restart out of STOP: what isn't retained is cleared, and with OB 100 STARTUP begins, else
     /// RUN.
-    #[tactic(auto, unfolding(crate::specs::Start::restarted), using(crate::proofs::StandingLemmas::stop_idle))]
+    #[tactic(auto, unfolding(crate::specs::Start::warm_restarted), using(crate::proofs::StandingLemmas::stop_idle))]
     pub(crate) fn restart(&mut self, program: &Loaded)
         requires stopped { is_stop self.old.mode ≡ true }
-        requires stack { IsStanding self.old.mode self.old.activations }
-        ensures state { state_of self.new
-            ≡ restarted (code_of program.now.program) (state_of self.old) }
-        ensures stack { IsStanding self.new.mode self.new.activations }
+        requires stack { IsActivationStack self.old.mode self.old.activations }
+        ensures state { cpu_state self.new
+            ≡ warm_restarted (code_of program.now.program) (cpu_state self.old) }
+        ensures stack { IsActivationStack self.new.mode self.new.activations }
     {
         self.diagnose(RESTARTED, 0);
         self.memory.clear_unretained();

@@ -2,15 +2,15 @@
 ghost use Rattle.std.specs.Prelude.{◌≡◌, false};
 ghost use Rattle.machine.specs.Flat.{code_of};
 ghost use Rattle.ob_sched.specs.Views.{scheduler_of};
-ghost use Rattle.controller.specs.Leaves.{call_left, finished, mode_after, regs_called, regs_finished};
+ghost use Rattle.controller.specs.Leaves.{call_left, statement_finished, mode_after, regs_called, regs_finished};
 ghost use Rattle.controller.specs.Monitoring.{step_record};
 ghost use Rattle.controller.specs.Ready.{HasStatement, IsReady};
-ghost use Rattle.controller.specs.Stack.{IsStanding};
+ghost use Rattle.controller.specs.Stack.{IsActivationStack};
 ghost use Rattle.controller.specs.State.{is_stop};
-ghost use Rattle.controller.specs.Stepping.{ob_ended, run_starts, stepped};
-ghost use Rattle.controller.specs.Views.{state_of};
+ghost use Rattle.controller.specs.Stepping.{ob_ended, run_starts, after_step};
+ghost use Rattle.controller.specs.Views.{cpu_state};
 
-use crate::activations::Stand;
+use crate::activations::At;
 use crate::cpus::Cpu;
 use crate::monitoring::statement_record;
 use crate::spots::spot_at;
@@ -27,7 +27,7 @@ const STARTUP_OB: u16 = 100;
 impl Cpu {
     /// RUN begins.
     pub(crate) fn start_run(&mut self)
-        ensures { state_of self.new ≡ run_starts (state_of self.old) }
+        ensures { cpu_state self.new ≡ run_starts (cpu_state self.old) }
     {
         self.mode = Mode::Run;
         self.sched.begin_run();
@@ -35,7 +35,7 @@ impl Cpu {
 
     // An organization block has ended; the end of OB 100 is that of STARTUP.
     fn end_ob(&mut self, ob: u16)
-        ensures { state_of self.new ≡ ob_ended ob (state_of self.old) }
+        ensures { cpu_state self.new ≡ ob_ended ob (cpu_state self.old) }
     {
         if ob == STARTUP_OB {
             self.start_run();
@@ -47,19 +47,19 @@ impl Cpu {
     fn call_system(
         &mut self,
         program: &Loaded,
-        stand: &Stand,
+        stand: &At,
         number: u16,
         inputs: &Inputs,
         to: Option<Binding>,
     ) -> Regs
         requires there { HasStatement (code_of program.now.program) stand.now.block stand.now.at }
-        requires stack { IsStanding self.old.mode self.old.activations }
-        ensures state { state_of self.new
+        requires stack { IsActivationStack self.old.mode self.old.activations }
+        ensures state { cpu_state self.new
             ≡ call_left (code_of program.now.program) number inputs.now to stand.now
-            self.old.activations (state_of self.old) }
+            self.old.activations (cpu_state self.old) }
         ensures regs { result ≡ regs_called number inputs.now (scheduler_of self.old.sched)
             self.old.activations stand.now.regs }
-        ensures stack { IsStanding self.new.mode self.new.activations }
+        ensures stack { IsActivationStack self.new.mode self.new.activations }
     {
         let stop = self
             .activations
@@ -73,16 +73,16 @@ impl Cpu {
 
     // What is left to do after a statement, which stood at `stand`; the answer is the registers after
     // all of it.
-    #[tactic(auto, unfolding(crate::specs::Leaves::finished))]
-    fn finish(&mut self, program: &Loaded, stand: &Stand, outcome: Outcome) -> Regs
+    #[tactic(auto, unfolding(crate::specs::Leaves::statement_finished))]
+    fn finish(&mut self, program: &Loaded, stand: &At, outcome: Outcome) -> Regs
         requires there { HasStatement (code_of program.now.program) stand.now.block stand.now.at }
-        requires stack { IsStanding (mode_after self.old.mode stand.now.ob outcome)
+        requires stack { IsActivationStack (mode_after self.old.mode stand.now.ob outcome)
             self.old.activations }
-        ensures state { state_of self.new
-            ≡ finished (code_of program.now.program) stand.now outcome (state_of self.old) }
+        ensures state { cpu_state self.new
+            ≡ statement_finished (code_of program.now.program) stand.now outcome (cpu_state self.old) }
         ensures regs { result ≡ regs_finished outcome (scheduler_of self.old.sched)
             self.old.activations stand.now.regs }
-        ensures stack { IsStanding self.new.mode self.new.activations }
+        ensures stack { IsActivationStack self.new.mode self.new.activations }
     {
         match outcome {
             Outcome::Went => {}
@@ -99,16 +99,16 @@ impl Cpu {
     }
 
     /// A step outside STOP; the answer is the record of its statement, if its block is monitored.
-    #[tactic(auto, unfolding(crate::specs::Stepping::stepped), using(crate::proofs::StepLemmas::stepped_from, crate::proofs::StepLemmas::stepped_idle, crate::proofs::StepLemmas::idle, crate::proofs::StepLemmas::step_there, crate::proofs::StepLemmas::step_stands, crate::proofs::MonitoringLemmas::step_recorded, crate::proofs::MonitoringLemmas::idle_recorded))]
+    #[tactic(auto, unfolding(crate::specs::Stepping::after_step), using(crate::proofs::StepLemmas::stepped_from, crate::proofs::StepLemmas::stepped_idle, crate::proofs::StepLemmas::idle, crate::proofs::StepLemmas::step_there, crate::proofs::StepLemmas::step_stands, crate::proofs::MonitoringLemmas::step_recorded, crate::proofs::MonitoringLemmas::idle_recorded))]
     pub(crate) fn step(&mut self, program: &Loaded) -> Option<MonRecord>
         requires ready { IsReady (code_of program.now.program) self.old.activations }
         requires running { is_stop self.old.mode ≡ false }
-        requires stack { IsStanding self.old.mode self.old.activations }
-        ensures state { state_of self.new
-            ≡ stepped (code_of program.now.program) (state_of self.old) }
-        ensures record { result ≡ step_record (code_of program.now.program) (state_of self.old)
+        requires stack { IsActivationStack self.old.mode self.old.activations }
+        ensures state { cpu_state self.new
+            ≡ after_step (code_of program.now.program) (cpu_state self.old) }
+        ensures record { result ≡ step_record (code_of program.now.program) (cpu_state self.old)
             self.old.activations }
-        ensures stack { IsStanding self.new.mode self.new.activations }
+        ensures stack { IsActivationStack self.new.mode self.new.activations }
     {
         let done = self.activations.step(
             program,

@@ -2,9 +2,9 @@
 ghost use Rattle.std.specs.Prelude.{◌≡◌};
 ghost use Rattle.machine.specs.Flat.{code_of};
 ghost use Rattle.controller.specs.Ready.{IsReady};
-ghost use Rattle.controller.specs.State.{is_stop as is_stop_of, diagnosed, each_diagnosed};
-ghost use Rattle.controller.specs.Stopping.{halted, halted_at};
-ghost use Rattle.controller.specs.Views.{state_of};
+ghost use Rattle.controller.specs.State.{is_stop as is_stop_of, diagnosis_recorded, each_diagnosed};
+ghost use Rattle.controller.specs.Stopping.{stop_entered, stop_entered_at};
+ghost use Rattle.controller.specs.Views.{cpu_state};
 
 use crate::cpus::Cpu;
 use image_file::Loaded;
@@ -24,7 +24,7 @@ pub(crate) fn is_stop(mode: Mode) -> bool
 impl Cpu {
     /// A record of diagnostics, made by the entry that is the last so far.
     pub(crate) fn diagnose(&mut self, code: u16, info: u16)
-        ensures { state_of self.new ≡ diagnosed code info (state_of self.old) }
+        ensures { cpu_state self.new ≡ diagnosis_recorded code info (cpu_state self.old) }
     {
         self.diagnostics.push(DiagRecord {
             entry: self.entries,
@@ -35,7 +35,7 @@ impl Cpu {
 
     /// Records one after another.
     pub(crate) fn diagnose_all(&mut self, records: &[(u16, u16)])
-        ensures { state_of self.new ≡ each_diagnosed records.now (state_of self.old) }
+        ensures { cpu_state self.new ≡ each_diagnosed records.now (cpu_state self.old) }
     {
         let mut left = records;
         while let [(code, info), rest @ ..] = left {
@@ -46,7 +46,7 @@ impl Cpu {
 
     /// STOP with a cause and a spot.
     pub(crate) fn halt_at(&mut self, at: Option<Spot>, cause: u8)
-        ensures { state_of self.new ≡ halted_at at cause (state_of self.old) }
+        ensures { cpu_state self.new ≡ stop_entered_at at cause (cpu_state self.old) }
     {
         self.diagnose(STOPPED, u16::from(cause));
         self.memory.clear_outputs();
@@ -56,11 +56,11 @@ impl Cpu {
     }
 
     /// STOP at the statement at which the running activation stands.
-    #[tactic(auto, unfolding(crate::specs::Stopping::halted))]
+    #[tactic(auto, unfolding(crate::specs::Stopping::stop_entered))]
     pub(crate) fn halt(&mut self, program: &Loaded, cause: u8)
         requires { IsReady (code_of program.now.program) self.old.activations }
-        ensures { state_of self.new
-            ≡ halted (code_of program.now.program) cause (state_of self.old) }
+        ensures { cpu_state self.new
+            ≡ stop_entered (code_of program.now.program) cause (cpu_state self.old) }
     {
         let at = self.activations.spot(program);
         self.halt_at(at, cause);

@@ -8,10 +8,10 @@ use Rattle.std.proofs.lemmas.List.Sums.{sum_by-cons}
 use Rattle.std.specs.List.{sum_by}
 use Rattle.plc_base.specs.Kinds.{kind_number}
 use Rattle.plc_base.proofs.ListLemmas.{drop_next}
-use Rattle.flat_code.specs.Checking.{all_good, good_params, good_lines, good_blocks, good_datas, good_names, good_counts, good_records, makes_program, block_size, data_size, name_size, image_size}
-use Rattle.flat_code.specs.Codes.{are_ops, code_bytes, code_of, size}
-use Rattle.flat_code.specs.Faults.{fault_of, name_fault}
-use Rattle.flat_code.specs.Image.{zero_u8, zero_u16, plain_u16, plain_u32, width_field, bytes_fit, section_field, parameter_byte, parameter_bit, parameter_rows, parameter, kind_field, parameter_count, block_number, local_bytes, instance_bytes, Head, head, head_rows, same_state, parameters, line_field, line_after, lines_of, code_and_lines, block_rows, head_of_block, plain_block, code_block, after_block, record_of_block, record_of_param, data_number, instance_field, data_len, contents, data_rows, data_block, after_data, name_len, name_bytes, name_area, name_bit, name_rows, name_record, after_name, name_of_entry, data_count, Counts, counts, count_rows, code_blocks, data_blocks, names, body_rows, parts_of_records, records_of, records, body, front_size, IsProgram}
+use Rattle.flat_code.specs.Checking.{all_good, good_params, good_lines, good_blocks, good_datas, good_names, good_counts, good_records, makes_program, records_size, data_size, name_size, image_size}
+use Rattle.flat_code.specs.Codes.{are_ops, code_bytes, code_layout, size}
+use Rattle.flat_code.specs.Faults.{field_fault, name_fault}
+use Rattle.flat_code.specs.Image.{zero_u8, zero_u16, plain_u16, plain_u32, width_field, bytes_fit, section_field, parameter_byte, parameter_bit, parameter_rows, parameter_layout, kind_field, parameter_count_layout, block_number_layout, local_length_layout, instance_bytes, Head, head_layout, head_rows, same_state, parameters, line_field, line_after, lines_layout, code_and_lines, block_rows, head_of_block, plain_block, code_block_layout, after_block, record_of_block, record_of_param, data_number_layout, instance_field, data_length_layout, contents, data_rows, data_block_layout, after_data, name_len, name_bytes, name_area, name_bit, name_rows, name_record, after_name, name_of_entry, data_count, Counts, counts_layout, count_rows, code_blocks, data_blocks_layout, names, body_rows, parts_of_records, records_of, records, body, front_size, IsProgram}
 use Rattle.flat_code.specs.Layout.{Layout, is_fine, good_many, spell_many}
 use Rattle.flat_code.specs.Ops.{OpData, IsOp, op_bytes}
 use Rattle.flat_code.specs.Programs.{CodeBlock, DataBlock, NameEntry, Program}
@@ -19,11 +19,11 @@ use Rattle.flat_code.specs.Records.{BlockRecord, NameRecord}
 use Rattle.flat_code.specs.declared.image_fields.ParameterRecord.{ParameterRecord}
 
 pub zero_byte_good : zero_u8.good 0 ≡ true
-unfolding zero_u8 fault_of
+unfolding zero_u8 field_fault
 zero_byte_good = refl
 
 pub zero_word_good : zero_u16.good 0 ≡ true
-unfolding zero_u16 fault_of
+unfolding zero_u16 field_fault
 zero_word_good = refl
 
 -- ---- the tests
@@ -33,8 +33,8 @@ counted : {S A : Type 0} (l : S → Layout A) (next : S → A → S) (s : S) (xs
 counted l next s [] = refl
 counted l next s (x ∷ xs) = ap (λ (t : Bool). (l s).good x && t) (counted l next (next s x) xs)
 
-code_good : (ops : List OpData) → are_ops ops ≡ true → (code_of false (length (code_bytes ops))).good ops ≡ true
-unfolding code_of
+code_good : (ops : List OpData) → are_ops ops ≡ true → (code_layout false (length (code_bytes ops))).good ops ≡ true
+unfolding code_layout
 code_good ops h = and_from _ _ (and_from _ _ h refl) (eq-eqb (length (code_bytes ops)) (length (code_bytes ops)) refl)
 
 -- numbers of 32 bits are lines, and bytes fit
@@ -55,13 +55,13 @@ pub text_good : (before bs : List ℕ) → bytes_fit bs ≡ true → (name_bytes
 unfolding name_bytes
 text_good before bs h = ap (λ (t : Bool). t && is_fine (name_fault before bs)) (and_from _ _ (eq-eqb (length bs) (length bs) refl) h)
 
-lines_good : (start : ℕ) (before : ℕ × ℕ) (b : CodeBlock) → good_lines b.lines ≡ true → (lines_of false start (head_of_block (record_of_block b)) b.code).good b.lines ≡ true
-unfolding lines_of
+lines_good : (start : ℕ) (before : ℕ × ℕ) (b : CodeBlock) → good_lines b.lines ≡ true → (lines_layout false start (head_of_block (record_of_block b)) b.code).good b.lines ≡ true
+unfolding lines_layout
 lines_good start before b h = counted (line_field false) line_after 0 b.lines ∙ h
 
 params_good : (b : CodeBlock) → (parameters (head_of_block (record_of_block b))).good (map record_of_param b.params) ≡ good_params (kind_number b.id.kind) b.instance_len b.params
 unfolding parameters
-params_good b = counted (λ s. parameter (kind_number b.id.kind) b.instance_len) same_state 0 (map record_of_param b.params)
+params_good b = counted (λ s. parameter_layout (kind_number b.id.kind) b.instance_len) same_state 0 (map record_of_param b.params)
 
 -- what comes behind a test counts only where it is met
 both : (t a b : Bool) → (t ≡ true → a ≡ b) → (t && a) ≡ (t && b)
@@ -72,13 +72,13 @@ with_true : (a b c : Bool) → b ≡ true → c ≡ true → (a && (b && c)) ≡
 with_true true b c p q = and_from b c p q
 with_true false b c p q = refl
 
-pub block_by_parts : (before : ℕ × ℕ) (b : CodeBlock) → ((head before).good (head_of_block (record_of_block b)) ≡ true → are_ops b.code ≡ true) → good_lines b.lines ≡ true
-    → ((head before).good (head_of_block (record_of_block b)) && good_params (kind_number b.id.kind) b.instance_len b.params) ≡ (code_block false before).good (record_of_block b)
-unfolding code_block plain_block block_rows code_and_lines
+pub block_by_parts : (before : ℕ × ℕ) (b : CodeBlock) → ((head_layout before).good (head_of_block (record_of_block b)) ≡ true → are_ops b.code ≡ true) → good_lines b.lines ≡ true
+    → ((head_layout before).good (head_of_block (record_of_block b)) && good_params (kind_number b.id.kind) b.instance_len b.params) ≡ (code_block_layout false before).good (record_of_block b)
+unfolding code_block_layout plain_block block_rows code_and_lines
 block_by_parts before b ops lines =
     let h = head_of_block (record_of_block b) in
-    sym (both ((head before).good h) _ _ (λ t.
-    with_true ((parameters h).good (map record_of_param b.params)) ((code_of false (length (code_bytes b.code))).good b.code) ((lines_of false 0 h b.code).good b.lines) (code_good b.code (ops t)) (lines_good 0 before b lines)
+    sym (both ((head_layout before).good h) _ _ (λ t.
+    with_true ((parameters h).good (map record_of_param b.params)) ((code_layout false (length (code_bytes b.code))).good b.code) ((lines_layout false 0 h b.code).good b.lines) (code_good b.code (ops t)) (lines_good 0 before b lines)
     ∙ params_good b))
 
 -- a test behind another
@@ -86,17 +86,17 @@ pub met : (a b : Bool) → a ≡ true → (a && b) ≡ b
 met true b h = refl
 met false b h = absurd cc
 
-counts_good : (a b c : ℕ) → counts.good (record { code_blocks = a; data_blocks = b; names = c; reserved = 0 }) ≡ good_counts a b c
-unfolding counts count_rows plain_u16 data_count zero_u16 fault_of
+counts_good : (a b c : ℕ) → counts_layout.good (record { code_blocks = a; data_blocks = b; names = c; reserved = 0 }) ≡ good_counts a b c
+unfolding counts_layout count_rows plain_u16 data_count zero_u16 field_fault
 counts_good a b c = grind (arith, nat_tests)
 
 blocks_good : (bs : List CodeBlock) → (code_blocks false (length (map record_of_block bs))).good (map record_of_block bs) ≡ good_blocks (0, 0) bs
 unfolding code_blocks
-blocks_good bs = counted (code_block false) after_block (0, 0) (map record_of_block bs)
+blocks_good bs = counted (code_block_layout false) after_block (0, 0) (map record_of_block bs)
 
-datas_good : (ds : List DataBlock) → (data_blocks (length ds)).good ds ≡ good_datas (0, 0) ds
-unfolding data_blocks
-datas_good ds = counted data_block after_data (0, 0) ds
+datas_good : (ds : List DataBlock) → (data_blocks_layout (length ds)).good ds ≡ good_datas (0, 0) ds
+unfolding data_blocks_layout
+datas_good ds = counted data_block_layout after_data (0, 0) ds
 
 names_good : (es : List NameEntry) → (names (length (map name_of_entry es))).good (map name_of_entry es) ≡ good_names [] es
 unfolding names
@@ -109,7 +109,7 @@ records_good : (p : Program) → (body false).good p ≡ good_records p
 unfolding body records body_rows
 records_good p =
     let r = parts_of_records (records_of p) in
-    four (counts.good r.counts) ((code_blocks false r.counts.code_blocks).good r.code_blocks) ((data_blocks r.counts.data_blocks).good r.data_blocks) ((names r.counts.names).good r.names) _ _ _ _
+    four (counts_layout.good r.counts) ((code_blocks false r.counts.code_blocks).good r.code_blocks) ((data_blocks_layout r.counts.data_blocks).good r.data_blocks) ((names r.counts.names).good r.names) _ _ _ _
     (counts_good r.counts.code_blocks r.counts.data_blocks r.counts.names ∙ rw (length-map p.code_blocks record_of_block, length-map p.names name_of_entry) refl)
     (blocks_good p.code_blocks) (datas_good p.data_blocks) (names_good p.names)
 
@@ -134,28 +134,28 @@ times : {A : Type 0} (k : ℕ) (xs : List A) → sum_by (λ x. k) xs ≡ k * len
 times k [] = omega arith
 times {A = A} k (x ∷ xs) = let h = times k xs in sum_by-cons (λ (y : A). k) x xs ∙ grind (arith, h)
 
-param_sized : (kind instance : ℕ) (p : ParameterRecord) → length ((parameter kind instance).spell p) ≡ 6
-unfolding parameter parameter_rows section_field width_field parameter_byte parameter_bit zero_u8
+param_sized : (kind instance : ℕ) (p : ParameterRecord) → length ((parameter_layout kind instance).spell p) ≡ 6
+unfolding parameter_layout parameter_rows section_field width_field parameter_byte parameter_bit zero_u8
 param_sized kind instance p = refl
 
 params_sized : (h : Head) (ps : List ParameterRecord) → length ((parameters h).spell ps) ≡ 6 * length ps
 unfolding parameters
-params_sized h ps = many_sized (λ s. parameter h.kind h.instance_bytes) same_state (λ p. 6) (λ s p. param_sized h.kind h.instance_bytes p) 0 ps ∙ times 6 ps
+params_sized h ps = many_sized (λ s. parameter_layout h.kind h.instance_bytes) same_state (λ p. 6) (λ s p. param_sized h.kind h.instance_bytes p) 0 ps ∙ times 6 ps
 
 line_sized : (before line : ℕ) → length ((line_field false before).spell line) ≡ 4
 unfolding line_field
 line_sized before line = refl
 
-lines_sized : (start : ℕ) (h : Head) (ops : List OpData) (lines : List ℕ) → length ((lines_of false start h ops).spell lines) ≡ 4 * length lines
-unfolding lines_of
+lines_sized : (start : ℕ) (h : Head) (ops : List OpData) (lines : List ℕ) → length ((lines_layout false start h ops).spell lines) ≡ 4 * length lines
+unfolding lines_layout
 lines_sized start h ops lines = many_sized (line_field false) line_after (λ n. 4) line_sized 0 lines ∙ times 4 lines
 
-head_sized : (before : ℕ × ℕ) (h : Head) → length ((head before).spell h) ≡ 16
-unfolding head head_rows kind_field parameter_count block_number local_bytes instance_bytes plain_u16 zero_u16 plain_u32
+head_sized : (before : ℕ × ℕ) (h : Head) → length ((head_layout before).spell h) ≡ 16
+unfolding head_layout head_rows kind_field parameter_count_layout block_number_layout local_length_layout instance_bytes plain_u16 zero_u16 plain_u32
 head_sized before h = refl
 
-code_spelled : (n : ℕ) (ops : List OpData) → (code_of false n).spell ops ≡ code_bytes ops
-unfolding code_of
+code_spelled : (n : ℕ) (ops : List OpData) → (code_layout false n).spell ops ≡ code_bytes ops
+unfolding code_layout
 code_spelled n ops = refl
 
 joined : (a b c d : List ℕ) (k l m n : ℕ) → length a ≡ k → length b ≡ l → length c ≡ m → length d ≡ n → length (a ++ (b ++ (c ++ d))) ≡ k + l + m + n
@@ -164,28 +164,28 @@ joined a b c d k l m n p q r s = omega (arith, length-append a (b ++ (c ++ d)), 
 record_size : BlockRecord → ℕ
 record_size b = 16 + 6 * length b.params + length (code_bytes b.code) + 4 * length b.lines
 
-block_sized : (before : ℕ × ℕ) (b : BlockRecord) → length ((code_block false before).spell b) ≡ record_size b
-unfolding code_block plain_block block_rows code_and_lines record_size
+block_sized : (before : ℕ × ℕ) (b : BlockRecord) → length ((code_block_layout false before).spell b) ≡ record_size b
+unfolding code_block_layout plain_block block_rows code_and_lines record_size
 block_sized before b =
     let h = head_of_block b in
-    joined ((head before).spell h) ((parameters h).spell b.params) ((code_of false (length (code_bytes b.code))).spell b.code) ((lines_of false 0 h b.code).spell b.lines) _ _ _ _
+    joined ((head_layout before).spell h) ((parameters h).spell b.params) ((code_layout false (length (code_bytes b.code))).spell b.code) ((lines_layout false 0 h b.code).spell b.lines) _ _ _ _
     (head_sized before h) (params_sized h b.params) (ap length (code_spelled (length (code_bytes b.code)) b.code)) (lines_sized 0 h b.code b.lines)
 
-same_size : (b : CodeBlock) → record_size (record_of_block b) ≡ block_size b
+same_size : (b : CodeBlock) → record_size (record_of_block b) ≡ records_size b
 unfolding record_size
 same_size b = ap (λ (n : ℕ). 16 + 6 * n + length (code_bytes b.code) + 4 * length b.lines) (length-map b.params record_of_param)
 
-blocks_sized : (n : ℕ) (bs : List CodeBlock) → length ((code_blocks false n).spell (map record_of_block bs)) ≡ sum_by block_size bs
+blocks_sized : (n : ℕ) (bs : List CodeBlock) → length ((code_blocks false n).spell (map record_of_block bs)) ≡ sum_by records_size bs
 unfolding code_blocks
-blocks_sized n bs = many_sized (code_block false) after_block record_size block_sized (0, 0) (map record_of_block bs) ∙ mapped_size record_of_block record_size block_size same_size bs
+blocks_sized n bs = many_sized (code_block_layout false) after_block record_size block_sized (0, 0) (map record_of_block bs) ∙ mapped_size record_of_block record_size records_size same_size bs
 
-data_sized : (before : ℕ × ℕ) (d : DataBlock) → length ((data_block before).spell d) ≡ data_size d
-unfolding data_block data_rows data_number instance_field data_len zero_u16 contents
+data_sized : (before : ℕ × ℕ) (d : DataBlock) → length ((data_block_layout before).spell d) ≡ data_size d
+unfolding data_block_layout data_rows data_number_layout instance_field data_length_layout zero_u16 contents
 data_sized before d = omega arith
 
-datas_sized : (n : ℕ) (ds : List DataBlock) → length ((data_blocks n).spell ds) ≡ sum_by data_size ds
-unfolding data_blocks
-datas_sized n ds = many_sized data_block after_data data_size data_sized (0, 0) ds
+datas_sized : (n : ℕ) (ds : List DataBlock) → length ((data_blocks_layout n).spell ds) ≡ sum_by data_size ds
+unfolding data_blocks_layout
+datas_sized n ds = many_sized data_block_layout after_data data_size data_sized (0, 0) ds
 
 name_behind : NameRecord → ℕ
 name_behind n = 6 + length n.name
@@ -198,15 +198,15 @@ names_sized : (n : ℕ) (es : List NameEntry) → length ((names n).spell (map n
 unfolding names name_behind
 names_sized n es = many_sized name_record after_name name_behind name_sized [] (map name_of_entry es) ∙ mapped_size name_of_entry name_behind name_size (λ e. refl) es
 
-counts_sized : (c : Counts) → length (counts.spell c) ≡ 8
-unfolding counts count_rows plain_u16 data_count zero_u16
+counts_sized : (c : Counts) → length (counts_layout.spell c) ≡ 8
+unfolding counts_layout count_rows plain_u16 data_count zero_u16
 counts_sized c = refl
 
 image_sized : (p : Program) → front_size + length ((body false).spell p) ≡ image_size p
 unfolding body records body_rows
 image_sized p =
     let r = parts_of_records (records_of p) in
-    let all = joined (counts.spell r.counts) ((code_blocks false r.counts.code_blocks).spell r.code_blocks) ((data_blocks r.counts.data_blocks).spell r.data_blocks) ((names r.counts.names).spell r.names) _ _ _ _
+    let all = joined (counts_layout.spell r.counts) ((code_blocks false r.counts.code_blocks).spell r.code_blocks) ((data_blocks_layout r.counts.data_blocks).spell r.data_blocks) ((names r.counts.names).spell r.names) _ _ _ _
     (counts_sized r.counts) (blocks_sized r.counts.code_blocks p.code_blocks) (datas_sized r.counts.data_blocks p.data_blocks) (names_sized r.counts.names p.names) in
     omega (arith, all)
 

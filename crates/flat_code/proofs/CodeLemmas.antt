@@ -2,11 +2,11 @@
 use Rattle.std.proofs.Common.{◌≡◌, true, false, refl}
 use Rattle.plc_base.specs.declared.flags.Flag.{Flag}
 use Rattle.plc_base.specs.declared.flags.Flag.TheVariants as flags
-use Rattle.flat_code.specs.Kinds.{jump_of, kind_of, flag_of, condition_of}
+use Rattle.flat_code.specs.Kinds.{jump_of_number, jump_number, flag_of, condition_number}
 use Rattle.flat_code.specs.declared.kinds.JumpOperation.{JumpOperation}
 use Rattle.flat_code.specs.declared.kinds.JumpOperation.TheVariants as jumps
 use Rattle.flat_code.specs.Operations.{operation_of}
-use Rattle.flat_code.specs.OpCodes.{code_of}
+use Rattle.flat_code.specs.OpCodes.{op_code_of}
 use Rattle.flat_code.specs.declared.operations.Operation.{Operation}
 use Rattle.flat_code.specs.declared.operations.Operation.TheVariants as operation
 use Rattle.plc_base.specs.declared.instructions.Check.TheVariants as check
@@ -21,7 +21,7 @@ use Rattle.flat_code.specs.declared.operations.RelayOperation.TheVariants as rel
 use Rattle.flat_code.specs.declared.operations.CallOperation.TheVariants as calls
 use Rattle.flat_code.specs.declared.operations.EndOperation.TheVariants as ends
 
-pub operation_again : (w : Operation) → operation_of (code_of w) ≡ w
+pub operation_again : (w : Operation) → operation_of (op_code_of w) ≡ w
 unfolding operation_of
 operation_again operation.NoOperation = refl
 operation_again operation.Nop = refl
@@ -143,8 +143,8 @@ operation_again (operation.End ends.Beu) = refl
 operation_again operation.OpenBlock = refl
 operation_again operation.Exchange = refl
 
-pub jump_again : (jump : JumpOperation) → jump_of (kind_of jump) ≡ jump
-unfolding jump_of
+pub jump_again : (jump : JumpOperation) → jump_of_number (jump_number jump) ≡ jump
+unfolding jump_of_number
 jump_again jumps.Ju = refl
 jump_again jumps.Jl = refl
 jump_again jumps.Jc = refl
@@ -164,7 +164,7 @@ jump_again jumps.Jmz = refl
 jump_again jumps.Juo = refl
 jump_again jumps.Loop = refl
 
-pub flag_again : (flag : Flag) → flag_of (condition_of flag) ≡ flag
+pub flag_again : (flag : Flag) → flag_of (condition_number flag) ≡ flag
 unfolding flag_of
 flag_again flags.Br = refl
 flag_again flags.Ov = refl

@@ -4,9 +4,9 @@ use Rattle.std.proofs.lemmas.Bool.{and_parts, and_from}
 use Rattle.plc_base.proofs.TruthLemmas.{and_first, and_second}
 use Rattle.flat_code.specs.Programs.{Program, NameEntry}
 use Rattle.flat_code.specs.Layout.{is_fine, good_many}
-use Rattle.flat_code.specs.Faults.{is_before, is_upper, unless, name_fault}
+use Rattle.flat_code.specs.Faults.{is_earlier_name, is_upper, unless, name_fault}
 use Rattle.flat_code.specs.Names.{names_rise}
-use Rattle.flat_code.specs.Image.{name_bytes, name_rows, name_record, after_name, names, counts, code_blocks, data_blocks, body_rows, records, body, parts_of_records, records_of, name_of_entry, IsProgram}
+use Rattle.flat_code.specs.Image.{name_bytes, name_rows, name_record, after_name, names, counts_layout, code_blocks, data_blocks_layout, body_rows, records, body, parts_of_records, records_of, name_of_entry, IsProgram}
 
 is_met : (test : Bool) (code : ℕ) → is_fine (unless test code) ≡ true → test ≡ true
 is_met true code h = refl
@@ -16,7 +16,7 @@ name_is_fine : (before : List ℕ) (entry : NameEntry) → (name_record before).
 unfolding name_record name_rows name_bytes
 name_is_fine before entry h = and_second _ _ (and_first _ _ (and_second _ _ h))
 
-name_is_next : (before : List ℕ) (entry : NameEntry) → (name_record before).good (name_of_entry entry) ≡ true → (is_before before entry.name && is_upper entry.name) ≡ true
+name_is_next : (before : List ℕ) (entry : NameEntry) → (name_record before).good (name_of_entry entry) ≡ true → (is_earlier_name before entry.name && is_upper entry.name) ≡ true
 unfolding name_fault
 name_is_next before entry h = and_first _ _ (is_met _ 4 (name_is_fine before entry h))
 
@@ -31,6 +31,6 @@ unfolding body records body_rows names
 names_of_program p h =
     let r = parts_of_records (records_of p) in
     let codes = (code_blocks false r.counts.code_blocks).good r.code_blocks in
-    let datas = (data_blocks r.counts.data_blocks).good r.data_blocks in
+    let datas = (data_blocks_layout r.counts.data_blocks).good r.data_blocks in
     let named = (names r.counts.names).good r.names in
-    good_names [] p.names (and_second datas named (and_second codes (datas && named) (and_second (counts.good r.counts) (codes && (datas && named)) h.good)))
+    good_names [] p.names (and_second datas named (and_second codes (datas && named) (and_second (counts_layout.good r.counts) (codes && (datas && named)) h.good)))

@@ -12,7 +12,7 @@ use Rattle.flat_code.specs.declared.operands.Operand.TheVariants as operand
 use Rattle.flat_code.specs.declared.operands.Passed.{Passed}
 use Rattle.flat_code.specs.declared.operands.Passed.TheVariants as passed
 use Rattle.flat_code.specs.Codes.{size}
-use Rattle.flat_code.specs.Forms.{actual_in, direct, form_of_operand, payload, payload_in}
+use Rattle.flat_code.specs.Forms.{actual_in, direct_coding, form_of_operand, payload, payload_in}
 use Rattle.flat_code.specs.Ops.{OpData, code_byte, is_op, op_at, op_bytes, op_of}
 use Rattle.flat_code.specs.Table.{admits, takes_of}
 use Rattle.flat_code.proofs.CodingLemmas.{IsBytes}
@@ -133,20 +133,20 @@ operand_place : FixedPlace → Operand
 operand_place x = operand.Direct x.0 x.1.0 x.1.1.0 x.1.1.1
 
 -- a fixed place that is passed
-pub place_there : (bytes : List ℕ) → is_some (actual_in 2 bytes) ≡ true → is_some (direct.read bytes) ≡ true
+pub place_there : (bytes : List ℕ) → is_some (actual_in 2 bytes) ≡ true → is_some (direct_coding.read bytes) ≡ true
 unfolding passed_place
-place_there bytes h = made_there passed_place (direct.read bytes) h
+place_there bytes h = made_there passed_place (direct_coding.read bytes) h
 
-pub place_passed : (bytes : List ℕ) (x : FixedPlace) → option_map (λ (r : FixedPlace × List ℕ). r.0) (direct.read bytes) ≡ Some x
+pub place_passed : (bytes : List ℕ) (x : FixedPlace) → option_map (λ (r : FixedPlace × List ℕ). r.0) (direct_coding.read bytes) ≡ Some x
     → option_map (λ (r : Passed × List ℕ). r.0) (actual_in 2 bytes) ≡ Some (passed.Direct x.0 x.1.0 x.1.1.0 x.1.1.1)
 unfolding passed_place
-place_passed bytes x h = made_is passed_place (direct.read bytes) x h
+place_passed bytes x h = made_is passed_place (direct_coding.read bytes) x h
 
 -- a fixed place of an operand
-pub place_read : (bytes : List ℕ) (x : FixedPlace) → option_map (λ (r : FixedPlace × List ℕ). r.0) (direct.read bytes) ≡ Some x
+pub place_read : (bytes : List ℕ) (x : FixedPlace) → option_map (λ (r : FixedPlace × List ℕ). r.0) (direct_coding.read bytes) ≡ Some x
     → option_map (λ (r : Operand × List ℕ). r.0) (payload_in 2 bytes) ≡ Some (operand.Direct x.0 x.1.0 x.1.1.0 x.1.1.1)
 unfolding payload_in operand_place
-place_read bytes x h = made_is operand_place (direct.read bytes) x h
+place_read bytes x h = made_is operand_place (direct_coding.read bytes) x h
 
 -- a fixed place in a data block that is named
 with_number : ℕ → FixedPlace → ℕ × FixedPlace
@@ -155,24 +155,24 @@ with_number number x = (number, x)
 in_named : ℕ × FixedPlace → Passed
 in_named x = passed.InBlock x.0 x.1.0 x.1.1.0 x.1.1.1.0 x.1.1.1.1
 
-pub block_there : (bytes : List ℕ) → is_some (actual_in 12 bytes) ≡ true → is_some (direct.read (behind_form bytes)) ≡ true
+pub block_there : (bytes : List ℕ) → is_some (actual_in 12 bytes) ≡ true → is_some (direct_coding.read (behind_form bytes)) ≡ true
 unfolding with_number in_named
 block_there [] h = absurd cc
 block_there (a ∷ []) h = absurd cc
 block_there (a ∷ b ∷ rest) h =
     let number : ℕ = from_be_bytes w16 (a ∷ b ∷ []) in
-    ap (λ (z : List ℕ). is_some (direct.read z)) (take_rest (a ∷ b ∷ rest) 2)
-    ∙ made_there (with_number number) (direct.read rest)
-    (made_there in_named (option_map (λ (r : FixedPlace × List ℕ). (with_number number r.0, r.1)) (direct.read rest)) h)
+    ap (λ (z : List ℕ). is_some (direct_coding.read z)) (take_rest (a ∷ b ∷ rest) 2)
+    ∙ made_there (with_number number) (direct_coding.read rest)
+    (made_there in_named (option_map (λ (r : FixedPlace × List ℕ). (with_number number r.0, r.1)) (direct_coding.read rest)) h)
 
 pub block_passed : (bytes : List ℕ) (number : ℕ) (x : FixedPlace)
     → number ≡ from_be_bytes w16 (slice_index_or bytes 0 0 ∷ slice_index_or bytes 1 0 ∷ [])
-    → option_map (λ (r : FixedPlace × List ℕ). r.0) (direct.read (behind_form bytes)) ≡ Some x
+    → option_map (λ (r : FixedPlace × List ℕ). r.0) (direct_coding.read (behind_form bytes)) ≡ Some x
     → option_map (λ (r : Passed × List ℕ). r.0) (actual_in 12 bytes) ≡ Some (passed.InBlock number x.0 x.1.0 x.1.1.0 x.1.1.1)
-unfolding direct with_number in_named
+unfolding direct_coding with_number in_named
 block_passed [] number x is h = absurd cc
 block_passed (a ∷ []) number x is h = absurd cc
 block_passed (a ∷ b ∷ rest) number x is h = rw is
-    (made_is in_named (option_map (λ (r : FixedPlace × List ℕ). (with_number (from_be_bytes w16 (a ∷ b ∷ [])) r.0, r.1)) (direct.read rest)) _
-    (made_is (with_number (from_be_bytes w16 (a ∷ b ∷ []))) (direct.read rest) x
-    (ap (λ (z : List ℕ). option_map (λ (r : FixedPlace × List ℕ). r.0) (direct.read z)) (sym (take_rest (a ∷ b ∷ rest) 2)) ∙ h)))
+    (made_is in_named (option_map (λ (r : FixedPlace × List ℕ). (with_number (from_be_bytes w16 (a ∷ b ∷ [])) r.0, r.1)) (direct_coding.read rest)) _
+    (made_is (with_number (from_be_bytes w16 (a ∷ b ∷ []))) (direct_coding.read rest) x
+    (ap (λ (z : List ℕ). option_map (λ (r : FixedPlace × List ℕ). r.0) (direct_coding.read z)) (sym (take_rest (a ∷ b ∷ rest) 2)) ∙ h)))

@@ -13,11 +13,11 @@ use Rattle.flat_code.specs.declared.operands.Passed.{Passed}
 use Rattle.flat_code.specs.declared.operands.Passed.TheVariants as passed
 use Rattle.flat_code.specs.Ops.{OpData}
 use Rattle.flat_code.specs.Records.{BlockRecord}
-use Rattle.flat_code.specs.Codes.{size, first_of}
+use Rattle.flat_code.specs.Codes.{size, first_found}
 use Rattle.flat_code.specs.declared.image_fields.OpenBracket.{OpenBracket}
-use Rattle.flat_code.specs.Placed.{Placed, places, begins, is_empty, last_op, opens, open_behind, zones_left, few, most_brackets, most_zones, Spot, spots, spot_at}
-use Rattle.flat_code.specs.OpCodes.{code_of}
-use Rattle.flat_code.specs.Kinds.{kind_of}
+use Rattle.flat_code.specs.Placed.{Placed, code_places, begins, is_empty_list, last_op, is_opening, open_behind, zones_left, few, most_brackets, most_zones, StatementSpot, spots, spot_at}
+use Rattle.flat_code.specs.OpCodes.{op_code_of}
+use Rattle.flat_code.specs.Kinds.{jump_number}
 use Rattle.flat_code.specs.Records.{section_in, section_out}
 use Rattle.flat_code.specs.declared.kinds.JumpOperation.TheVariants as jump
 use Rattle.flat_code.specs.declared.operations.CallOperation.TheVariants as calls
@@ -25,17 +25,17 @@ use Rattle.flat_code.specs.declared.operations.Operation.TheVariants as operatio
 use Rattle.flat_code.specs.declared.operations.RelayOperation.TheVariants as relay
 use Rattle.plc_base.specs.Kinds.{kind_number}
 use Rattle.plc_base.specs.declared.blocks.BlockKind.TheVariants as kinds
-use Rattle.flat_code.specs.Table.{takes_of, has_width}
+use Rattle.flat_code.specs.Table.{takes_of, has_memory_width}
 
 -- what a CALL sees of a block: kind and number, the bytes of an instance, the parameters
-pub record Signature : Type 0 where
+pub record BlockSignature : Type 0 where
   pub kind : ℕ
   pub number : ℕ
   pub instance_len : ℕ
   pub params : List ParameterRecord
 
 -- of a code block a call sees neither its local bytes nor its ops nor their lines
-abbrev pub signature_of : BlockRecord → Signature
+abbrev pub signature_of : BlockRecord → BlockSignature
 signature_of b = record { kind = b.kind; number = b.number; instance_len = b.instance_len; params = b.params }
 
 -- what the faults of a block depend on besides its ops: its kind, local bytes and parameters; the code
@@ -44,57 +44,57 @@ pub record Around : Type 0 where
   pub kind : ℕ
   pub local_len : ℕ
   pub params : List ParameterRecord
-  pub blocks : List Signature
+  pub blocks : List BlockSignature
   pub data_lens : Option (List (ℕ × ℕ))
 
 -- ---- what is called
 
 -- the parameters of the system functions: IN and OUT by width, RET_VAL last
-abbrev pub input : Width → ParameterRecord
-input width = record { section = section_in; width = width_number width; byte = 0; bit = 0 }
+abbrev pub in_record : Width → ParameterRecord
+in_record width = record { section = section_in; width = width_number width; byte = 0; bit = 0 }
 
 -- an OUT parameter of a system function, as RET_VAL is; it has no place, so byte and bit are 0
-abbrev pub output : Width → ParameterRecord
-output width = record { section = section_out; width = width_number width; byte = 0; bit = 0 }
+abbrev pub out_record : Width → ParameterRecord
+out_record width = record { section = section_out; width = width_number width; byte = 0; bit = 0 }
 
 -- an SFC's parameters by index; None for a number but the nine 32, 33, 39 to 43, 46, 64
 abbrev pub system_params : ℕ → Option (List ParameterRecord)
 system_params n =
     -- SRT_DINT: OB_NR, DTIME, SIGN, RET_VAL
-    if n == 32 then Some (input width.Word ∷ input width.Dword ∷ input width.Word ∷ output width.Word ∷ [])
+    if n == 32 then Some (in_record width.Word ∷ in_record width.Dword ∷ in_record width.Word ∷ out_record width.Word ∷ [])
     -- CAN_DINT: OB_NR, RET_VAL
-    else if n == 33 then Some (input width.Word ∷ output width.Word ∷ [])
+    else if n == 33 then Some (in_record width.Word ∷ out_record width.Word ∷ [])
     -- DIS_IRT, EN_IRT: MODE, OB_NR, RET_VAL
-    else if n == 39 || n == 40 then Some (input width.Byte ∷ input width.Word ∷ output width.Word ∷ [])
+    else if n == 39 || n == 40 then Some (in_record width.Byte ∷ in_record width.Word ∷ out_record width.Word ∷ [])
     -- DIS_AIRT, EN_AIRT: RET_VAL
-    else if n == 41 || n == 42 then Some (output width.Word ∷ [])
+    else if n == 41 || n == 42 then Some (out_record width.Word ∷ [])
     -- RE_TRIGR, STP
     else if n == 43 || n == 46 then Some []
     -- TIME_TCK: RET_VAL
-    else if n == 64 then Some (output width.Dword ∷ [])
+    else if n == 64 then Some (out_record width.Dword ∷ [])
     else None
 
 -- what is called: its kind, the bytes of an instance, the parameters
-abbrev pub Callee : Type 0
-Callee = ℕ × ℕ × List ParameterRecord
+abbrev pub CalleeSeen : Type 0
+CalleeSeen = ℕ × ℕ × List ParameterRecord
 
 -- the first block of a kind and number
-abbrev pub block_with : ℕ → ℕ → List Signature → Option Callee
+abbrev pub block_with : ℕ → ℕ → List BlockSignature → Option CalleeSeen
 block_with kind number [] = None
 block_with kind number (b ∷ bs) = if b.kind == kind && b.number == number then Some (b.kind, b.instance_len, b.params) else block_with kind number bs
 
 -- as a callee an SFC has no instance bytes
-abbrev pub system_function : List ParameterRecord → Callee
-system_function params = (kind_number kinds.Sfc, 0, params)
+abbrev pub callee_of_system : List ParameterRecord → CalleeSeen
+callee_of_system params = (kind_number kinds.Sfc, 0, params)
 
 -- the block that is called: a system function, or one of the program
-unfoldable pub callee : List Signature → ℕ → ℕ → Option Callee
-callee blocks kind number = if kind == kind_number kinds.Sfc then option_map system_function (system_params number) else block_with kind number blocks
+unfoldable pub callee : List BlockSignature → ℕ → ℕ → Option CalleeSeen
+callee blocks kind number = if kind == kind_number kinds.Sfc then option_map callee_of_system (system_params number) else block_with kind number blocks
 
 -- the length of the first data block of a number
-abbrev pub data_len : ℕ → List (ℕ × ℕ) → Option ℕ
-data_len number [] = None
-data_len number (d ∷ ds) = if d.0 == number then Some d.1 else data_len number ds
+abbrev pub length_of_data : ℕ → List (ℕ × ℕ) → Option ℕ
+length_of_data number [] = None
+length_of_data number (d ∷ ds) = if d.0 == number then Some d.1 else length_of_data number ds
 
 -- ---- operands
 
@@ -114,15 +114,15 @@ is_bad_place around a w byte bit = is_odd_bit w bit || is_past_locals around a w
 
 -- a width that the instruction doesn't have
 abbrev pub lacks_width : OpData → Width → Bool
-lacks_width op w = not (has_width (takes_of op.code) w)
+lacks_width op w = not (has_memory_width (takes_of op.code) w)
 
 -- the instructions that write their operand, whose codes stand together: T, =, S, R, FP, FN
-abbrev pub writes : ℕ → Bool
-writes code = nat_le (code_of operation.Transfer) code && nat_le code (code_of (operation.Edge false))
+abbrev pub writes_operand : ℕ → Bool
+writes_operand code = nat_le (op_code_of operation.Transfer) code && nat_le code (op_code_of (operation.Edge false))
 
 -- the parameter of the block that an operand of form 05 means: only a function has such
-abbrev pub own_parameter : Around → ℕ → Option ParameterRecord
-own_parameter around index = if around.kind == kind_number kinds.Fc then slice_get around.params index else None
+abbrev pub parameter_meant : Around → ℕ → Option ParameterRecord
+parameter_meant around index = if around.kind == kind_number kinds.Fc then slice_get around.params index else None
 
 -- an operand of form 05 whose parameter isn't there, or has another width
 abbrev pub lacks_own : Option ParameterRecord → Width → Bool
@@ -130,9 +130,9 @@ lacks_own None w = true
 lacks_own (Some p) w = not (p.width == width_number w)
 
 -- an IN parameter, if there is one; a function doesn't write it, nor pass it for OUT or IN_OUT
-abbrev pub is_input : Option ParameterRecord → Bool
-is_input None = false
-is_input (Some p) = p.section == section_in
+abbrev pub is_in_parameter : Option ParameterRecord → Bool
+is_in_parameter None = false
+is_in_parameter (Some p) = p.section == section_in
 
 -- ---- USEDB and PASS
 
@@ -153,7 +153,7 @@ pass_index _ = None
 -- the index of the PASS next before, behind an index found so far
 abbrev pub pass_before : Option ℕ → List OpData → Option ℕ
 pass_before found [] = found
-pass_before found (op ∷ ops) = pass_before (first_of (pass_index op.operand) found) ops
+pass_before found (op ∷ ops) = pass_before (first_found (pass_index op.operand) found) ops
 
 -- an index above that of the PASS before; where none stands before (None), each is
 abbrev pub is_above : ℕ → Option ℕ → Bool
@@ -162,13 +162,13 @@ is_above index (Some other) = nat_lt other index
 
 -- a PASS without a CALL, or whose index doesn't rise
 abbrev pub is_stray_pass : Placed → ℕ → Bool
-is_stray_pass p index = not ((last_op p).code == code_of (operation.Call calls.Call)) || not (is_above index (pass_before None p.before))
+is_stray_pass p index = not ((last_op p).code == op_code_of (operation.Call calls.Call)) || not (is_above index (pass_before None p.before))
 
 -- what is passed, by itself: as operands are
 abbrev pub is_bad_actual : Around → Passed → Bool
 is_bad_actual around (passed.Literal value) = false
 is_bad_actual around (passed.Direct a w byte bit) = is_bad_place around a w byte bit
-is_bad_actual around (passed.Parameter index w) = lacks_own (own_parameter around index) w
+is_bad_actual around (passed.Parameter index w) = lacks_own (parameter_meant around index) w
 is_bad_actual around (passed.InBlock number area.Db w byte bit) = is_odd_bit w bit
 is_bad_actual around (passed.InBlock number a w byte bit) = true
 
@@ -185,7 +185,7 @@ literal_fits number value =
 abbrev pub misfits_parameter : Around → ParameterRecord → Passed → Bool
 misfits_parameter around q (passed.Literal value) = not (q.section == section_in) || not (literal_fits q.width value)
 misfits_parameter around q (passed.Direct a w byte bit) = not (q.width == width_number w)
-misfits_parameter around q (passed.Parameter index w) = not (q.width == width_number w) || not (q.section == section_in) && is_input (own_parameter around index)
+misfits_parameter around q (passed.Parameter index w) = not (q.width == width_number w) || not (q.section == section_in) && is_in_parameter (parameter_meant around index)
 misfits_parameter around q (passed.InBlock number a w byte bit) = not (q.width == width_number w)
 
 -- a parameter that the called block lacks (None), or that what is passed doesn't fit
@@ -194,7 +194,7 @@ misfits_index around None actual = true
 misfits_index around (Some q) actual = misfits_parameter around q actual
 
 -- a block that is absent is a fault of the CALL, not of its PASS
-abbrev pub misfits_callee : Around → Option Callee → ℕ → Passed → Bool
+abbrev pub misfits_callee : Around → Option CalleeSeen → ℕ → Passed → Bool
 misfits_callee around None index actual = false
 misfits_callee around (Some s) index actual = misfits_index around (slice_get s.2 index) actual
 
@@ -226,13 +226,13 @@ is_short needed None = true
 is_short needed (Some len) = nat_lt len needed
 
 -- no instance (0) is right where the block has no parameters; one is given to function blocks alone
-abbrev pub is_bad_instance : List (ℕ × ℕ) → Callee → ℕ → Bool
+abbrev pub is_bad_instance : List (ℕ × ℕ) → CalleeSeen → ℕ → Bool
 is_bad_instance data_lens s instance =
-    if s.0 == kind_number kinds.Fb then (if instance == 0 then not (is_empty s.2) else is_short s.1 (data_len instance data_lens))
+    if s.0 == kind_number kinds.Fb then (if instance == 0 then not (is_empty_list s.2) else is_short s.1 (length_of_data instance data_lens))
     else not (instance == 0)
 
 -- absent; a function or system function whose parameters aren't all passed; the instance
-abbrev pub is_bad_call : List (ℕ × ℕ) → Option Callee → ℕ → List OpData → Bool
+abbrev pub is_bad_call : List (ℕ × ℕ) → Option CalleeSeen → ℕ → List OpData → Bool
 is_bad_call data_lens None instance before = true
 is_bad_call data_lens (Some s) instance before = not (s.0 == kind_number kinds.Fb) && not (are_passed 0 s.2 before) || is_bad_instance data_lens s instance
 
@@ -246,19 +246,19 @@ same_codes (x ∷ xs) [] = false
 same_codes (x ∷ xs) (y ∷ ys) = x == y && same_codes xs ys
 
 -- JU, which alone stands in the list of a JL
-abbrev pub is_ju : Operand → Bool
-is_ju (operand.Jump zero target) = true
-is_ju _ = false
+abbrev pub is_ju_operand : Operand → Bool
+is_ju_operand (operand.Jump zero target) = true
+is_ju_operand _ = false
 
 -- whether from an offset on at most so many JU stand before a target
 abbrev pub leads : ℕ → ℕ → ℕ → List OpData → Bool
 leads most target from [] = from == target
 leads zero target from (op ∷ ops) = from == target
-leads (suc most) target from (op ∷ ops) = from == target || is_ju op.operand && leads most target (from + size op) ops
+leads (suc most) target from (op ∷ ops) = from == target || is_ju_operand op.operand && leads most target (from + size op) ops
 
 -- JL: its target stands behind it, and between are at most 255 JU alone
 abbrev pub is_bad_list : Placed → ℕ → ℕ → Bool
-is_bad_list p kind target = kind == kind_of jump.Jl && not (leads 255 target (p.at + size p.op) p.rest)
+is_bad_list p kind target = kind == jump_number jump.Jl && not (leads 255 target (p.at + size p.op) p.rest)
 
 -- other brackets stand open at the target. (Where more than seven stand open at the jump, an earlier op
 -- has fault 8, and no comparison is needed.)
@@ -268,16 +268,16 @@ are_other (Some codes) None = true
 are_other (Some codes) (Some others) = not (same_codes codes others)
 
 -- 8: other brackets, or another number of zones, stand open at the target than at the jump
-abbrev pub differing : Option (List ℕ) → ℕ → Spot → Option ℕ
+abbrev pub differing : Option (List ℕ) → ℕ → StatementSpot → Option ℕ
 differing codes zones there = if are_other codes there.codes || not (zones == there.zones) then Some 8 else None
 
 -- 6: no statement begins at the target, or a JL's list
-abbrev pub target_fault : Option (List ℕ) → ℕ → Option Spot → Option ℕ
+abbrev pub target_fault : Option (List ℕ) → ℕ → Option StatementSpot → Option ℕ
 target_fault codes zones None = Some 6
 target_fault codes zones (Some there) = differing codes zones there
 
 -- the fault of a jump: 6 for the list of a JL, else 6 or 8 by what begins at the target
-abbrev pub jump_fault : List Spot → Placed → ℕ → ℕ → Option ℕ
+abbrev pub jump_fault : List StatementSpot → Placed → ℕ → ℕ → Option ℕ
 jump_fault statements p kind target = if is_bad_list p kind target then Some 6 else target_fault (few p.brackets) (length p.zones) (spot_at statements target)
 
 -- ---- ops
@@ -287,11 +287,11 @@ abbrev pub seven_if : Bool → Option ℕ
 seven_if b = if b then Some 7 else None
 
 -- what only needs the own block
-abbrev pub operand_fault : Around → List Spot → Placed → Operand → Option ℕ
+abbrev pub operand_fault : Around → List StatementSpot → Placed → Operand → Option ℕ
 operand_fault around statements p (operand.Direct a w byte bit) = seven_if (lacks_width p.op w || is_bad_place around a w byte bit)
 operand_fault around statements p (operand.ByMemory a w from byte) = seven_if (lacks_width p.op w)
 operand_fault around statements p (operand.ByRegister a w register bits) = seven_if (lacks_width p.op w)
-operand_fault around statements p (operand.Parameter index w) = seven_if (lacks_width p.op w || lacks_own (own_parameter around index) w || writes p.op.code && is_input (own_parameter around index))
+operand_fault around statements p (operand.Parameter index w) = seven_if (lacks_width p.op w || lacks_own (parameter_meant around index) w || writes_operand p.op.code && is_in_parameter (parameter_meant around index))
 operand_fault around statements p (operand.Jump kind target) = jump_fault statements p kind target
 operand_fault around statements p (operand.UseDb number) = seven_if (is_stray_use_db p)
 operand_fault around statements p (operand.Pass index actual) = seven_if (is_stray_pass p index || is_bad_actual around actual)
@@ -300,7 +300,7 @@ operand_fault around statements p _ = None
 -- what needs the other blocks
 abbrev pub call_fault_among : Around → List (ℕ × ℕ) → Placed → Operand → Option ℕ
 call_fault_among around data_lens p (operand.Called kind number instance) = seven_if (is_bad_call data_lens (callee around.blocks kind number) instance p.before)
-call_fault_among around data_lens p (operand.Pass index actual) = seven_if ((last_op p).code == code_of (operation.Call calls.Call) && misfits_call around (last_op p).operand index actual)
+call_fault_among around data_lens p (operand.Pass index actual) = seven_if ((last_op p).code == op_code_of (operation.Call calls.Call) && misfits_call around (last_op p).operand index actual)
 call_fault_among around data_lens p _ = None
 
 -- what is called and passed is checked only where all code and data blocks were read
@@ -310,7 +310,7 @@ call_fault around (Some data_lens) p = call_fault_among around data_lens p p.op.
 
 -- 7: USEDB and PASS prepare, and have no end mark; every other op has it
 abbrev pub prepares : ℕ → Bool
-prepares code = code == code_of operation.UseDb || code == code_of operation.Pass
+prepares code = code == op_code_of operation.UseDb || code == op_code_of operation.Pass
 
 -- the fault of an end mark on USEDB or PASS, and of another op that has none
 abbrev pub mark_fault : OpData → Option ℕ
@@ -319,15 +319,15 @@ mark_fault op = seven_if (if prepares op.code then op.last else not op.last)
 -- 8: `)` without open bracket, an eighth bracket
 abbrev pub bracket_fault : ℕ → List OpenBracket → Option ℕ
 bracket_fault code brackets =
-    if opens code then (if nat_le most_brackets (length brackets) then Some 8 else None)
-    else if code == code_of operation.Unnest then (if is_empty brackets then Some 8 else None)
+    if is_opening code then (if nat_le most_brackets (length brackets) then Some 8 else None)
+    else if code == op_code_of operation.Unnest then (if is_empty_list brackets then Some 8 else None)
     else None
 
 -- 8: `)MCR` without open zone, a ninth zone
 abbrev pub zone_fault : ℕ → List ℕ → Option ℕ
 zone_fault code zones =
-    if code == code_of (operation.Relay relay.Open) then (if nat_le most_zones (length zones) then Some 8 else None)
-    else if code == code_of (operation.Relay relay.Close) then (if is_empty zones then Some 8 else None)
+    if code == op_code_of (operation.Relay relay.Open) then (if nat_le most_zones (length zones) then Some 8 else None)
+    else if code == op_code_of (operation.Relay relay.Close) then (if is_empty_list zones then Some 8 else None)
     else None
 
 -- at an offset
@@ -337,7 +337,7 @@ at_offset at (Some code) = (at, code) ∷ []
 
 -- the faults of one op, each at the op's own offset (`start` is where the code begins): of its
 -- operand, of what is called or passed, of its end mark, of its bracket, of its zone
-unfoldable pub op_faults : Around → List Spot → ℕ → Placed → List (ℕ × ℕ)
+unfoldable pub op_faults : Around → List StatementSpot → ℕ → Placed → List (ℕ × ℕ)
 op_faults around statements start p =
     at_offset (start + p.at) (operand_fault around statements p p.op.operand)
     ++ at_offset (start + p.at) (call_fault around around.data_lens p)
@@ -346,7 +346,7 @@ op_faults around statements start p =
     ++ at_offset (start + p.at) (zone_fault p.op.code p.zones)
 
 -- the faults of ops one behind the other; all are listed, whichever is told in the end
-abbrev pub faults_over : Around → List Spot → ℕ → List Placed → List (ℕ × ℕ)
+abbrev pub faults_over : Around → List StatementSpot → ℕ → List Placed → List (ℕ × ℕ)
 faults_over around statements start [] = []
 faults_over around statements start (p ∷ rest) = op_faults around statements start p ++ faults_over around statements start rest
 
@@ -363,6 +363,6 @@ open_zone_faults start (at ∷ zones) = (start + at, 8) ∷ open_zone_faults sta
 -- the faults of a block whose code begins at an offset
 unfoldable pub block_faults : Around → ℕ → List OpData → List (ℕ × ℕ)
 block_faults around start ops =
-    faults_over around (spots ops) start (places ops)
+    faults_over around (spots ops) start (code_places ops)
     ++ open_faults start (open_behind 0 [] ops)
     ++ open_zone_faults start (zones_left 0 [] ops)

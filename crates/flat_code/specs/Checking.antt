@@ -1,7 +1,7 @@
 -- The records of a program checked one behind the other, and how many bytes they take in its image.
 use Rattle.std.specs.Prelude.{ℕ, ◌+◌, ◌*◌, nat_le, nat_lt, Bool, true, false, ◌&&◌, List, [], ◌∷◌, length, map, sum_by}
 use Rattle.flat_code.specs.Codes.{code_bytes}
-use Rattle.flat_code.specs.Image.{after_block, after_data, after_name, code_block, data_block, line_after, line_field, name_of_entry, name_record, parameter, record_of_block, record_of_param, same_state}
+use Rattle.flat_code.specs.Image.{after_block, after_data, after_name, code_block_layout, data_block_layout, line_after, line_field, name_of_entry, name_record, parameter_layout, record_of_block, record_of_param, same_state}
 use Rattle.flat_code.specs.Layout.{Layout}
 use Rattle.flat_code.specs.Programs.{CodeBlock, DataBlock, NameEntry, Program}
 use Rattle.flat_code.specs.declared.programs.Param.{Param}
@@ -14,7 +14,7 @@ all_good l next s (x ∷ xs) = (l s).good x && all_good l next (next s x) xs
 -- the parameters of a block of a kind with so many instance bytes
 abbrev pub good_params : (kind instance : ℕ) → List Param → Bool
 good_params kind instance ps =
-    all_good (λ s. parameter kind instance) same_state 0 (map record_of_param ps)
+    all_good (λ s. parameter_layout kind instance) same_state 0 (map record_of_param ps)
 
 -- each line fits 32 bits; that none is 0 or falls (fault 9) isn't tested here
 abbrev pub good_lines : List ℕ → Bool
@@ -22,11 +22,11 @@ good_lines lines = all_good (line_field false) line_after 0 lines
 
 -- code blocks behind one of kind and number `before`, 0 and 0 for none; faults 5 to 9 aside
 abbrev pub good_blocks : ℕ × ℕ → List CodeBlock → Bool
-good_blocks before bs = all_good (code_block false) after_block before (map record_of_block bs)
+good_blocks before bs = all_good (code_block_layout false) after_block before (map record_of_block bs)
 
 -- data blocks behind one of this number, 0 for none, with so many bytes in all blocks before
 abbrev pub good_datas : ℕ × ℕ → List DataBlock → Bool
-good_datas before ds = all_good data_block after_data before ds
+good_datas before ds = all_good data_block_layout after_data before ds
 
 -- names behind the name `before`, empty for none: they rise, their variables are in I, Q or M
 abbrev pub good_names : List ℕ → List NameEntry → Bool
@@ -44,8 +44,8 @@ good_records p =
     && (good_datas (0, 0) p.data_blocks && good_names [] p.names))
 
 -- the bytes of records
-abbrev pub block_size : CodeBlock → ℕ
-block_size b = 16 + 6 * length b.params + length (code_bytes b.code) + 4 * length b.lines
+abbrev pub records_size : CodeBlock → ℕ
+records_size b = 16 + 6 * length b.params + length (code_bytes b.code) + 4 * length b.lines
 
 -- number, instance, length and zero take 8 bytes, besides those of the data block
 abbrev pub data_size : DataBlock → ℕ
@@ -58,7 +58,7 @@ name_size e = 6 + length e.name
 -- header and counts take 20 bytes
 abbrev pub image_size : Program → ℕ
 image_size p =
-    20 + sum_by block_size p.code_blocks + sum_by data_size p.data_blocks
+    20 + sum_by records_size p.code_blocks + sum_by data_size p.data_blocks
     + sum_by name_size p.names
 
 -- whether it is a program

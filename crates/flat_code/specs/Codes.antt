@@ -1,10 +1,10 @@
 -- The code of a block: its ops to the end, the last of them BE with the end mark.
 use Rattle.std.specs.Prelude.{ℕ, zero, suc, ◌+◌, nat_lt, ◌==◌, Bool, true, false, ◌&&◌, if◌then◌else◌, List, [], ◌∷◌, ◌++◌, length, take, drop, Option, Some, None}
 use Rattle.flat_code.specs.Ops.{OpData, is_op, op_bytes, op_at}
-use Rattle.flat_code.specs.OpCodes.{code_of as code_of_operation}
+use Rattle.flat_code.specs.OpCodes.{op_code_of as code_of_operation}
 use Rattle.flat_code.specs.declared.operations.Operation.TheVariants as operation
 use Rattle.flat_code.specs.declared.operations.EndOperation.TheVariants as ends_by
-use Rattle.flat_code.specs.Layout.{Cursor, Read, Layout, ended, given}
+use Rattle.flat_code.specs.Layout.{Cursor, ReadResult, Layout, reading_ended, reading_given}
 
 -- the ops that bytes begin with, one behind the other, and what is left; each op takes a byte at least
 abbrev pub cons_op : OpData → List OpData × List ℕ → List OpData × List ℕ
@@ -35,10 +35,10 @@ code_bytes [] = []
 code_bytes (op ∷ ops) = op_bytes op ++ code_bytes ops
 
 -- whether the last op is BE with the end mark
-abbrev pub ends : List OpData → Bool
-ends [] = false
-ends (op ∷ []) = op.code == code_of_operation (operation.End ends_by.Be) && op.last
-ends (op ∷ others) = ends others
+abbrev pub ends_by_be : List OpData → Bool
+ends_by_be [] = false
+ends_by_be (op ∷ []) = op.code == code_of_operation (operation.End ends_by.Be) && op.last
+ends_by_be (op ∷ others) = ends_by_be others
 
 -- the offset of the last op, behind ops that end at an offset
 abbrev pub last_place : ℕ → List OpData → ℕ
@@ -56,9 +56,9 @@ overlong count at [] = None
 overlong count at (op ∷ ops) = if count == most_ops then Some at else overlong (if op.last then 0 else suc count) (at + size op) ops
 
 -- the left one, if there is one, else the right one
-abbrev pub first_of : Option ℕ → Option ℕ → Option ℕ
-first_of None other = other
-first_of (Some at) other = Some at
+abbrev pub first_found : Option ℕ → Option ℕ → Option ℕ
+first_found None other = other
+first_found (Some at) other = Some at
 
 -- something where it is checked
 abbrev pub only : Bool → Option ℕ → Option ℕ
@@ -68,27 +68,27 @@ only false found = None
 -- 5: the 65th op of a statement; bytes that begin no op; ops of which the last isn't BE with the end
 -- mark (where there is none, the place where it would begin)
 abbrev pub stop_at : Bool → List OpData → List ℕ → Option ℕ
-stop_at judged ops [] = first_of (only judged (overlong 0 0 ops)) (only judged (if ends ops then None else Some (last_place 0 ops)))
-stop_at judged ops (byte ∷ left) = first_of (only judged (overlong 0 0 ops)) (Some (length (code_bytes ops)))
+stop_at with_code_faults ops [] = first_found (only with_code_faults (overlong 0 0 ops)) (only with_code_faults (if ends_by_be ops then None else Some (last_place 0 ops)))
+stop_at with_code_faults ops (byte ∷ left) = first_found (only with_code_faults (overlong 0 0 ops)) (Some (length (code_bytes ops)))
 
 -- the fault 5 of the code of a block
 abbrev pub code_fault : List OpData → Option ℕ
 code_fault ops = stop_at true ops []
 
 -- the code field: ops of these many bytes
-abbrev pub read_ops : Option ℕ → ℕ → List OpData → Cursor → Read (List OpData)
-read_ops None at ops end = given ops end
-read_ops (Some offset) at ops end = ended (at + offset) 5
+abbrev pub read_ops : Option ℕ → ℕ → List OpData → Cursor → ReadResult (List OpData)
+read_ops None at ops end = reading_given ops end
+read_ops (Some offset) at ops end = reading_ended (at + offset) 5
 
 -- a code field at offset `at`, of ops and of bytes left over: the ops, or the end by fault 5
-abbrev pub placed_ops : Bool → ℕ → List OpData × List ℕ → Cursor → Read (List OpData)
-placed_ops judged at r end = read_ops (stop_at judged r.0 r.1) at r.0 end
+abbrev pub ops_read : Bool → ℕ → List OpData × List ℕ → Cursor → ReadResult (List OpData)
+ops_read with_code_faults at r end = read_ops (stop_at with_code_faults r.0 r.1) at r.0 end
 
 -- a code field of n bytes: fault 3 where fewer are left, else the ops that they are, or fault 5
-abbrev pub read_code : Bool → ℕ → Cursor → Read (List OpData)
-read_code judged n cur =
-    if nat_lt (length cur.rest) n then ended cur.at 3
-    else placed_ops judged cur.at (ops_from n (take n cur.rest)) (record { at = cur.at + n; rest = drop n cur.rest })
+abbrev pub read_code : Bool → ℕ → Cursor → ReadResult (List OpData)
+read_code with_code_faults n cur =
+    if nat_lt (length cur.rest) n then reading_ended cur.at 3
+    else ops_read with_code_faults cur.at (ops_from n (take n cur.rest)) (record { at = cur.at + n; rest = drop n cur.rest })
 
 -- no offset was found, so there is no fault 5
 abbrev pub is_nowhere : Option ℕ → Bool
@@ -96,9 +96,9 @@ is_nowhere None = true
 is_nowhere (Some at) = false
 
 -- the code field of n bytes; with false the 65th op and a wrong last op are no faults
-unfoldable pub code_of : Bool → ℕ → Layout (List OpData)
-code_of judged n = record {
+unfoldable pub code_layout : Bool → ℕ → Layout (List OpData)
+code_layout with_code_faults n = record {
   spell = code_bytes;
-  good = λ ops. are_ops ops && is_nowhere (stop_at judged ops []) && length (code_bytes ops) == n;
-  read = read_code judged n;
+  good = λ ops. are_ops ops && is_nowhere (stop_at with_code_faults ops []) && length (code_bytes ops) == n;
+  read = read_code with_code_faults n;
 }

@@ -18,16 +18,16 @@ abbrev pub unless : Bool → ℕ → Option ℕ
 unless fine code = if fine then None else Some code
 
 -- a number from low to high, both included
-abbrev pub lies_within : ℕ → ℕ → ℕ → Bool
-lies_within low high n = nat_le low n && nat_le n high
+abbrev pub is_in_range : ℕ → ℕ → ℕ → Bool
+is_in_range low high n = nat_le low n && nat_le n high
 
 -- the organization blocks that there are
-abbrev pub is_ob_number : ℕ → Bool
-is_ob_number n = n == 1 || lies_within 10 17 n || lies_within 20 23 n || lies_within 30 38 n || lies_within 40 47 n || n == 80 || n == 85 || n == 100 || n == 121 || n == 122
+abbrev pub is_existing_ob : ℕ → Bool
+is_existing_ob n = n == 1 || is_in_range 10 17 n || is_in_range 20 23 n || is_in_range 30 38 n || is_in_range 40 47 n || n == 80 || n == 85 || n == 100 || n == 121 || n == 122
 
 -- the numbers of the code blocks of a kind
 abbrev pub has_number : ℕ → ℕ → Bool
-has_number kind n = if kind == kind_number kinds.Ob then is_ob_number n else nat_le n 2047
+has_number kind n = if kind == kind_number kinds.Ob then is_existing_ob n else nat_le n 2047
 
 -- a parameter of a function block lies within the instance, one of another block has no place
 abbrev pub holds_parameter : ℕ → ℕ → ℕ → ℕ → Bool
@@ -35,46 +35,46 @@ holds_parameter kind instance width byte =
     if kind == kind_number kinds.Fb then nat_le (byte + byte_count (width_of_number width)) instance else byte == 0
 
 -- the code of a field's fault, None where it has none; for the bytes of a name see `name_fault`
-unfoldable pub fault_of : Field → Option ℕ
+unfoldable pub field_fault : Field → Option ℕ
 -- 1: the magic is `S7FB`
-fault_of (field.Magic number) = unless (number == 0x53374642) 1
+field_fault (field.Magic number) = unless (number == 0x53374642) 1
 -- 2: the version is 1 or 2
-fault_of (field.Version number) = unless (number == 1 || number == 2) 2
+field_fault (field.Version number) = unless (number == 1 || number == 2) 2
 -- 4: the profile of version 2 is that of Small or Large; in version 1 the field is 0
-fault_of (field.Profile version number) = unless (if version == 2 then lies_within (profile_number profile.Small) (profile_number profile.Large) number else number == 0) 4
+field_fault (field.Profile version number) = unless (if version == 2 then is_in_range (profile_number profile.Small) (profile_number profile.Large) number else number == 0) 4
 -- 4: a reserved field is 0
-fault_of (field.Reserved number) = unless (number == 0) 4
+field_fault (field.Reserved number) = unless (number == 0) 4
 -- sizes, counts, kinds and numbers are within their limits, and records rise
-fault_of (field.DataBlockCount count) = unless (nat_le count 256) 4
-fault_of (field.Kind before kind) = unless (lies_within (kind_number kinds.Ob) (kind_number kinds.Fb) kind && nat_le before kind) 4
-fault_of (field.ParameterCount kind count) = unless (nat_le count 60 && (not (kind == kind_number kinds.Ob) || count == 0)) 4
-fault_of (field.Number kind_before before kind number) = unless (has_number kind number && (not (kind == kind_before) || nat_lt before number)) 4
-fault_of (field.LocalBytes kind bytes) = unless (nat_le bytes 1024 && (not (kind == kind_number kinds.Ob) || nat_le 20 bytes)) 4
-fault_of (field.InstanceBytes kind bytes) = unless (if kind == kind_number kinds.Fb then nat_le bytes 16384 else bytes == 0) 4
-fault_of (field.Section section) = unless (lies_within section_in section_in_out section) 4
-fault_of (field.Width width) = unless (lies_within (width_number widths.Bit) (width_number widths.Dword) width) 4
-fault_of (field.ParameterByte kind instance width byte) = unless (holds_parameter kind instance width byte) 4
-fault_of (field.ParameterBit kind bit) = unless (nat_le bit 7 && (kind == kind_number kinds.Fb || bit == 0)) 4
-fault_of (field.DataNumber before number) = unless (lies_within 1 2047 number && nat_lt before number) 4
-fault_of (field.InstanceOf number) = unless (nat_le number 2048) 4
-fault_of (field.DataBytes before bytes) = unless (nat_le bytes 16384 && nat_le (before + bytes) 2097152) 4
-fault_of (field.NameLength bytes) = unless (lies_within 1 24 bytes) 4
-fault_of (field.NameArea number) = unless (lies_within (area_code area.I) (area_code area.M) number) 4
-fault_of (field.NameBit width bit) = unless (nat_le bit 7 && (width == width_number widths.Bit || bit == 0)) 4
+field_fault (field.DataBlockCount count) = unless (nat_le count 256) 4
+field_fault (field.Kind before kind) = unless (is_in_range (kind_number kinds.Ob) (kind_number kinds.Fb) kind && nat_le before kind) 4
+field_fault (field.ParameterCount kind count) = unless (nat_le count 60 && (not (kind == kind_number kinds.Ob) || count == 0)) 4
+field_fault (field.Number kind_before before kind number) = unless (has_number kind number && (not (kind == kind_before) || nat_lt before number)) 4
+field_fault (field.LocalBytes kind bytes) = unless (nat_le bytes 1024 && (not (kind == kind_number kinds.Ob) || nat_le 20 bytes)) 4
+field_fault (field.InstanceBytes kind bytes) = unless (if kind == kind_number kinds.Fb then nat_le bytes 16384 else bytes == 0) 4
+field_fault (field.Section section) = unless (is_in_range section_in section_in_out section) 4
+field_fault (field.Width width) = unless (is_in_range (width_number widths.Bit) (width_number widths.Dword) width) 4
+field_fault (field.ParameterByte kind instance width byte) = unless (holds_parameter kind instance width byte) 4
+field_fault (field.ParameterBit kind bit) = unless (nat_le bit 7 && (kind == kind_number kinds.Fb || bit == 0)) 4
+field_fault (field.DataNumber before number) = unless (is_in_range 1 2047 number && nat_lt before number) 4
+field_fault (field.InstanceOf number) = unless (nat_le number 2048) 4
+field_fault (field.DataBytes before bytes) = unless (nat_le bytes 16384 && nat_le (before + bytes) 2097152) 4
+field_fault (field.NameLength bytes) = unless (is_in_range 1 24 bytes) 4
+field_fault (field.NameArea number) = unless (is_in_range (area_code area.I) (area_code area.M) number) 4
+field_fault (field.NameBit width bit) = unless (nat_le bit 7 && (width == width_number widths.Bit || bit == 0)) 4
 -- 9: as many statements as end marks; a line isn't 0, and none falls
-fault_of (field.StatementCount end_marks count) = unless (end_marks == count) 9
-fault_of (field.Line before line) = unless (not (line == 0) && nat_le before line) 9
+field_fault (field.StatementCount end_marks count) = unless (end_marks == count) 9
+field_fault (field.Line before line) = unless (not (line == 0) && nat_le before line) 9
 
 -- the order of names: by bytes, a name before those that it begins
-abbrev pub is_before : List ℕ → List ℕ → Bool
-is_before _ [] = false
-is_before [] (y ∷ ys) = true
-is_before (x ∷ xs) (y ∷ ys) = nat_lt x y || x == y && is_before xs ys
+abbrev pub is_earlier_name : List ℕ → List ℕ → Bool
+is_earlier_name _ [] = false
+is_earlier_name [] (y ∷ ys) = true
+is_earlier_name (x ∷ xs) (y ∷ ys) = nat_lt x y || x == y && is_earlier_name xs ys
 
 -- no lower-case letter of ASCII
 abbrev pub is_upper : List ℕ → Bool
 is_upper [] = true
-is_upper (x ∷ xs) = not (lies_within 97 122 x) && is_upper xs
+is_upper (x ∷ xs) = not (is_in_range 97 122 x) && is_upper xs
 
 -- whether the last byte is a blank
 abbrev pub ends_blank : List ℕ → Bool
@@ -84,4 +84,4 @@ ends_blank (x ∷ xs) = ends_blank xs
 
 -- 4: a name rises from the name before it, has no lower-case letter, and no blank at its end
 unfoldable pub name_fault : List ℕ → List ℕ → Option ℕ
-name_fault before name = unless (is_before before name && is_upper name && not (ends_blank name)) 4
+name_fault before name = unless (is_earlier_name before name && is_upper name && not (ends_blank name)) 4

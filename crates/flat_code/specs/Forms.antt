@@ -1,7 +1,7 @@
 -- The forms of operands: the payload of each, as the table of forms has it.
 use Rattle.std.specs.Prelude.{ℕ, nat_lt, ◌+◌, ◌-◌, ◌==◌, Bool, true, false, ◌||◌, if◌then◌else◌, List, [], ◌∷◌, Option, Some, None}
 use Rattle.std.specs.Option.{option_map}
-use Rattle.plc_base.specs.Pointer.{area_number, area_of}
+use Rattle.plc_base.specs.Pointer.{area_number, area_numbered}
 use Rattle.plc_base.specs.Widths.{width_number}
 use Rattle.plc_base.specs.declared.blocks.BlockKind.{BlockKind}
 use Rattle.plc_base.specs.declared.blocks.BlockKind.TheVariants as kind
@@ -13,7 +13,7 @@ use Rattle.flat_code.specs.declared.operands.Operand.{Operand}
 use Rattle.flat_code.specs.declared.operands.Operand.TheVariants as operand
 use Rattle.flat_code.specs.declared.operands.Passed.{Passed}
 use Rattle.flat_code.specs.declared.operands.Passed.TheVariants as passed
-use Rattle.flat_code.specs.Coding.{Coding, u8, u16, u32, named, such_that, within, then_coding}
+use Rattle.flat_code.specs.Coding.{Coding, u8, u16, u32, byte_coding, such_that, range_coding, then_coding}
 
 -- the byte that names an area in an image: 128 and its number, 128 P to 134 L
 abbrev pub area_code : Area → ℕ
@@ -21,7 +21,7 @@ area_code a = 128 + area_number a
 
 -- the area that a byte names: that of the number above 128; a byte below names none
 abbrev pub area_of_code : ℕ → Option Area
-area_of_code n = if nat_lt n 128 then None else area_of (n - 128)
+area_of_code n = if nat_lt n 128 then None else area_numbered (n - 128)
 
 -- the width that a byte names
 abbrev pub width_of_code : ℕ → Option Width
@@ -52,12 +52,12 @@ width_of_number n = or_bit (width_of_code n)
 
 -- areas, and those of them that a form takes
 abbrev pub any_area : Coding Area
-any_area = named area_code area_of_code
+any_area = byte_coding area_code area_of_code
 
 -- all but peripherals
-abbrev pub in_memory : Area → Bool
-in_memory area.P = false
-in_memory _ = true
+abbrev pub is_memory_area : Area → Bool
+is_memory_area area.P = false
+is_memory_area _ = true
 
 -- where a pointer may stand
 abbrev pub holds_pointers : Area → Bool
@@ -77,89 +77,89 @@ abbrev pub crossing_of_code : ℕ → Option (Option Area)
 crossing_of_code n = if n == 0 then Some None else option_map Some (area_of_code n)
 
 -- what form 04 takes: no area, or any but peripherals
-abbrev pub crosses : Option Area → Bool
-crosses None = true
-crosses (Some a) = in_memory a
+abbrev pub is_crossing_area : Option Area → Bool
+is_crossing_area None = true
+is_crossing_area (Some a) = is_memory_area a
 
 -- the area byte of form 04: 0, or 16#81 I to 16#86 L
 abbrev pub crossing : Coding (Option Area)
-crossing = such_that crosses (named crossing_code crossing_of_code)
+crossing = such_that is_crossing_area (byte_coding crossing_code crossing_of_code)
 
 -- a width byte, 1 to 4; a width that the instruction lacks is read too (fault 7)
 abbrev pub a_width : Coding Width
-a_width = named width_number width_of_code
+a_width = byte_coding width_number width_of_code
 
 -- 2 FC, 3 FB, 5 SFC
-abbrev pub is_callable : ℕ → Bool
-is_callable n = n == 2 || n == 3 || n == 5
+abbrev pub is_callable_number : ℕ → Bool
+is_callable_number n = n == 2 || n == 3 || n == 5
 
 -- the kind byte of a call; that of an OB (1) can't be read
 abbrev pub callable : Coding ℕ
-callable = such_that is_callable u8
+callable = such_that is_callable_number u8
 
 -- the payloads, in the order of the table of forms
-abbrev pub literal : Coding ℕ
-literal = u32
+abbrev pub literal_coding : Coding ℕ
+literal_coding = u32
 
 -- form 02: area, width, byte, and bit 0 to 7, whatever the width is
-unfoldable pub direct : Coding (Area × (Width × (ℕ × ℕ)))
-direct = then_coding any_area (then_coding a_width (then_coding u16 (within 0 7)))
+unfoldable pub direct_coding : Coding (Area × (Width × (ℕ × ℕ)))
+direct_coding = then_coding any_area (then_coding a_width (then_coding u16 (range_coding 0 7)))
 
 -- the area byte of form 03: 16#81 I to 16#86 L
 abbrev pub memory_area : Coding Area
-memory_area = such_that in_memory any_area
+memory_area = such_that is_memory_area any_area
 
 -- the area byte of a pointer, or of the word of a number: 16#83 M to 16#86 L
-abbrev pub pointer_area : Coding Area
-pointer_area = such_that holds_pointers any_area
+abbrev pub pointer_area_coding : Coding Area
+pointer_area_coding = such_that holds_pointers any_area
 
 -- form 03: area and width of the operand, then area and byte of its pointer in memory
 abbrev pub by_memory : Coding (Area × (Width × (Area × ℕ)))
-by_memory = then_coding memory_area (then_coding a_width (then_coding pointer_area u16))
+by_memory = then_coding memory_area (then_coding a_width (then_coding pointer_area_coding u16))
 
 -- form 04: area and width of the operand, address register 1 or 2, the offset in bits
-abbrev pub by_register : Coding (Option Area × (Width × (ℕ × ℕ)))
-by_register = then_coding crossing (then_coding a_width (then_coding (within 1 2) u32))
+abbrev pub register_coding : Coding (Option Area × (Width × (ℕ × ℕ)))
+register_coding = then_coding crossing (then_coding a_width (then_coding (range_coding 1 2) u32))
 
 -- form 05: the index of the function's parameter, from 0, and the width
-abbrev pub parameter : Coding (ℕ × Width)
-parameter = then_coding u8 a_width
+abbrev pub parameter_coding : Coding (ℕ × Width)
+parameter_coding = then_coding u8 a_width
 
 -- form 06: 1 timer or 2 counter, and its number, 0 to 65,535
-abbrev pub numbered : Coding (ℕ × ℕ)
-numbered = then_coding (within 1 2) u16
+abbrev pub numbered_coding : Coding (ℕ × ℕ)
+numbered_coding = then_coding (range_coding 1 2) u16
 
 -- form 07: 1 timer or 2 counter, then area and byte of the word that has its number
-abbrev pub numbered_by : Coding (ℕ × (Area × ℕ))
-numbered_by = then_coding (within 1 2) (then_coding pointer_area u16)
+abbrev pub numbered_by_coding : Coding (ℕ × (Area × ℕ))
+numbered_by_coding = then_coding (range_coding 1 2) (then_coding pointer_area_coding u16)
 
 -- form 08: the kind, 0 JU to 17 LOOP, and the target as a byte offset in the block's code
 abbrev pub jump : Coding (ℕ × ℕ)
-jump = then_coding (within 0 17) u32
+jump = then_coding (range_coding 0 17) u32
 
 -- form 09: a condition of the status word, 1 BR to 10 UO
 abbrev pub of_status : Coding ℕ
-of_status = within 1 10
+of_status = range_coding 1 10
 
 -- form 0A: the number of the data block that the statement opens first
 abbrev pub use_db : Coding ℕ
 use_db = u16
 
 -- form 0D: kind and number of the block that is called, and the number of its instance, or 0
-abbrev pub called : Coding (ℕ × (ℕ × ℕ))
-called = then_coding callable (then_coding u16 u16)
+abbrev pub called_coding : Coding (ℕ × (ℕ × ℕ))
+called_coding = then_coding callable (then_coding u16 u16)
 
 -- form 0E: 1 DB or 2 DI, the register, and the number of the data block to open
 abbrev pub open_block : Coding (ℕ × ℕ)
-open_block = then_coding (within 1 2) u16
+open_block = then_coding (range_coding 1 2) u16
 
 -- form 0F: 1 DB or 2 DI, the register, then area and byte of the word that has the number
 abbrev pub open_by : Coding (ℕ × (Area × ℕ))
-open_by = then_coding (within 1 2) (then_coding pointer_area u16)
+open_by = then_coding (range_coding 1 2) (then_coding pointer_area_coding u16)
 
 -- form 0C, only inside 0B: the number of a data block, and a place in it as in form 02
-abbrev pub in_block : Coding (ℕ × (Area × (Width × (ℕ × ℕ))))
-in_block = then_coding u16 direct
+abbrev pub in_block_coding : Coding (ℕ × (Area × (Width × (ℕ × ℕ))))
+in_block_coding = then_coding u16 direct_coding
 
 -- what a payload reads as
 abbrev pub read_as : {A B : Type 0} → (A → B) → Coding A → List ℕ → Option (B × List ℕ)
@@ -167,42 +167,42 @@ read_as make c bytes = option_map (λ r. (make r.0, r.1)) (c.read bytes)
 
 -- what a CALL passes: a form byte and its payload
 abbrev pub actual_fits : Passed → Bool
-actual_fits (passed.Literal value) = literal.fits value
-actual_fits (passed.Direct area width byte bit) = direct.fits (area, (width, (byte, bit)))
-actual_fits (passed.Parameter index width) = parameter.fits (index, width)
+actual_fits (passed.Literal value) = literal_coding.fits value
+actual_fits (passed.Direct area width byte bit) = direct_coding.fits (area, (width, (byte, bit)))
+actual_fits (passed.Parameter index width) = parameter_coding.fits (index, width)
 actual_fits (passed.InBlock number area width byte bit) =
-    in_block.fits (number, (area, (width, (byte, bit))))
+    in_block_coding.fits (number, (area, (width, (byte, bit))))
 
 -- what is passed, as bytes: the form byte 01, 02, 05 or 0C, and the payload of this form
 abbrev pub actual_spelled : Passed → List ℕ
-actual_spelled (passed.Literal value) = 1 ∷ literal.spell value
-actual_spelled (passed.Direct area width byte bit) = 2 ∷ direct.spell (area, (width, (byte, bit)))
-actual_spelled (passed.Parameter index width) = 5 ∷ parameter.spell (index, width)
+actual_spelled (passed.Literal value) = 1 ∷ literal_coding.spell value
+actual_spelled (passed.Direct area width byte bit) = 2 ∷ direct_coding.spell (area, (width, (byte, bit)))
+actual_spelled (passed.Parameter index width) = 5 ∷ parameter_coding.spell (index, width)
 actual_spelled (passed.InBlock number area width byte bit) =
-    12 ∷ in_block.spell (number, (area, (width, (byte, bit))))
+    12 ∷ in_block_coding.spell (number, (area, (width, (byte, bit))))
 
 -- what is passed, by its form byte and the bytes behind; None for another form or payload
 abbrev pub actual_in : ℕ → List ℕ → Option (Passed × List ℕ)
 actual_in n bytes =
-    if n == 1 then read_as passed.Literal literal bytes
-    else if n == 2 then read_as (λ x. passed.Direct x.0 x.1.0 x.1.1.0 x.1.1.1) direct bytes
-    else if n == 5 then read_as (λ x. passed.Parameter x.0 x.1) parameter bytes
+    if n == 1 then read_as passed.Literal literal_coding bytes
+    else if n == 2 then read_as (λ x. passed.Direct x.0 x.1.0 x.1.1.0 x.1.1.1) direct_coding bytes
+    else if n == 5 then read_as (λ x. passed.Parameter x.0 x.1) parameter_coding bytes
     else if n == 12 then
-    read_as (λ x. passed.InBlock x.0 x.1.0 x.1.1.0 x.1.1.1.0 x.1.1.1.1) in_block bytes
+    read_as (λ x. passed.InBlock x.0 x.1.0 x.1.1.0 x.1.1.1.0 x.1.1.1.1) in_block_coding bytes
     else None
 
 -- what is passed, from its form byte on; None where there are no bytes at all
-abbrev pub actual_at : List ℕ → Option (Passed × List ℕ)
-actual_at [] = None
-actual_at (n ∷ rest) = actual_in n rest
+abbrev pub passed_at : List ℕ → Option (Passed × List ℕ)
+passed_at [] = None
+passed_at (n ∷ rest) = actual_in n rest
 
 -- what is passed, as a field: its form byte and payload
-unfoldable pub actual : Coding Passed
-actual = record { fits = actual_fits; spell = actual_spelled; read = actual_at }
+unfoldable pub passed_coding : Coding Passed
+passed_coding = record { fits = actual_fits; spell = actual_spelled; read = passed_at }
 
 -- form 0B: the index of the parameter of the called block, from 0, and what is passed for it
 abbrev pub pass : Coding (ℕ × Passed)
-pass = then_coding u8 actual
+pass = then_coding u8 passed_coding
 
 -- an op of form 0B behind its first byte
 abbrev pub passes : ℕ → Passed → List ℕ
@@ -229,38 +229,38 @@ form_of_operand (operand.OpenBy register from byte) = 15
 -- each number of the operand is in the range of its form; form 00 has none
 abbrev pub payload_fits : Operand → Bool
 payload_fits operand.Nothing = true
-payload_fits (operand.Literal value) = literal.fits value
-payload_fits (operand.Direct area width byte bit) = direct.fits (area, (width, (byte, bit)))
+payload_fits (operand.Literal value) = literal_coding.fits value
+payload_fits (operand.Direct area width byte bit) = direct_coding.fits (area, (width, (byte, bit)))
 payload_fits (operand.ByMemory area width from byte) = by_memory.fits (area, (width, (from, byte)))
 payload_fits (operand.ByRegister area width register bits) =
-    by_register.fits (area, (width, (register, bits)))
-payload_fits (operand.Parameter index width) = parameter.fits (index, width)
-payload_fits (operand.Numbered kind number) = numbered.fits (kind, number)
-payload_fits (operand.NumberedBy kind from byte) = numbered_by.fits (kind, (from, byte))
+    register_coding.fits (area, (width, (register, bits)))
+payload_fits (operand.Parameter index width) = parameter_coding.fits (index, width)
+payload_fits (operand.Numbered kind number) = numbered_coding.fits (kind, number)
+payload_fits (operand.NumberedBy kind from byte) = numbered_by_coding.fits (kind, (from, byte))
 payload_fits (operand.Jump kind target) = jump.fits (kind, target)
 payload_fits (operand.OfStatus condition) = of_status.fits condition
 payload_fits (operand.UseDb number) = use_db.fits number
 payload_fits (operand.Pass index actual) = pass.fits (index, actual)
-payload_fits (operand.Called kind number instance) = called.fits (kind, (number, instance))
+payload_fits (operand.Called kind number instance) = called_coding.fits (kind, (number, instance))
 payload_fits (operand.OpenBlock register number) = open_block.fits (register, number)
 payload_fits (operand.OpenBy register from byte) = open_by.fits (register, (from, byte))
 
 -- the bytes of an operand behind its form byte; form 00 has none
 abbrev pub payload : Operand → List ℕ
 payload operand.Nothing = []
-payload (operand.Literal value) = literal.spell value
-payload (operand.Direct area width byte bit) = direct.spell (area, (width, (byte, bit)))
+payload (operand.Literal value) = literal_coding.spell value
+payload (operand.Direct area width byte bit) = direct_coding.spell (area, (width, (byte, bit)))
 payload (operand.ByMemory area width from byte) = by_memory.spell (area, (width, (from, byte)))
 payload (operand.ByRegister area width register bits) =
-    by_register.spell (area, (width, (register, bits)))
-payload (operand.Parameter index width) = parameter.spell (index, width)
-payload (operand.Numbered kind number) = numbered.spell (kind, number)
-payload (operand.NumberedBy kind from byte) = numbered_by.spell (kind, (from, byte))
+    register_coding.spell (area, (width, (register, bits)))
+payload (operand.Parameter index width) = parameter_coding.spell (index, width)
+payload (operand.Numbered kind number) = numbered_coding.spell (kind, number)
+payload (operand.NumberedBy kind from byte) = numbered_by_coding.spell (kind, (from, byte))
 payload (operand.Jump kind target) = jump.spell (kind, target)
 payload (operand.OfStatus condition) = of_status.spell condition
 payload (operand.UseDb number) = use_db.spell number
 payload (operand.Pass index actual) = pass.spell (index, actual)
-payload (operand.Called kind number instance) = called.spell (kind, (number, instance))
+payload (operand.Called kind number instance) = called_coding.spell (kind, (number, instance))
 payload (operand.OpenBlock register number) = open_block.spell (register, number)
 payload (operand.OpenBy register from byte) = open_by.spell (register, (from, byte))
 
@@ -269,19 +269,19 @@ payload (operand.OpenBy register from byte) = open_by.spell (register, (from, by
 unfoldable pub payload_in : ℕ → List ℕ → Option (Operand × List ℕ)
 payload_in n bytes =
     if n == 0 then Some (operand.Nothing, bytes)
-    else if n == 1 then read_as operand.Literal literal bytes
-    else if n == 2 then read_as (λ x. operand.Direct x.0 x.1.0 x.1.1.0 x.1.1.1) direct bytes
+    else if n == 1 then read_as operand.Literal literal_coding bytes
+    else if n == 2 then read_as (λ x. operand.Direct x.0 x.1.0 x.1.1.0 x.1.1.1) direct_coding bytes
     else if n == 3 then read_as (λ x. operand.ByMemory x.0 x.1.0 x.1.1.0 x.1.1.1) by_memory bytes
     else if n == 4 then
-    read_as (λ x. operand.ByRegister x.0 x.1.0 x.1.1.0 x.1.1.1) by_register bytes
-    else if n == 5 then read_as (λ x. operand.Parameter x.0 x.1) parameter bytes
-    else if n == 6 then read_as (λ x. operand.Numbered x.0 x.1) numbered bytes
-    else if n == 7 then read_as (λ x. operand.NumberedBy x.0 x.1.0 x.1.1) numbered_by bytes
+    read_as (λ x. operand.ByRegister x.0 x.1.0 x.1.1.0 x.1.1.1) register_coding bytes
+    else if n == 5 then read_as (λ x. operand.Parameter x.0 x.1) parameter_coding bytes
+    else if n == 6 then read_as (λ x. operand.Numbered x.0 x.1) numbered_coding bytes
+    else if n == 7 then read_as (λ x. operand.NumberedBy x.0 x.1.0 x.1.1) numbered_by_coding bytes
     else if n == 8 then read_as (λ x. operand.Jump x.0 x.1) jump bytes
     else if n == 9 then read_as operand.OfStatus of_status bytes
     else if n == 10 then read_as operand.UseDb use_db bytes
     else if n == 11 then read_as (λ x. operand.Pass x.0 x.1) pass bytes
-    else if n == 13 then read_as (λ x. operand.Called x.0 x.1.0 x.1.1) called bytes
+    else if n == 13 then read_as (λ x. operand.Called x.0 x.1.0 x.1.1) called_coding bytes
     else if n == 14 then read_as (λ x. operand.OpenBlock x.0 x.1) open_block bytes
     else if n == 15 then read_as (λ x. operand.OpenBy x.0 x.1.0 x.1.1) open_by bytes
     else None

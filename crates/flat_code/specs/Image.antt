@@ -14,35 +14,35 @@ use Rattle.flat_code.specs.Forms.{area_code, area_of_code, kind_of_code, width_o
 use Rattle.flat_code.specs.Ops.{OpData}
 use Rattle.flat_code.specs.Programs.{CodeBlock, DataBlock, NameEntry, Program}
 use Rattle.flat_code.specs.Records.{BlockRecord, NameRecord, Records}
-use Rattle.flat_code.specs.Faults.{fault_of, name_fault}
+use Rattle.flat_code.specs.Faults.{field_fault, name_fault}
 use Rattle.flat_code.specs.Stamps.{version_number, profile_field_of, stamp_of}
 use Rattle.flat_code.specs.declared.stamps.Stamp.{Stamp}
-use Rattle.flat_code.specs.Layout.{Note, Faulty, Whole, AllBlocks, Cursor, Read, Layout, ended, bind, field, chain, checked, located, many, seen_as, remembered}
-use Rattle.flat_code.specs.Codes.{code_bytes, code_of, only}
+use Rattle.flat_code.specs.Layout.{Note, Faulty, Whole, AllBlocks, Cursor, ReadResult, Layout, reading_ended, bind, field, chain, checked_layout, located_layout, many, seen_as, noted_layout}
+use Rattle.flat_code.specs.Codes.{code_bytes, code_layout, only}
 
 -- a field that is checked later, or not at all
-abbrev pub plain : ℕ → Option ℕ
-plain n = None
+abbrev pub no_fault : ℕ → Option ℕ
+no_fault n = None
 
 -- any u16: statement count, counts of code blocks and names, byte of a name
 unfoldable pub plain_u16 : Layout ℕ
-plain_u16 = field u16 plain
+plain_u16 = field u16 no_fault
 
 -- any u32: code length, total length
 unfoldable pub plain_u32 : Layout ℕ
-plain_u32 = field u32 plain
+plain_u32 = field u32 no_fault
 
 -- the reserved byte of a parameter: 0, else fault 4
 unfoldable pub zero_u8 : Layout ℕ
-zero_u8 = field u8 (λ n. fault_of (field_of.Reserved n))
+zero_u8 = field u8 (λ n. field_fault (field_of.Reserved n))
 
 -- a reserved u16 of the counts, a code block's head or a data block: 0, else fault 4
 unfoldable pub zero_u16 : Layout ℕ
-zero_u16 = field u16 (λ n. fault_of (field_of.Reserved n))
+zero_u16 = field u16 (λ n. field_fault (field_of.Reserved n))
 
 -- the width of a parameter, or of a name's variable: 1 to 4, else fault 4
 unfoldable pub width_field : Layout ℕ
-width_field = field u8 (λ n. fault_of (field_of.Width n))
+width_field = field u8 (λ n. field_fault (field_of.Width n))
 
 -- each number is a byte, below 256
 abbrev pub bytes_fit : List ℕ → Bool
@@ -55,15 +55,15 @@ bytes n = record { fits = λ bs. length bs == n && bytes_fit bs; spell = λ bs. 
 
 -- PARAMETER: section u8, width u8, byte u16, bit u8, zero u8
 unfoldable pub section_field : Layout ℕ
-section_field = field u8 (λ n. fault_of (field_of.Section n))
+section_field = field u8 (λ n. field_fault (field_of.Section n))
 
 -- the byte of a parameter: with its width inside the instance bytes of an FB, 0 in an FC
 unfoldable pub parameter_byte : ℕ → ℕ → ℕ → Layout ℕ
-parameter_byte kind instance w = field u16 (λ n. fault_of (field_of.ParameterByte kind instance w n))
+parameter_byte kind instance w = field u16 (λ n. field_fault (field_of.ParameterByte kind instance w n))
 
 -- the bit of a parameter: 0 to 7 in an FB, whatever the width is, and 0 in an FC
 unfoldable pub parameter_bit : ℕ → Layout ℕ
-parameter_bit kind = field u8 (λ n. fault_of (field_of.ParameterBit kind n))
+parameter_bit kind = field u8 (λ n. field_fault (field_of.ParameterBit kind n))
 
 -- the fields of a parameter
 pub record ParameterFields : Type 0 where
@@ -102,29 +102,29 @@ abbrev pub fields_of_parameter : ParameterRecord → ParameterFields
 fields_of_parameter p = record { section = p.section; width = p.width; byte = p.byte; bit = p.bit; reserved = 0 }
 
 -- the six bytes of a parameter as its record
-unfoldable pub parameter : ℕ → ℕ → Layout ParameterRecord
-parameter kind instance = seen_as (λ r. parameter_of_fields (parameter_fields r)) (λ p. parameter_row (fields_of_parameter p)) (parameter_rows kind instance)
+unfoldable pub parameter_layout : ℕ → ℕ → Layout ParameterRecord
+parameter_layout kind instance = seen_as (λ r. parameter_of_fields (parameter_fields r)) (λ p. parameter_row (fields_of_parameter p)) (parameter_rows kind instance)
 
 -- HEAD OF A CODE BLOCK: kind u8, parameter count u8, number u16, local bytes u16, instance bytes u16,
 -- statement count u16, zero u16, code length u32. `before` has kind and number of the block before, 0 and 0 for none
 unfoldable pub kind_field : ℕ → Layout ℕ
-kind_field before = field u8 (λ n. fault_of (field_of.Kind before n))
+kind_field before = field u8 (λ n. field_fault (field_of.Kind before n))
 
 -- the parameter count: at most 60, and 0 for an OB, else fault 4
-unfoldable pub parameter_count : ℕ → Layout ℕ
-parameter_count kind = field u8 (λ n. fault_of (field_of.ParameterCount kind n))
+unfoldable pub parameter_count_layout : ℕ → Layout ℕ
+parameter_count_layout kind = field u8 (λ n. field_fault (field_of.ParameterCount kind n))
 
 -- a number that this kind has, above that of the block before where it has the same kind
-unfoldable pub block_number : ℕ → ℕ → ℕ → Layout ℕ
-block_number kind_before before kind = field u16 (λ n. fault_of (field_of.Number kind_before before kind n))
+unfoldable pub block_number_layout : ℕ → ℕ → ℕ → Layout ℕ
+block_number_layout kind_before before kind = field u16 (λ n. field_fault (field_of.Number kind_before before kind n))
 
 -- the local bytes: at most 1,024; at least 20 for an OB, which has its start information there
-unfoldable pub local_bytes : ℕ → Layout ℕ
-local_bytes kind = field u16 (λ n. fault_of (field_of.LocalBytes kind n))
+unfoldable pub local_length_layout : ℕ → Layout ℕ
+local_length_layout kind = field u16 (λ n. field_fault (field_of.LocalBytes kind n))
 
 -- the instance bytes: at most 16,384 for an FB, and 0 for another block
 unfoldable pub instance_bytes : ℕ → Layout ℕ
-instance_bytes kind = field u16 (λ n. fault_of (field_of.InstanceBytes kind n))
+instance_bytes kind = field u16 (λ n. field_fault (field_of.InstanceBytes kind n))
 
 -- the head of a code block
 pub record Head : Type 0 where
@@ -162,16 +162,16 @@ row_of_head h = (h.kind, (h.parameter_count, (h.number, (h.local_bytes, (h.insta
 unfoldable pub head_rows : ℕ × ℕ → Layout HeadRow
 head_rows before =
     chain (kind_field before.0) (λ kind.
-    chain (parameter_count kind) (λ params.
-    chain (block_number before.0 before.1 kind) (λ number.
-    chain (local_bytes kind) (λ locals.
+    chain (parameter_count_layout kind) (λ params.
+    chain (block_number_layout before.0 before.1 kind) (λ number.
+    chain (local_length_layout kind) (λ locals.
     chain (instance_bytes kind) (λ instance.
     chain plain_u16 (λ statements.
     chain zero_u16 (λ zero. plain_u32)))))))
 
 -- the same bytes as a head
-unfoldable pub head : ℕ × ℕ → Layout Head
-head before = seen_as head_of_row row_of_head (head_rows before)
+unfoldable pub head_layout : ℕ × ℕ → Layout Head
+head_layout before = seen_as head_of_row row_of_head (head_rows before)
 
 -- PARAMETERS
 -- what stands before a parameter says nothing about the next
@@ -180,7 +180,7 @@ same_state s p = s
 
 -- as many parameters as the head counts, by its kind and instance bytes
 unfoldable pub parameters : Head → Layout (List ParameterRecord)
-parameters h = many (λ s. parameter h.kind h.instance_bytes) same_state 0 h.parameter_count
+parameters h = many (λ s. parameter_layout h.kind h.instance_bytes) same_state 0 h.parameter_count
 
 -- LINES, u32 each; the statement count at `start` + 8 is checked now, as the code is known
 -- how many ops have the end mark: the number of statements, where the code ends with one
@@ -194,17 +194,17 @@ line_after before line = line
 
 -- a line: not 0, nor below the line `before` (0 for none), else fault 9; with false any u32
 unfoldable pub line_field : Bool → ℕ → Layout ℕ
-line_field judged before = field u32 (λ n. only judged (fault_of (field_of.Line before n)))
+line_field with_code_faults before = field u32 (λ n. only with_code_faults (field_fault (field_of.Line before n)))
 
 -- as many lines as the head counts; with true, fault 9 if other than the number of end marks
-unfoldable pub lines_of : Bool → ℕ → Head → List OpData → Layout (List ℕ)
-lines_of judged start h ops =
-    checked (start + 8) (only judged (fault_of (field_of.StatementCount (end_marks ops) h.statement_count)))
-    (many (line_field judged) line_after 0 h.statement_count)
+unfoldable pub lines_layout : Bool → ℕ → Head → List OpData → Layout (List ℕ)
+lines_layout with_code_faults start h ops =
+    checked_layout (start + 8) (only with_code_faults (field_fault (field_of.StatementCount (end_marks ops) h.statement_count)))
+    (many (line_field with_code_faults) line_after 0 h.statement_count)
 
 -- CODE BLOCK: head, parameters, code, lines
 unfoldable pub code_and_lines : Bool → ℕ → Head → Layout (List OpData × List ℕ)
-code_and_lines judged start h = chain (code_of judged h.code_length) (lines_of judged start h)
+code_and_lines with_code_faults start h = chain (code_layout with_code_faults h.code_length) (lines_layout with_code_faults start h)
 
 -- the parts of a code block
 pub record BlockParts : Type 0 where
@@ -227,7 +227,7 @@ row_of_block_parts p = (p.head, (p.params, (p.code, p.lines)))
 
 -- the layout of a row from offset `start` on, behind a block of kind and number `before`
 unfoldable pub block_rows : Bool → ℕ × ℕ → ℕ → Layout BlockRow
-block_rows judged before start = chain (head before) (λ h. chain (parameters h) (λ params. code_and_lines judged start h))
+block_rows with_code_faults before start = chain (head_layout before) (λ h. chain (parameters h) (λ params. code_and_lines with_code_faults start h))
 
 -- the record without counts, code length and reserved field: the lists are as long as they say
 abbrev pub block_of_parts : BlockParts → BlockRecord
@@ -252,19 +252,19 @@ parts_of_block b = record { head = head_of_block b; params = b.params; code = b.
 
 -- the bytes of a code block as its record
 unfoldable pub plain_block : Bool → ℕ × ℕ → ℕ → Layout BlockRecord
-plain_block judged before start = seen_as (λ r. block_of_parts (parts_of_block_row r)) (λ b. row_of_block_parts (parts_of_block b)) (block_rows judged before start)
+plain_block with_code_faults before start = seen_as (λ r. block_of_parts (parts_of_block_row r)) (λ b. row_of_block_parts (parts_of_block b)) (block_rows with_code_faults before start)
 
 -- a block that was read whole is noted, with the offset at which its code begins
-abbrev pub whole_at : ℕ → BlockRecord → Note
-whole_at start b = Whole (start + 16 + 6 * length b.params) b
+abbrev pub whole_note : ℕ → BlockRecord → Note
+whole_note start b = Whole (start + 16 + 6 * length b.params) b
 
 -- a code block at offset `start`, noted once it was read whole, so that 6 to 8 are checked
 abbrev pub code_block_at : Bool → ℕ × ℕ → ℕ → Layout BlockRecord
-code_block_at judged before start = remembered (whole_at start) (plain_block judged before start)
+code_block_at with_code_faults before start = noted_layout (whole_note start) (plain_block with_code_faults before start)
 
 -- a code block wherever it begins, behind one of kind and number `before`
-unfoldable pub code_block : Bool → ℕ × ℕ → Layout BlockRecord
-code_block judged before = located (code_block_at judged before)
+unfoldable pub code_block_layout : Bool → ℕ × ℕ → Layout BlockRecord
+code_block_layout with_code_faults before = located_layout (code_block_at with_code_faults before)
 
 -- what stands before the next block: this one, by kind and number
 abbrev pub after_block : ℕ × ℕ → BlockRecord → ℕ × ℕ
@@ -272,16 +272,16 @@ after_block before b = (b.kind, b.number)
 
 -- DATA BLOCK: number u16, FB number of an instance plus 1 or 0 u16, length u16, zero u16, bytes.
 -- `before` has the number of the block before, 0 for none, and the bytes of all before together
-unfoldable pub data_number : ℕ → Layout ℕ
-data_number before = field u16 (λ n. fault_of (field_of.DataNumber before n))
+unfoldable pub data_number_layout : ℕ → Layout ℕ
+data_number_layout before = field u16 (λ n. field_fault (field_of.DataNumber before n))
 
 -- 0, or the number of an FB plus 1, so at most 2,048; that there is this FB isn't tested
 unfoldable pub instance_field : Layout ℕ
-instance_field = field u16 (λ n. fault_of (field_of.InstanceOf n))
+instance_field = field u16 (λ n. field_fault (field_of.InstanceOf n))
 
 -- at most 16,384, and at most 2,097,152 together with the bytes `before` of earlier blocks
-unfoldable pub data_len : ℕ → Layout ℕ
-data_len before = field u16 (λ n. fault_of (field_of.DataBytes before n))
+unfoldable pub data_length_layout : ℕ → Layout ℕ
+data_length_layout before = field u16 (λ n. field_fault (field_of.DataBytes before n))
 
 -- the n bytes of a data block, of any values
 unfoldable pub contents : ℕ → Layout (List ℕ)
@@ -310,9 +310,9 @@ data_row f = (f.number, (f.instance, (f.length, (f.reserved, f.bytes))))
 -- the layout of a row, behind a block of number `before.0` and bytes `before.1` in all
 unfoldable pub data_rows : ℕ × ℕ → Layout DataRow
 data_rows before =
-    chain (data_number before.0) (λ number.
+    chain (data_number_layout before.0) (λ number.
     chain instance_field (λ instance.
-    chain (data_len before.1) (λ n.
+    chain (data_length_layout before.1) (λ n.
     chain zero_u16 (λ zero. contents n))))
 
 -- 0 is no instance, and n + 1 one of FB n, so that FB 0 has instances too
@@ -334,8 +334,8 @@ abbrev pub fields_of_data : DataBlock → DataFields
 fields_of_data d = record { number = d.number; instance = number_of_instance d.instance_of; length = length d.bytes; reserved = 0; bytes = d.bytes }
 
 -- the bytes of a data block as its record
-unfoldable pub data_block : ℕ × ℕ → Layout DataBlock
-data_block before = seen_as (λ r. data_of_fields (data_fields r)) (λ d. data_row (fields_of_data d)) (data_rows before)
+unfoldable pub data_block_layout : ℕ × ℕ → Layout DataBlock
+data_block_layout before = seen_as (λ r. data_of_fields (data_fields r)) (λ d. data_row (fields_of_data d)) (data_rows before)
 
 -- what stands before the next block: this one, by number, and the bytes of all so far
 abbrev pub after_data : ℕ × ℕ → DataBlock → ℕ × ℕ
@@ -343,7 +343,7 @@ after_data before d = (d.number, before.1 + length d.bytes)
 
 -- NAME: length u8, bytes, area u8, width u8, byte u16, bit u8. `before` is the name before, empty for none
 unfoldable pub name_len : Layout ℕ
-name_len = field u8 (λ n. fault_of (field_of.NameLength n))
+name_len = field u8 (λ n. field_fault (field_of.NameLength n))
 
 -- n bytes: above those of the name `before`, without a to z, without blank at the end
 unfoldable pub name_bytes : List ℕ → ℕ → Layout (List ℕ)
@@ -351,11 +351,11 @@ name_bytes before n = field (bytes n) (name_fault before)
 
 -- the area of a name's variable: 16#81 I, 16#82 Q, 16#83 M, else fault 4
 unfoldable pub name_area : Layout ℕ
-name_area = field u8 (λ n. fault_of (field_of.NameArea n))
+name_area = field u8 (λ n. field_fault (field_of.NameArea n))
 
 -- the bit of a name's variable: 0 to 7 where its width w is 1, else 0
 unfoldable pub name_bit : ℕ → Layout ℕ
-name_bit w = field u8 (λ n. fault_of (field_of.NameBit w n))
+name_bit w = field u8 (λ n. field_fault (field_of.NameBit w n))
 
 -- the fields of a name
 pub record NameFields : Type 0 where
@@ -405,7 +405,7 @@ after_name before n = n.name
 
 -- ALL BEHIND THE TOTAL LENGTH: count of code blocks u16, of data blocks u16, of names u16, zero u16; the records
 unfoldable pub data_count : Layout ℕ
-data_count = field u16 (λ n. fault_of (field_of.DataBlockCount n))
+data_count = field u16 (λ n. field_fault (field_of.DataBlockCount n))
 
 -- how many records of each kind there are
 pub record Counts : Type 0 where
@@ -431,20 +431,20 @@ unfoldable pub count_rows : Layout CountRow
 count_rows = chain plain_u16 (λ codes. chain data_count (λ datas. chain plain_u16 (λ names. zero_u16)))
 
 -- the same bytes as counts
-unfoldable pub counts : Layout Counts
-counts = seen_as counts_of_row row_of_counts count_rows
+unfoldable pub counts_layout : Layout Counts
+counts_layout = seen_as counts_of_row row_of_counts count_rows
 
 -- n code blocks, the first behind none
 unfoldable pub code_blocks : Bool → ℕ → Layout (List BlockRecord)
-code_blocks judged n = many (code_block judged) after_block (0, 0) n
+code_blocks with_code_faults n = many (code_block_layout with_code_faults) after_block (0, 0) n
 
 -- n data blocks, the first behind none
 abbrev pub plain_data_blocks : ℕ → Layout (List DataBlock)
-plain_data_blocks n = many data_block after_data (0, 0) n
+plain_data_blocks n = many data_block_layout after_data (0, 0) n
 
 -- that all blocks were read is noted
-unfoldable pub data_blocks : ℕ → Layout (List DataBlock)
-data_blocks n = remembered AllBlocks (plain_data_blocks n)
+unfoldable pub data_blocks_layout : ℕ → Layout (List DataBlock)
+data_blocks_layout n = noted_layout AllBlocks (plain_data_blocks n)
 
 -- n names, the first behind none
 unfoldable pub names : ℕ → Layout (List NameRecord)
@@ -469,9 +469,9 @@ parts_of_body_row r = record { counts = r.0; code_blocks = r.1.0; data_blocks = 
 abbrev pub row_of_body_parts : BodyParts → BodyRow
 row_of_body_parts p = (p.counts, (p.code_blocks, (p.data_blocks, p.names)))
 
--- judged: the faults of code and lines (5 and 9) too
+-- with_code_faults: the faults of code and lines (5 and 9) too
 unfoldable pub body_rows : Bool → Layout BodyRow
-body_rows judged = chain counts (λ c. chain (code_blocks judged c.code_blocks) (λ blocks. chain (data_blocks c.data_blocks) (λ datas. names c.names)))
+body_rows with_code_faults = chain counts_layout (λ c. chain (code_blocks with_code_faults c.code_blocks) (λ blocks. chain (data_blocks_layout c.data_blocks) (λ datas. names c.names)))
 
 -- the records without the counts: the lists are as long as these say
 abbrev pub records_of_parts : BodyParts → Records
@@ -487,7 +487,7 @@ parts_of_records r = record { counts = counts_of r; code_blocks = r.code_blocks;
 
 -- the records of an image, with their counts before them
 unfoldable pub records : Bool → Layout Records
-records judged = seen_as (λ r. records_of_parts (parts_of_body_row r)) (λ r. row_of_body_parts (parts_of_records r)) (body_rows judged)
+records with_code_faults = seen_as (λ r. records_of_parts (parts_of_body_row r)) (λ r. row_of_body_parts (parts_of_records r)) (body_rows with_code_faults)
 
 -- the kind where an image has blocks of code of it: OB, FC or FB; a data type in place of the others
 abbrev pub or_type : Option BlockKind → BlockKind
@@ -519,8 +519,8 @@ number_of_area zero area.M = area_code area.M
 number_of_area _ _ = 0
 
 -- a parameter of a program by its record; the section stays a number, 1 IN, 2 OUT, 3 IN_OUT
-abbrev pub param_of : ParameterRecord → Param
-param_of p = record { section = p.section; width = width_of_number p.width; byte = p.byte; bit = p.bit }
+abbrev pub param_of_record : ParameterRecord → Param
+param_of_record p = record { section = p.section; width = width_of_number p.width; byte = p.byte; bit = p.bit }
 
 -- the record of a parameter: its width by number, the rest as it is
 abbrev pub record_of_param : Param → ParameterRecord
@@ -528,7 +528,7 @@ record_of_param p = record { section = p.section; width = width_number p.width; 
 
 -- a code block by its record; ops and lines are the same in both
 abbrev pub block_of_record : BlockRecord → CodeBlock
-block_of_record b = record { id = record { kind = kind_of_number b.kind; number = b.number }; local_len = b.local_len; instance_len = b.instance_len; params = map param_of b.params; code = b.code; lines = b.lines }
+block_of_record b = record { id = record { kind = kind_of_number b.kind; number = b.number }; local_len = b.local_len; instance_len = b.instance_len; params = map param_of_record b.params; code = b.code; lines = b.lines }
 
 -- the record of a code block: its kind and the widths of its parameters by numbers
 abbrev pub record_of_block : CodeBlock → BlockRecord
@@ -543,8 +543,8 @@ abbrev pub name_of_entry : NameEntry → NameRecord
 name_of_entry e = record { name = e.name; area = number_of_area e.place.number e.place.area; width = width_number e.width; byte = e.place.byte; bit = e.place.bit }
 
 -- the program of records; data blocks are the same in both
-abbrev pub program_of : Records → Program
-program_of r = record { code_blocks = map block_of_record r.code_blocks; data_blocks = r.data_blocks; names = map entry_of_name r.names }
+abbrev pub program_of_records : Records → Program
+program_of_records r = record { code_blocks = map block_of_record r.code_blocks; data_blocks = r.data_blocks; names = map entry_of_name r.names }
 
 -- the records of a program; data blocks are the same in both
 abbrev pub records_of : Program → Records
@@ -552,19 +552,19 @@ records_of p = record { code_blocks = map record_of_block p.code_blocks; data_bl
 
 -- a program as the bytes behind the total length: the counts, then all records
 unfoldable pub body : Bool → Layout Program
-body judged = seen_as program_of records_of (records judged)
+body with_code_faults = seen_as program_of_records records_of (records with_code_faults)
 
 -- HEADER up to the total length: magic u32, version u16, profile u16, total length u32
 unfoldable pub magic_field : Layout ℕ
-magic_field = field u32 (λ n. fault_of (field_of.Magic n))
+magic_field = field u32 (λ n. field_fault (field_of.Magic n))
 
 -- the version: 1 or 2, else fault 2
 unfoldable pub version_field : Layout ℕ
-version_field = field u16 (λ n. fault_of (field_of.Version n))
+version_field = field u16 (λ n. field_fault (field_of.Version n))
 
 -- the profile that version 2 names, and 0 in version 1, else fault 4
 unfoldable pub profile_field : ℕ → Layout ℕ
-profile_field version = field u16 (λ n. fault_of (field_of.Profile version n))
+profile_field version = field u16 (λ n. field_fault (field_of.Profile version n))
 
 -- the fields of the header up to the total length
 pub record Front : Type 0 where
@@ -619,28 +619,28 @@ abbrev pub IsRight : Program → Type 0
 IsRight p = (body true).good p ≡ true
 
 -- 10: bytes behind the last record
-abbrev pub at_end : Stamp → Program → Cursor → Read (Stamp × Program)
-at_end stamp p end = record { notes = if length end.rest == 0 then [] else Faulty end.at 10 ∷ []; found = Some ((stamp, p), end) }
+abbrev pub end_layout : Stamp → Program → Cursor → ReadResult (Stamp × Program)
+end_layout stamp p end = record { notes = if length end.rest == 0 then [] else Faulty end.at 10 ∷ []; found = Some ((stamp, p), end) }
 
 -- the body of so many bytes, and that nothing stands behind its last record
-abbrev pub read_body : Bool → Stamp → ℕ → Cursor → Read (Stamp × Program)
-read_body judged stamp size cur = bind ((body judged).read (record { at = cur.at; rest = take size cur.rest })) (at_end stamp)
+abbrev pub read_body : Bool → Stamp → ℕ → Cursor → ReadResult (Stamp × Program)
+read_body with_code_faults stamp size cur = bind ((body with_code_faults).read (record { at = cur.at; rest = take size cur.rest })) (end_layout stamp)
 
 -- 3: a total length above the bytes there, or below 20. 4: one above 8,388,608. Both end the reading. 10: bytes
 -- behind the total length, which are cut off
-abbrev pub cut : Bool → Stamp → (size total : ℕ) → Cursor → Read (Stamp × Program)
-cut judged stamp size total cur =
-    if nat_lt total 20 || nat_lt size total then ended 8 3
-    else if nat_lt 8388608 total then ended 8 4
+abbrev pub cut : Bool → Stamp → (size total : ℕ) → Cursor → ReadResult (Stamp × Program)
+cut with_code_faults stamp size total cur =
+    if nat_lt total 20 || nat_lt size total then reading_ended 8 3
+    else if nat_lt 8388608 total then reading_ended 8 4
     else record {
-      notes = (if size == total then [] else Faulty total 10 ∷ []) ++ (read_body judged stamp (total - front_size) cur).notes;
-      found = (read_body judged stamp (total - front_size) cur).found;
+      notes = (if size == total then [] else Faulty total 10 ∷ []) ++ (read_body with_code_faults stamp (total - front_size) cur).notes;
+      found = (read_body with_code_faults stamp (total - front_size) cur).found;
     }
 
 -- bytes read as an image: the front (faults 1, 2 and 4 don't end it), then by its total length
-unfoldable pub read_by : Bool → List ℕ → Read (Stamp × Program)
-read_by judged text = bind (front.read (record { at = 0; rest = text })) (λ f cur. cut judged (stamp_in f) (length text) f.total_length cur)
+unfoldable pub read_by : Bool → List ℕ → ReadResult (Stamp × Program)
+read_by with_code_faults text = bind (front.read (record { at = 0; rest = text })) (λ f cur. cut with_code_faults (stamp_in f) (length text) f.total_length cur)
 
 -- bytes read as an image, with all faults of its fields, and of code and lines (5 and 9)
-abbrev pub read_image : List ℕ → Read (Stamp × Program)
+abbrev pub read_image : List ℕ → ReadResult (Stamp × Program)
 read_image text = read_by true text

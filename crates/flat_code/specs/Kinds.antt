@@ -7,43 +7,43 @@ use Rattle.flat_code.specs.declared.kinds.JumpOperation.TheVariants as jump
 use Rattle.flat_code.specs.declared.kinds.TheConstants.{JUMPS, CONDITIONS}
 
 -- the jump of a kind, by the table that the code uses
-unfoldable pub jump_of : ℕ → JumpOperation
-jump_of kind = slice_index_or JUMPS kind jump.Ju
+unfoldable pub jump_of_number : ℕ → JumpOperation
+jump_of_number kind = slice_index_or JUMPS kind jump.Ju
 
 -- the kind of a jump
-abbrev pub kind_of : JumpOperation → ℕ
-kind_of jump.Ju = 0
-kind_of jump.Jl = 1
-kind_of jump.Jc = 2
-kind_of jump.Jcn = 3
-kind_of jump.Jcb = 4
-kind_of jump.Jnb = 5
-kind_of jump.Jbi = 6
-kind_of jump.Jnbi = 7
-kind_of jump.Jo = 8
-kind_of jump.Jos = 9
-kind_of jump.Jz = 10
-kind_of jump.Jn = 11
-kind_of jump.Jp = 12
-kind_of jump.Jm = 13
-kind_of jump.Jpz = 14
-kind_of jump.Jmz = 15
-kind_of jump.Juo = 16
-kind_of jump.Loop = 17
+abbrev pub jump_number : JumpOperation → ℕ
+jump_number jump.Ju = 0
+jump_number jump.Jl = 1
+jump_number jump.Jc = 2
+jump_number jump.Jcn = 3
+jump_number jump.Jcb = 4
+jump_number jump.Jnb = 5
+jump_number jump.Jbi = 6
+jump_number jump.Jnbi = 7
+jump_number jump.Jo = 8
+jump_number jump.Jos = 9
+jump_number jump.Jz = 10
+jump_number jump.Jn = 11
+jump_number jump.Jp = 12
+jump_number jump.Jm = 13
+jump_number jump.Jpz = 14
+jump_number jump.Jmz = 15
+jump_number jump.Juo = 16
+jump_number jump.Loop = 17
 
 -- what the condition of a number asks, by the table that the code uses
 unfoldable pub flag_of : ℕ → Flag
 flag_of condition = slice_index_or CONDITIONS (condition - 1) flag.Br
 
 -- the number of a condition
-abbrev pub condition_of : Flag → ℕ
-condition_of flag.Br = 1
-condition_of flag.Ov = 2
-condition_of flag.Os = 3
-condition_of flag.EqZero = 4
-condition_of flag.NeZero = 5
-condition_of flag.GtZero = 6
-condition_of flag.LtZero = 7
-condition_of flag.GeZero = 8
-condition_of flag.LeZero = 9
-condition_of flag.Uo = 10
+abbrev pub condition_number : Flag → ℕ
+condition_number flag.Br = 1
+condition_number flag.Ov = 2
+condition_number flag.Os = 3
+condition_number flag.EqZero = 4
+condition_number flag.NeZero = 5
+condition_number flag.GtZero = 6
+condition_number flag.LtZero = 7
+condition_number flag.GeZero = 8
+condition_number flag.LeZero = 9
+condition_number flag.Uo = 10

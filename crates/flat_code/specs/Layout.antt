@@ -18,7 +18,7 @@ pub record Cursor : Type 0 where
   pub rest : List ℕ
 
 -- what reading gives: notes, and the value found with the place behind it; None where it ended
-pub record Read (A : Type 0) : Type 0 where
+pub record ReadResult (A : Type 0) : Type 0 where
   pub notes : List Note
   pub found : Option (A × Cursor)
 
@@ -26,29 +26,29 @@ pub record Read (A : Type 0) : Type 0 where
 pub record Layout (A : Type 0) : Type 0 where
   pub spell : A → List ℕ
   pub good : A → Bool
-  pub read : Cursor → Read A
+  pub read : Cursor → ReadResult A
 
 -- reading ends at a fault
-abbrev pub ended : {A : Type 0} → ℕ → ℕ → Read A
-ended at code = record { notes = Faulty at code ∷ []; found = None }
+abbrev pub reading_ended : {A : Type 0} → ℕ → ℕ → ReadResult A
+reading_ended at code = record { notes = Faulty at code ∷ []; found = None }
 
 -- a value is found, and nothing is noted
-abbrev pub given : {A : Type 0} → A → Cursor → Read A
-given x cur = record { notes = []; found = Some (x, cur) }
+abbrev pub reading_given : {A : Type 0} → A → Cursor → ReadResult A
+reading_given x cur = record { notes = []; found = Some (x, cur) }
 
 -- goes on with what was found
-abbrev pub go_on : {A B : Type 0} → List Note → Option (A × Cursor) → (A → Cursor → Read B) → Read B
+abbrev pub go_on : {A B : Type 0} → List Note → Option (A × Cursor) → (A → Cursor → ReadResult B) → ReadResult B
 go_on notes None f = record { notes = notes; found = None }
 go_on notes (Some x) f = record { notes = notes ++ (f x.0 x.1).notes; found = (f x.0 x.1).found }
 
 -- a reading, and then `f` behind what it found; where it found nothing, that is the end
-abbrev pub bind : {A B : Type 0} → Read A → (A → Cursor → Read B) → Read B
+abbrev pub bind : {A B : Type 0} → ReadResult A → (A → Cursor → ReadResult B) → ReadResult B
 bind r f = go_on r.notes r.found f
 
 -- the note of a fault, if there is one
-abbrev pub noted : ℕ → Option ℕ → List Note
-noted at None = []
-noted at (Some code) = Faulty at code ∷ []
+abbrev pub fault_note : ℕ → Option ℕ → List Note
+fault_note at None = []
+fault_note at (Some code) = Faulty at code ∷ []
 
 -- no fault was found (None)
 abbrev pub is_fine : Option ℕ → Bool
@@ -56,33 +56,33 @@ is_fine None = true
 is_fine (Some code) = false
 
 -- a field by its coding, and the fault of a value; one that can't be read is fault 3
-abbrev pub field_of : {A : Type 0} → (A → Option ℕ) → Cursor → Option (A × List ℕ) → Read A
-field_of judge cur None = ended cur.at 3
-field_of judge cur (Some r) = record { notes = noted cur.at (judge r.0); found = Some (r.0, record { at = cur.at + (length cur.rest - length r.1); rest = r.1 }) }
+abbrev pub field_of : {A : Type 0} → (A → Option ℕ) → Cursor → Option (A × List ℕ) → ReadResult A
+field_of fault_in cur None = reading_ended cur.at 3
+field_of fault_in cur (Some r) = record { notes = fault_note cur.at (fault_in r.0); found = Some (r.0, record { at = cur.at + (length cur.rest - length r.1); rest = r.1 }) }
 
 -- a field is good where its value fits and has no fault; a fault is noted, and reading goes on
 abbrev pub field : {A : Type 0} → Coding A → (A → Option ℕ) → Layout A
-field c judge = record { spell = c.spell; good = λ x. c.fits x && is_fine (judge x); read = λ cur. field_of judge cur (c.read cur.rest) }
+field c fault_in = record { spell = c.spell; good = λ x. c.fits x && is_fine (fault_in x); read = λ cur. field_of fault_in cur (c.read cur.rest) }
 
 -- one behind the other; what comes second may depend on what came first
 abbrev pub chain : {A B : Type 0} → Layout A → (A → Layout B) → Layout (A × B)
 chain l m = record {
   spell = λ x. l.spell x.0 ++ (m x.0).spell x.1;
   good = λ x. l.good x.0 && (m x.0).good x.1;
-  read = λ cur. bind (l.read cur) (λ x next. bind ((m x).read next) (λ y end. given (x, y) end));
+  read = λ cur. bind (l.read cur) (λ x next. bind ((m x).read next) (λ y end. reading_given (x, y) end));
 }
 
 -- a fault at an earlier place, found only now
-abbrev pub checked : {A : Type 0} → ℕ → Option ℕ → Layout A → Layout A
-checked at fault l = record {
+abbrev pub checked_layout : {A : Type 0} → ℕ → Option ℕ → Layout A → Layout A
+checked_layout at fault l = record {
   spell = l.spell;
   good = λ x. is_fine fault && l.good x;
-  read = λ cur. record { notes = noted at fault ++ (l.read cur).notes; found = (l.read cur).found };
+  read = λ cur. record { notes = fault_note at fault ++ (l.read cur).notes; found = (l.read cur).found };
 }
 
 -- a layout that knows where it begins
-abbrev pub located : {A : Type 0} → (ℕ → Layout A) → Layout A
-located l = record { spell = (l 0).spell; good = (l 0).good; read = λ cur. (l cur.at).read cur }
+abbrev pub located_layout : {A : Type 0} → (ℕ → Layout A) → Layout A
+located_layout l = record { spell = (l 0).spell; good = (l 0).good; read = λ cur. (l cur.at).read cur }
 
 -- n values, each checked by what came before it
 abbrev pub spell_many : {S A : Type 0} → (S → Layout A) → (S → A → S) → S → List A → List ℕ
@@ -97,9 +97,9 @@ good_many l next s (suc n) [] = false
 good_many l next s (suc n) (x ∷ xs) = (l s).good x && good_many l next (next s x) n xs
 
 -- n values from left to right; one at which reading ends is the last, and no list is found
-abbrev pub read_many : {S A : Type 0} → (S → Layout A) → (S → A → S) → S → ℕ → Cursor → Read (List A)
-read_many l next s zero cur = given [] cur
-read_many l next s (suc n) cur = bind ((l s).read cur) (λ x after. bind (read_many l next (next s x) n after) (λ xs end. given (x ∷ xs) end))
+abbrev pub read_many : {S A : Type 0} → (S → Layout A) → (S → A → S) → S → ℕ → Cursor → ReadResult (List A)
+read_many l next s zero cur = reading_given [] cur
+read_many l next s (suc n) cur = bind ((l s).read cur) (λ x after. bind (read_many l next (next s x) n after) (λ xs end. reading_given (x ∷ xs) end))
 
 -- n values; `s` is the state before the first of them, `next` the state behind one
 abbrev pub many : {S A : Type 0} → (S → Layout A) → (S → A → S) → S → ℕ → Layout (List A)
@@ -107,11 +107,11 @@ many l next s n = record { spell = spell_many l next s; good = good_many l next 
 
 -- the same bytes for another type of values
 abbrev pub seen_as : {A B : Type 0} → (A → B) → (B → A) → Layout A → Layout B
-seen_as to from l = record { spell = λ y. l.spell (from y); good = λ y. l.good (from y); read = λ cur. bind (l.read cur) (λ x end. given (to x) end) }
+seen_as to from l = record { spell = λ y. l.spell (from y); good = λ y. l.good (from y); read = λ cur. bind (l.read cur) (λ x end. reading_given (to x) end) }
 
 -- a value that was read whole is noted
-abbrev pub remembered : {A : Type 0} → (A → Note) → Layout A → Layout A
-remembered note l = record { spell = l.spell; good = l.good; read = λ cur. bind (l.read cur) (λ x end. record { notes = note x ∷ []; found = Some (x, end) }) }
+abbrev pub noted_layout : {A : Type 0} → (A → Note) → Layout A → Layout A
+noted_layout note l = record { spell = l.spell; good = l.good; read = λ cur. bind (l.read cur) (λ x end. record { notes = note x ∷ []; found = Some (x, end) }) }
 
 -- the faults among notes
 abbrev pub faults_in : List Note → List (ℕ × ℕ)

@@ -14,8 +14,8 @@ lens_of [] = []
 lens_of (d ∷ ds) = (d.number, length d.bytes) ∷ lens_of ds
 
 -- what surrounds a block among code blocks, and data blocks, if all were read
-abbrev pub around : Option (List (ℕ × ℕ)) → List BlockRecord → BlockRecord → Around
-around data_lens all b = record { kind = b.kind; local_len = b.local_len; params = b.params; blocks = map signature_of all; data_lens = data_lens }
+abbrev pub around_block : Option (List (ℕ × ℕ)) → List BlockRecord → BlockRecord → Around
+around_block data_lens all b = record { kind = b.kind; local_len = b.local_len; params = b.params; blocks = map signature_of all; data_lens = data_lens }
 
 -- THE FAULTS OF BYTES, as offset and code: those of the fields, and those of the ops of each block that
 -- was read whole
@@ -45,13 +45,13 @@ blocks_of [] = []
 blocks_of (b ∷ bs) = b.1 ∷ blocks_of bs
 
 -- the faults 6 to 8 of each block, by the offset of its code; a call finds the blocks of `all`
-abbrev pub judged_blocks : Option (List (ℕ × ℕ)) → List BlockRecord → List (ℕ × BlockRecord) → List (ℕ × ℕ)
-judged_blocks data_lens all [] = []
-judged_blocks data_lens all (b ∷ bs) = block_faults (around data_lens all b.1) b.0 b.1.code ++ judged_blocks data_lens all bs
+abbrev pub op_faults_of_blocks : Option (List (ℕ × ℕ)) → List BlockRecord → List (ℕ × BlockRecord) → List (ℕ × ℕ)
+op_faults_of_blocks data_lens all [] = []
+op_faults_of_blocks data_lens all (b ∷ bs) = block_faults (around_block data_lens all b.1) b.0 b.1.code ++ op_faults_of_blocks data_lens all bs
 
 -- the faults that reading noted, and those of the ops of the blocks that were read whole
 abbrev pub faults_in_notes : List Note → List (ℕ × ℕ)
-faults_in_notes notes = faults_in notes ++ judged_blocks (option_map lens_of (all_blocks notes)) (blocks_of (wholes notes)) (wholes notes)
+faults_in_notes notes = faults_in notes ++ op_faults_of_blocks (option_map lens_of (all_blocks notes)) (blocks_of (wholes notes)) (wholes notes)
 
 -- all faults of bytes; the one that is told is the least of them by offset, then code
 unfoldable pub faults_of : List ℕ → List (ℕ × ℕ)
@@ -66,7 +66,7 @@ pub record Gives (text : List ℕ) (stamp : Stamp) (p : Program) : Type 0 where
 -- A PROGRAM VERIFIES where no field, and no op of any block, has a fault
 abbrev pub AreVerified : List (ℕ × ℕ) → List BlockRecord → List BlockRecord → Type 0
 AreVerified data_lens all [] = Unit {0}
-AreVerified data_lens all (b ∷ bs) = (block_faults (around (Some data_lens) all b) 0 b.code ≡ []) × AreVerified data_lens all bs
+AreVerified data_lens all (b ∷ bs) = (block_faults (around_block (Some data_lens) all b) 0 b.code ≡ []) × AreVerified data_lens all bs
 
 -- `right`: no fault 4, 5 or 9; `blocks`: no fault 6, 7 or 8, with calls checked among them all
 pub record Verifies (p : Program) : Type 0 where

@@ -3,7 +3,7 @@ use Rattle.std.specs.Prelude.{◌≡◌, ℕ, Bool, true, ◌&&◌, if◌then◌
 use Rattle.plc_base.specs.Folding.{is_same_name}
 use Rattle.plc_base.specs.declared.places.Place.{Place}
 use Rattle.plc_base.specs.declared.places.Width.{Width}
-use Rattle.flat_code.specs.Faults.{is_before, is_upper}
+use Rattle.flat_code.specs.Faults.{is_earlier_name, is_upper}
 use Rattle.flat_code.specs.Programs.{NameEntry}
 
 -- whether names are in upper case and rise strictly in the order of their bytes, the first one from
@@ -11,7 +11,7 @@ use Rattle.flat_code.specs.Programs.{NameEntry}
 abbrev pub names_rise : List ℕ → List NameEntry → Bool
 names_rise before [] = true
 names_rise before (entry ∷ entries) =
-    is_before before entry.name && is_upper entry.name && names_rise entry.name entries
+    is_earlier_name before entry.name && is_upper entry.name && names_rise entry.name entries
 
 -- the lists of names that a program may have: none is empty or stands twice
 abbrev pub IsNames : List NameEntry → Type 0

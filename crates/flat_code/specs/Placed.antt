@@ -3,7 +3,7 @@ use Rattle.std.specs.Prelude.{ℕ, ◌+◌, ◌-◌, nat_le, ◌==◌, Bool, tru
 use Rattle.flat_code.specs.declared.image_fields.OpenBracket.{OpenBracket}
 use Rattle.flat_code.specs.Ops.{OpData}
 use Rattle.flat_code.specs.Codes.{size}
-use Rattle.flat_code.specs.OpCodes.{code_of}
+use Rattle.flat_code.specs.OpCodes.{op_code_of}
 use Rattle.flat_code.specs.declared.operations.Operation.TheVariants as operation
 use Rattle.flat_code.specs.declared.operations.RelayOperation.TheVariants as relay
 use Rattle.plc_base.specs.declared.instructions.Check.TheVariants as check
@@ -33,27 +33,27 @@ pub record Placed : Type 0 where
   pub rest : List OpData
 
 -- A( to XN(, whose codes stand together, open a bracket
-abbrev pub opens : ℕ → Bool
-opens code = nat_le (code_of (operation.Nest check.A)) code && nat_le code (code_of (operation.Nest check.Xn))
+abbrev pub is_opening : ℕ → Bool
+is_opening code = nat_le (op_code_of (operation.Nest check.A)) code && nat_le code (op_code_of (operation.Nest check.Xn))
 
 -- brackets without the innermost, which is the last of the list; of none, none
-abbrev pub inner : List OpenBracket → List OpenBracket
-inner brackets = take (length brackets - 1) brackets
+abbrev pub outer_brackets : List OpenBracket → List OpenBracket
+outer_brackets brackets = take (length brackets - 1) brackets
 
 -- behind an op at an offset: A( to XN( stand open from here on, `)` closes the innermost, and every
 -- other op leaves the brackets as they are
-abbrev pub opened : ℕ → ℕ → List OpenBracket → List OpenBracket
-opened at code brackets =
-    if opens code then brackets ++ record { at = at; code = code } ∷ []
-    else if code == code_of operation.Unnest then inner brackets
+abbrev pub brackets_after : ℕ → ℕ → List OpenBracket → List OpenBracket
+brackets_after at code brackets =
+    if is_opening code then brackets ++ record { at = at; code = code } ∷ []
+    else if code == op_code_of operation.Unnest then outer_brackets brackets
     else brackets
 
 -- behind an op at an offset: `MCR(` opens a zone, `)MCR` ends the last one, and every other op leaves the
 -- zones as they are
-abbrev pub zones_behind : ℕ → ℕ → List ℕ → List ℕ
-zones_behind at code zones =
-    if code == code_of (operation.Relay relay.Open) then zones ++ at ∷ []
-    else if code == code_of (operation.Relay relay.Close) then take (length zones - 1) zones
+abbrev pub zones_behind_op : ℕ → ℕ → List ℕ → List ℕ
+zones_behind_op at code zones =
+    if code == op_code_of (operation.Relay relay.Open) then zones ++ at ∷ []
+    else if code == op_code_of (operation.Relay relay.Close) then take (length zones - 1) zones
     else zones
 
 -- the ops of the statement before the next op
@@ -62,24 +62,24 @@ before_next op before = if op.last then [] else before ++ op ∷ []
 
 -- ops at their places, the first at an offset, behind these open brackets and zones and behind these
 -- ops of its own statement
-abbrev pub placed : ℕ → List OpenBracket → List ℕ → List OpData → List OpData → List Placed
-placed at brackets zones before [] = []
-placed at brackets zones before (op ∷ ops) =
+abbrev pub ops_placed : ℕ → List OpenBracket → List ℕ → List OpData → List OpData → List Placed
+ops_placed at brackets zones before [] = []
+ops_placed at brackets zones before (op ∷ ops) =
     record { at = at; brackets = brackets; zones = zones; before = before; op = op; rest = ops }
-    ∷ placed (at + size op) (opened at op.code brackets) (zones_behind at op.code zones) (before_next op before) ops
+    ∷ ops_placed (at + size op) (brackets_after at op.code brackets) (zones_behind_op at op.code zones) (before_next op before) ops
 
 -- the ops of a block
-abbrev pub places : List OpData → List Placed
-places ops = placed 0 [] [] [] ops
+abbrev pub code_places : List OpData → List Placed
+code_places ops = ops_placed 0 [] [] [] ops
 
 -- nothing stands in the list: no op before in the statement, no open bracket, no parameter
-abbrev pub is_empty : {A : Type 0} → List A → Bool
-is_empty [] = true
-is_empty (x ∷ xs) = false
+abbrev pub is_empty_list : {A : Type 0} → List A → Bool
+is_empty_list [] = true
+is_empty_list (x ∷ xs) = false
 
 -- whether a statement begins with the op
 abbrev pub begins : Placed → Bool
-begins p = is_empty p.before
+begins p = is_empty_list p.before
 
 -- the codes of open brackets, the outermost first
 abbrev pub bracket_codes : List OpenBracket → List ℕ
@@ -100,43 +100,43 @@ few brackets = if nat_le (length brackets) most_brackets then Some (bracket_code
 
 -- a statement of a block: the offset at which it begins, the brackets that stand open there, and how
 -- many zones
-pub record Spot : Type 0 where
+pub record StatementSpot : Type 0 where
   pub at : ℕ
   pub codes : Option (List ℕ)
   pub zones : ℕ
 
 -- the statements of ops that begin at an offset, behind these open brackets and zones; `begin`: whether
 -- the first op begins a statement or goes on with one
-abbrev pub spots_from : ℕ → Bool → List OpenBracket → List ℕ → List OpData → List Spot
+abbrev pub spots_from : ℕ → Bool → List OpenBracket → List ℕ → List OpData → List StatementSpot
 spots_from at begin brackets zones [] = []
 spots_from at begin brackets zones (op ∷ ops) =
-    if begin then record { at = at; codes = few brackets; zones = length zones } ∷ spots_from (at + size op) op.last (opened at op.code brackets) (zones_behind at op.code zones) ops
-    else spots_from (at + size op) op.last (opened at op.code brackets) (zones_behind at op.code zones) ops
+    if begin then record { at = at; codes = few brackets; zones = length zones } ∷ spots_from (at + size op) op.last (brackets_after at op.code brackets) (zones_behind_op at op.code zones) ops
+    else spots_from (at + size op) op.last (brackets_after at op.code brackets) (zones_behind_op at op.code zones) ops
 
 -- the statements of a block
-abbrev pub spots : List OpData → List Spot
+abbrev pub spots : List OpData → List StatementSpot
 spots ops = spots_from 0 true [] [] ops
 
 -- the statement that begins at an offset; None where none begins there
-abbrev pub spot_at : List Spot → ℕ → Option Spot
+abbrev pub spot_at : List StatementSpot → ℕ → Option StatementSpot
 spot_at [] at = None
 spot_at (s ∷ ss) at = if s.at == at then Some s else spot_at ss at
 
 -- the op that ends the statement of an op
-abbrev pub ending : OpData → List OpData → OpData
-ending op [] = op
-ending op (next ∷ ops) = if op.last then op else ending next ops
+abbrev pub ending_op : OpData → List OpData → OpData
+ending_op op [] = op
+ending_op op (next ∷ ops) = if op.last then op else ending_op next ops
 
 -- the op that ends the statement of a placed op, from itself on; with no end mark the last one
 abbrev pub last_op : Placed → OpData
-last_op p = ending p.op p.rest
+last_op p = ending_op p.op p.rest
 
 -- the brackets that stand open behind all ops
 abbrev pub open_behind : ℕ → List OpenBracket → List OpData → List OpenBracket
 open_behind at brackets [] = brackets
-open_behind at brackets (op ∷ ops) = open_behind (at + size op) (opened at op.code brackets) ops
+open_behind at brackets (op ∷ ops) = open_behind (at + size op) (brackets_after at op.code brackets) ops
 
 -- the zones that stand open behind all ops
 abbrev pub zones_left : ℕ → List ℕ → List OpData → List ℕ
 zones_left at zones [] = zones
-zones_left at zones (op ∷ ops) = zones_left (at + size op) (zones_behind at op.code zones) ops
+zones_left at zones (op ∷ ops) = zones_left (at + size op) (zones_behind_op at op.code zones) ops

@@ -23,7 +23,7 @@ fn first_byte(code: u8, last: bool) -> u8
     if last { code + 128 } else { code }
 }
 
-#[tactic(auto, unfolding(crate::specs::Forms::direct))]
+#[tactic(auto, unfolding(crate::specs::Forms::direct_coding))]
 fn put(out: &mut Vec<u8>, first: u8, operand: &Operand) -> Result<(), NoMemory>
     ensures ok { OnOk result (out.new.items
         ≡ out.old.items ++ first ∷ form_of_operand operand.now ∷ payload operand.now) }
@@ -125,7 +125,7 @@ fn put(out: &mut Vec<u8>, first: u8, operand: &Operand) -> Result<(), NoMemory>
     }
 }
 
-#[tactic(auto, unfolding(crate::specs::Forms::direct, crate::specs::Forms::actual))]
+#[tactic(auto, unfolding(crate::specs::Forms::direct_coding, crate::specs::Forms::passed_coding))]
 fn put_pass(out: &mut Vec<u8>, first: u8, index: u8, actual: Passed) -> Result<(), NoMemory>
     ensures ok { OnOk result (out.new.items ≡ out.old.items ++ first ∷ passes index actual) }
     ensures err { OnErr result (out.new.items ≡ out.old.items) }

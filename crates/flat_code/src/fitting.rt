@@ -1,7 +1,7 @@
 //! Whether operands can be written in their forms.
 ghost use Rattle.std.specs.Prelude.{◌≡◌, ◌&&◌};
-ghost use Rattle.flat_code.specs.Coding.{u8, u16, u32, within};
-ghost use Rattle.flat_code.specs.Forms.{actual_fits, callable, crossing, memory_area, payload_fits, pointer_area};
+ghost use Rattle.flat_code.specs.Coding.{u8, u16, u32, range_coding};
+ghost use Rattle.flat_code.specs.Forms.{actual_fits, callable, crossing, memory_area, payload_fits, pointer_area_coding};
 
 use crate::operands::{Operand, Passed};
 use plc_base::Area;
@@ -26,21 +26,21 @@ fn fits_u32(number: u32) -> bool
 }
 
 fn is_one_or_two(number: u8) -> bool
-    ensures { result ≡ (within 1 2).fits number }
+    ensures { result ≡ (range_coding 1 2).fits number }
 {
     1 <= number && number <= 2
 }
 
 /// Whether a byte and a bit are those of a place.
 fn is_place(byte: u16, bit: u8) -> bool
-    ensures { result ≡ (u16.fits byte && (within 0 7).fits bit) }
+    ensures { result ≡ (u16.fits byte && (range_coding 0 7).fits bit) }
 {
     fits_u16(byte) && bit <= 7
 }
 
 /// Whether a pointer may stand at the place.
 fn is_pointer(area: Area, byte: u16) -> bool
-    ensures { result ≡ (pointer_area.fits area && u16.fits byte) }
+    ensures { result ≡ (pointer_area_coding.fits area && u16.fits byte) }
 {
     matches!(area, Area::M | Area::Db | Area::Di | Area::L) && fits_u16(byte)
 }
@@ -69,7 +69,7 @@ fn is_callable(kind: u8) -> bool
 
 impl Passed {
     /// Whether every field is one that the form has.
-    #[tactic(auto, unfolding(crate::specs::Forms::direct))]
+    #[tactic(auto, unfolding(crate::specs::Forms::direct_coding))]
     fn fits(self) -> bool
         ensures { result ≡ actual_fits self }
     {
@@ -89,7 +89,7 @@ impl Passed {
 
 impl Operand {
     /// Whether every field is one that the form has.
-    #[tactic(auto, unfolding(crate::specs::Forms::direct, crate::specs::Forms::actual))]
+    #[tactic(auto, unfolding(crate::specs::Forms::direct_coding, crate::specs::Forms::passed_coding))]
     pub fn fits(self) -> bool
         ensures { result ≡ payload_fits self }
     {

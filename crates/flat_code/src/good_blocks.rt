@@ -4,8 +4,8 @@ ghost use Rattle.plc_base.specs.Kinds.{kind_number};
 ghost use Rattle.flat_code.specs.Checking.{good_blocks, good_lines, good_params};
 ghost use Rattle.flat_code.specs.Codes.{are_ops, code_bytes};
 ghost use Rattle.flat_code.specs.Coding.{u8, u16};
-ghost use Rattle.flat_code.specs.Faults.{fault_of};
-ghost use Rattle.flat_code.specs.Image.{code_block, head, head_of_block, instance_bytes, local_bytes, parameter, plain_u16, plain_u32, record_of_block, record_of_param, zero_u16};
+ghost use Rattle.flat_code.specs.Faults.{field_fault};
+ghost use Rattle.flat_code.specs.Image.{code_block_layout, head_layout, head_of_block, instance_bytes, local_length_layout, parameter_layout, plain_u16, plain_u32, record_of_block, record_of_param, zero_u16};
 ghost use Rattle.flat_code.specs.Layout.{is_fine};
 
 use crate::image_fields::Field;
@@ -14,21 +14,21 @@ use crate::programs::{CodeBlock, Param};
 
 /// Whether a field has no fault.
 pub(crate) fn is_fine(field: Field) -> bool
-    ensures { result ≡ is_fine (fault_of field) }
+    ensures { result ≡ is_fine (field_fault field) }
 {
     field.fault().is_none()
 }
 
 /// Whether a number in a field of one byte has no fault.
 pub(crate) fn is_good_u8(number: u8, field: Field) -> bool
-    ensures { result ≡ (u8.fits number && is_fine (fault_of field)) }
+    ensures { result ≡ (u8.fits number && is_fine (field_fault field)) }
 {
     number <= u8::MAX && is_fine(field)
 }
 
 /// Whether a number in a field of two bytes has no fault.
 pub(crate) fn is_good_u16(number: u16, field: Field) -> bool
-    ensures { result ≡ (u16.fits number && is_fine (fault_of field)) }
+    ensures { result ≡ (u16.fits number && is_fine (field_fault field)) }
 {
     number <= u16::MAX && is_fine(field)
 }
@@ -50,9 +50,9 @@ pub(crate) fn code_len(ops: &[Op]) -> Option<u32>
     Some(len)
 }
 
-#[tactic(auto, unfolding(crate::specs::Image::parameter, crate::specs::Image::parameter_rows, crate::specs::Image::section_field, crate::specs::Image::width_field, crate::specs::Image::parameter_byte, crate::specs::Image::parameter_bit), using(crate::proofs::CheckLemmas::zero_byte_good))]
+#[tactic(auto, unfolding(crate::specs::Image::parameter_layout, crate::specs::Image::parameter_rows, crate::specs::Image::section_field, crate::specs::Image::width_field, crate::specs::Image::parameter_byte, crate::specs::Image::parameter_bit), using(crate::proofs::CheckLemmas::zero_byte_good))]
 fn is_good_parameter(kind: u8, instance: u16, param: &Param) -> bool
-    ensures { result ≡ (parameter kind instance).good (record_of_param param.now) }
+    ensures { result ≡ (parameter_layout kind instance).good (record_of_param param.now) }
 {
     let width = param.width.number();
     is_good_u8(
@@ -119,10 +119,10 @@ fn is_good_code_len(ops: &[Op]) -> bool
 }
 
 /// Whether the lengths and the statement count in the head of a block have no fault.
-#[tactic(auto, unfolding(crate::specs::Image::local_bytes, crate::specs::Image::instance_bytes, crate::specs::Image::plain_u16), using(crate::proofs::CheckLemmas::zero_word_good))]
+#[tactic(auto, unfolding(crate::specs::Image::local_length_layout, crate::specs::Image::instance_bytes, crate::specs::Image::plain_u16), using(crate::proofs::CheckLemmas::zero_word_good))]
 fn are_good_lens(kind: u8, block: &CodeBlock) -> bool
     ensures good { result
-        ≡ ((local_bytes kind).good block.now.local_len
+        ≡ ((local_length_layout kind).good block.now.local_len
         && ((instance_bytes kind).good block.now.instance_len
         && (plain_u16.good (length block.now.lines)
         && (zero_u16.good 0 && plain_u32.good (length (code_bytes block.now.code)))))) }
@@ -147,10 +147,10 @@ fn are_good_lens(kind: u8, block: &CodeBlock) -> bool
 }
 
 /// Whether the head of a block behind another (kind 0 for none) has no fault.
-#[tactic(auto, unfolding(crate::specs::Image::head, crate::specs::Image::head_rows, crate::specs::Image::kind_field, crate::specs::Image::parameter_count, crate::specs::Image::block_number))]
+#[tactic(auto, unfolding(crate::specs::Image::head_layout, crate::specs::Image::head_rows, crate::specs::Image::kind_field, crate::specs::Image::parameter_count_layout, crate::specs::Image::block_number_layout))]
 fn is_good_head(kind_before: u8, before: u16, block: &CodeBlock) -> bool
     ensures head { result
-        ≡ (head (kind_before, before)).good (head_of_block (record_of_block block.now)) }
+        ≡ (head_layout (kind_before, before)).good (head_of_block (record_of_block block.now)) }
     ensures ops { result ≡ true → are_ops block.now.code ≡ true }
     ensures lines { good_lines block.now.lines ≡ true }
 {
@@ -180,7 +180,7 @@ fn is_good_head(kind_before: u8, before: u16, block: &CodeBlock) -> bool
 /// Whether a block behind another (kind 0 for none) has no fault.
 fn is_good_block(kind_before: u8, before: u16, block: &CodeBlock) -> bool
     ensures { result
-        ≡ (code_block false (kind_before, before)).good (record_of_block block.now) }
+        ≡ (code_block_layout false (kind_before, before)).good (record_of_block block.now) }
 {
     let head = is_good_head(kind_before, before, block);
     let params = has_good_parameters(block);

@@ -2,7 +2,7 @@
 ghost use Rattle.std.specs.Prelude.{◌≡◌, ◌+◌, ◌≤◌, [], true, length};
 ghost use Rattle.flat_code.specs.Checking.{good_datas, good_names};
 ghost use Rattle.flat_code.specs.Faults.{name_fault};
-ghost use Rattle.flat_code.specs.Image.{bytes_fit, data_block, data_len, instance_field, name_len, name_of_entry, name_record, number_of_instance, plain_u16};
+ghost use Rattle.flat_code.specs.Image.{bytes_fit, data_block_layout, data_length_layout, instance_field, name_len, name_of_entry, name_record, number_of_instance, plain_u16};
 ghost use Rattle.flat_code.specs.Layout.{is_fine};
 
 use crate::good_blocks::{is_fine, is_good_u8, is_good_u16};
@@ -23,7 +23,7 @@ fn law_of_word(number: u16)
 {}
 
 /// Whether the number of an instance's function block has no fault.
-#[tactic(auto, unfolding(crate::specs::Image::instance_field, crate::specs::Faults::fault_of))]
+#[tactic(auto, unfolding(crate::specs::Image::instance_field, crate::specs::Faults::field_fault))]
 fn is_good_instance(instance_of: Option<u16>) -> bool
     ensures { result ≡ instance_field.good (number_of_instance instance_of) }
 {
@@ -34,9 +34,9 @@ fn is_good_instance(instance_of: Option<u16>) -> bool
 }
 
 /// Whether the length of a data block behind so many bytes of data blocks has no fault.
-#[tactic(auto, unfolding(crate::specs::Image::data_len, crate::specs::Faults::fault_of))]
+#[tactic(auto, unfolding(crate::specs::Image::data_length_layout, crate::specs::Faults::field_fault))]
 fn is_good_len(before: u32, len: usize) -> bool
-    ensures good { result ≡ (data_len before).good len }
+    ensures good { result ≡ (data_length_layout before).good len }
     ensures within { result ≡ true → before + len ≤ 2097152 }
 {
     len <= 16_384 && before as usize + len <= 2_097_152
@@ -44,9 +44,9 @@ fn is_good_len(before: u32, len: usize) -> bool
 
 /// Whether a data block behind another's number (0 for none) and so many bytes of data blocks has
 /// no fault.
-#[tactic(auto, unfolding(crate::specs::Image::data_block, crate::specs::Image::data_rows, crate::specs::Image::data_number), using(crate::proofs::CheckLemmas::zero_word_good, crate::proofs::CheckLemmas::contents_good))]
+#[tactic(auto, unfolding(crate::specs::Image::data_block_layout, crate::specs::Image::data_rows, crate::specs::Image::data_number_layout), using(crate::proofs::CheckLemmas::zero_word_good, crate::proofs::CheckLemmas::contents_good))]
 fn is_good_data_block(before: u16, sum: u32, block: &DataBlock) -> bool
-    ensures good { result ≡ (data_block (before, sum)).good block.now }
+    ensures good { result ≡ (data_block_layout (before, sum)).good block.now }
     ensures within { result ≡ true → sum + length block.now.bytes ≤ 2097152 }
 {
     law_of_bytes(block.bytes.as_slice());

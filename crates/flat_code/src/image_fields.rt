@@ -1,5 +1,5 @@
 ghost use Rattle.std.specs.Prelude.{◌≡◌, ◌≤◌};
-ghost use Rattle.flat_code.specs.Faults.{fault_of, has_number, holds_parameter, is_ob_number, unless};
+ghost use Rattle.flat_code.specs.Faults.{field_fault, has_number, holds_parameter, is_existing_ob, unless};
 
 use crate::record_numbers::{code_of_area, width_of_number};
 use crate::stamps::profile_number;
@@ -138,7 +138,7 @@ fn fault_unless(fine: bool, code: u16) -> Option<u16>
 
 /// Whether there is an organization block of the number.
 fn is_organization_block(number: u16) -> bool
-    ensures { result ≡ is_ob_number number }
+    ensures { result ≡ is_existing_ob number }
 {
     matches!(number, 1 | 10..=17 | 20..=23 | 30..=38 | 40..=47 | 80 | 85 | 100 | 121 | 122)
 }
@@ -168,9 +168,9 @@ fn is_parameter_byte(kind: u8, instance: u16, width: u8, byte: u16) -> bool
 
 impl Field {
     /// The code of the field's fault, if it has one.
-    #[tactic(auto, unfolding(crate::specs::Faults::fault_of))]
+    #[tactic(auto, unfolding(crate::specs::Faults::field_fault))]
     pub fn fault(self) -> Option<u16>
-        ensures { result ≡ fault_of self }
+        ensures { result ≡ field_fault self }
     {
         match self {
             Field::Magic { number } => fault_unless(number == 0x5337_4642, 1),

@@ -1,6 +1,6 @@
 //! Whether the image of a program is short enough.
 ghost use Rattle.std.specs.Prelude.{◌≡◌, ◌+◌, ◌≤◌, ◌*◌, ◌<◌, nat_le, sum_by, IfSome, IfNone};
-ghost use Rattle.flat_code.specs.Checking.{block_size, data_size, image_size, name_size};
+ghost use Rattle.flat_code.specs.Checking.{records_size, data_size, image_size, name_size};
 
 use crate::good_blocks::code_len;
 use crate::names::NameEntry;
@@ -30,8 +30,8 @@ fn room_behind_lines(room: u32, count: usize) -> Option<u32>
 
 /// What is left of so many bytes behind a code block.
 fn room_behind_block(room: u32, block: &CodeBlock) -> Option<u32>
-    ensures some { IfSome result (λ left. left + block_size block.now ≡ room) }
-    ensures none { IfNone result (room < block_size block.now) }
+    ensures some { IfSome result (λ left. left + records_size block.now ≡ room) }
+    ensures none { IfNone result (room < records_size block.now) }
 {
     let room = room_behind(room, 16 + 6 * block.params.as_slice().len())?;
     let room = room.checked_sub(code_len(block.code.as_slice())?)?;
@@ -39,8 +39,8 @@ fn room_behind_block(room: u32, block: &CodeBlock) -> Option<u32>
 }
 
 fn room_behind_blocks(room: u32, blocks: &[CodeBlock]) -> Option<u32>
-    ensures some { IfSome result (λ left. left + sum_by block_size blocks.now ≡ room) }
-    ensures none { IfNone result (room < sum_by block_size blocks.now) }
+    ensures some { IfSome result (λ left. left + sum_by records_size blocks.now ≡ room) }
+    ensures none { IfNone result (room < sum_by records_size blocks.now) }
 {
     let mut room = room;
     for block in blocks {

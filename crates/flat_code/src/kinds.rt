@@ -1,6 +1,6 @@
 //! The numbers that operands have for jumps and for conditions of the status word.
 ghost use Rattle.std.specs.Prelude.{◌≡◌, ◌<◌, ◌≤◌};
-ghost use Rattle.flat_code.specs.Kinds.{jump_of as jump_of_kind, kind_of, flag_of as flag_of_condition, condition_of as condition_of_flag};
+ghost use Rattle.flat_code.specs.Kinds.{jump_of_number as jump_of_kind, jump_number, flag_of as flag_of_condition, condition_number as condition_of_flag};
 
 use plc_base::Flag;
 
@@ -50,7 +50,7 @@ pub static JUMPS: [JumpOperation; 18] = [
 ];
 
 /// The jump of a kind.
-#[tactic(auto, unfolding(crate::specs::Kinds::jump_of))]
+#[tactic(auto, unfolding(crate::specs::Kinds::jump_of_number))]
 pub fn jump_of(kind: u8) -> JumpOperation
     requires { kind < 18 }
     ensures { result ≡ jump_of_kind kind }
@@ -61,7 +61,7 @@ pub fn jump_of(kind: u8) -> JumpOperation
 impl JumpOperation {
     /// The kind of the jump.
     pub fn kind(self) -> u8
-        ensures { result ≡ kind_of self }
+        ensures { result ≡ jump_number self }
     {
         self as u8
     }

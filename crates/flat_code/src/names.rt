@@ -1,8 +1,8 @@
 ghost use Rattle.std.specs.Prelude.{◌≡◌};
 ghost use Rattle.std.specs.Cmp.Lexicographic.{slice_cmp};
 ghost use Rattle.std.specs.Ordering.{nat_cmp};
-ghost use Rattle.plc_base.specs.Folding.{folded};
-ghost use Rattle.flat_code.specs.Faults.{ends_blank, is_before, is_upper};
+ghost use Rattle.plc_base.specs.Folding.{upper_case_name};
+ghost use Rattle.flat_code.specs.Faults.{ends_blank, is_earlier_name, is_upper};
 ghost use Rattle.flat_code.specs.Names.{IsNames, find as found_among};
 
 use plc_base::{Place, Width};
@@ -27,11 +27,11 @@ impl Model for NameEntry {
 
 impl NameEntry {
     ghost use Rattle.std.specs.Prelude.{◌≡◌, ◌&&◌};
-    ghost use Rattle.flat_code.specs.Faults.{is_before, is_upper};
+    ghost use Rattle.flat_code.specs.Faults.{is_earlier_name, is_upper};
 
     /// Whether the name is in upper case and stands after another in the order of bytes.
     fn stands_after(&self, before: &[u8]) -> bool
-        ensures { result ≡ (is_before before.now self.now.name && is_upper self.now.name) }
+        ensures { result ≡ (is_earlier_name before.now self.now.name && is_upper self.now.name) }
     {
         let name = self.name.as_slice();
         is_name_before(before, name) && is_upper_case(name)
@@ -49,7 +49,7 @@ impl NameEntry {
 /// that it begins.
 #[tactic(auto, using(crate::proofs::NameLemmas::before_is_less))]
 pub fn is_name_before(before: &[u8], name: &[u8]) -> bool
-    ensures { result ≡ is_before before.now name.now }
+    ensures { result ≡ is_earlier_name before.now name.now }
 {
     before.cmp(name).is_lt()
 }
@@ -74,7 +74,7 @@ pub fn ends_blank(name: &[u8]) -> bool
 
 /// How a name in upper case compares with a name in any case.
 pub fn order_of(upper: &[u8], name: &[u8]) -> Ordering
-    ensures { result ≡ slice_cmp nat_cmp upper.now (folded name.now) }
+    ensures { result ≡ slice_cmp nat_cmp upper.now (upper_case_name name.now) }
 {
     upper
         .iter()

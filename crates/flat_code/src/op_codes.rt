@@ -1,5 +1,5 @@
 ghost use Rattle.std.specs.Prelude.{◌≡◌, ◌<◌};
-ghost use Rattle.flat_code.specs.OpCodes.{code_of};
+ghost use Rattle.flat_code.specs.OpCodes.{op_code_of};
 
 use crate::operations::{
     Adding, CallOperation, EndOperation, Logic, Number, Operation, PointerOperation,
@@ -10,7 +10,7 @@ use plc_base::{Check, Compare, TimerKind};
 impl Operation {
     /// The op code of the operation, below 128; 0 of `NoOperation`.
     pub fn code(self) -> u8
-        ensures value { result ≡ code_of self }
+        ensures value { result ≡ op_code_of self }
         ensures below { result < 128 }
     {
         match self {

@@ -120,7 +120,7 @@ impl Operand {
     ghost use Rattle.flat_code.specs.Forms.{payload};
 
     /// How many bytes an op with the operand takes: two, and the payload.
-    #[tactic(auto, unfolding(crate::specs::Forms::direct, crate::specs::Forms::actual))]
+    #[tactic(auto, unfolding(crate::specs::Forms::direct_coding, crate::specs::Forms::passed_coding))]
     pub(crate) fn op_size(&self) -> u32
         ensures size { result ≡ 2 + length (payload self.now) }
         ensures small { result ≤ 11 }

@@ -2,7 +2,7 @@
 ghost use Rattle.std.specs.Prelude.{◌≡◌, ◌≤◌, length, map, IfSome};
 ghost use Rattle.std.specs.Option.{option_map};
 ghost use Rattle.flat_code.specs.Blocks.{system_params};
-ghost use Rattle.flat_code.specs.Image.{param_of};
+ghost use Rattle.flat_code.specs.Image.{param_of_record};
 
 use crate::image_fields::{ParameterRecord, SECTION_IN, SECTION_OUT};
 use crate::programs::Param;
@@ -80,7 +80,7 @@ impl ParameterRecord {
     /// The parameter of the record. A width of another number than 1 to 4 is a fault, and read as a
     /// bit.
     pub fn param(&self) -> Param
-        ensures { result ≡ param_of self.now }
+        ensures { result ≡ param_of_record self.now }
     {
         Param {
             section: self.section,
@@ -93,7 +93,7 @@ impl ParameterRecord {
 
 fn params_of(records: &[ParameterRecord]) -> ArrayVec<Param, 4>
     requires { length records.now ≤ 4 }
-    ensures { result.items ≡ map param_of records.now }
+    ensures { result.items ≡ map param_of_record records.now }
 {
     let mut params = ArrayVec::new();
     for record in records {
@@ -105,7 +105,7 @@ fn params_of(records: &[ParameterRecord]) -> ArrayVec<Param, 4>
 /// The parameters of a system function as those of a program's block: `None` exactly where there is
 /// none of the number.
 pub fn system_function_params(number: u16) -> Option<ArrayVec<Param, 4>>
-    ensures { option_map (λ p. p.items) result ≡ option_map (map param_of) (system_params number) }
+    ensures { option_map (λ p. p.items) result ≡ option_map (map param_of_record) (system_params number) }
 {
     Some(params_of(system_function_records(number)?))
 }

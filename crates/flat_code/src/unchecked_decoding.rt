@@ -2,7 +2,7 @@
 ghost use Rattle.std.specs.Prelude.{◌≡◌, ◌<◌, ◌≤◌, ◌+◌, ◌^◌, is_some, length, drop, true, Some};
 ghost use Rattle.std.specs.Option.{option_map};
 ghost use Rattle.flat_code.specs.Codes.{size};
-ghost use Rattle.flat_code.specs.Forms.{actual_in, actual_spelled, area_of_code, direct, payload, payload_in, width_of_code};
+ghost use Rattle.flat_code.specs.Forms.{actual_in, actual_spelled, area_of_code, direct_coding, payload, payload_in, width_of_code};
 ghost use Rattle.flat_code.specs.Ops.{op_at};
 
 use crate::decoding::{behind, operand_at};
@@ -45,10 +45,10 @@ fn known_width(code: u8) -> Width
 
 /// A fixed place: area, width, byte and bit.
 #[inline(always)]
-#[tactic(auto, unfolding(crate::specs::Forms::direct))]
+#[tactic(auto, unfolding(crate::specs::Forms::direct_coding))]
 fn known_direct(bytes: &[u8]) -> (Area, Width, u16, u8)
-    requires { is_some (direct.read bytes.now) ≡ true }
-    ensures { option_map (λ r. r.0) (direct.read bytes.now)
+    requires { is_some (direct_coding.read bytes.now) ≡ true }
+    ensures { option_map (λ r. r.0) (direct_coding.read bytes.now)
         ≡ Some (result.0, (result.1, (result.2, result.3))) }
 {
     let [area, width, high, low, bit, ..] = bytes else {
@@ -64,7 +64,7 @@ fn known_direct(bytes: &[u8]) -> (Area, Width, u16, u8)
 
 /// What a PASS hands on, by its form, and how many bytes its op takes.
 #[inline(always)]
-#[tactic(auto, unfolding(crate::specs::Forms::direct))]
+#[tactic(auto, unfolding(crate::specs::Forms::direct_coding))]
 fn known_actual(form: u8, bytes: &[u8]) -> (Passed, u32)
     requires { is_some (actual_in form bytes.now) ≡ true }
     ensures read { option_map (λ r. r.0) (actual_in form bytes.now) ≡ Some result.0 }
@@ -132,7 +132,7 @@ fn operand_of_any_form(form: u8, bytes: &[u8]) -> (Operand, u32)
 /// The operand of a form, and how many bytes its op takes. Statements of several ops come first: calls,
 /// and places in a data block that is opened.
 #[inline(always)]
-#[tactic(auto, unfolding(crate::specs::Forms::payload_in, crate::specs::Forms::direct, crate::specs::Forms::actual))]
+#[tactic(auto, unfolding(crate::specs::Forms::payload_in, crate::specs::Forms::direct_coding, crate::specs::Forms::passed_coding))]
 fn known_operand_of_part(form: u8, bytes: &[u8]) -> (Operand, u32)
     requires { is_some (payload_in form bytes.now) ≡ true }
     ensures read { option_map (λ r. r.0) (payload_in form bytes.now) ≡ Some result.0 }
@@ -194,7 +194,7 @@ fn operand_of_part(form: u8, bytes: &[u8]) -> (Operand, u32)
 
 /// The operand of a form, and how many bytes its op takes. The forms of most ops come first.
 #[inline(always)]
-#[tactic(auto, unfolding(crate::specs::Forms::payload_in, crate::specs::Forms::direct))]
+#[tactic(auto, unfolding(crate::specs::Forms::payload_in, crate::specs::Forms::direct_coding))]
 fn known_operand(form: u8, bytes: &[u8]) -> (Operand, u32)
     requires { is_some (payload_in form bytes.now) ≡ true }
     ensures read { option_map (λ r. r.0) (payload_in form bytes.now) ≡ Some result.0 }

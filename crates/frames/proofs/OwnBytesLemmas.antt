@@ -9,13 +9,13 @@ use Rattle.std.proofs.lemmas.Option.{slice_get_past}
 use Rattle.plc_base.specs.declared.Width.{Width}
 use Rattle.plc_base.specs.declared.Width.TheVariants.{Bit, Byte, Word, Dword}
 use Rattle.plc_base.specs.Widths.{byte_count}
-use Rattle.plc_mem.specs.Bits.{bit_in}
+use Rattle.plc_mem.specs.Bits.{bit_of_byte}
 use Rattle.plc_mem.specs.Run.{number_over, operand_bit_of}
-use Rattle.plc_mem.specs.Writing.{is_within, put, stored, with_bit}
+use Rattle.plc_mem.specs.Writing.{is_within, put_number, bytes_with_number, byte_with_bit}
 use Rattle.plc_mem.proofs.Numbers.{run_none, weights_same}
 use Rattle.plc_mem.proofs.Stored.{length-stored}
-use Rattle.frames.specs.Locals.{LocalData, no_locals, end_of, local_number, local_written, opened, closed, closed_at, last_start}
-use Rattle.frames.specs.OwnBytes.{IsLaidOut, IsOwnWritten, bytes_of, own_bytes, pieces}
+use Rattle.frames.specs.Locals.{LocalData, no_locals, frame_bytes_end, local_number, local_written, open_locals, close_locals, close_locals_at, last_start}
+use Rattle.frames.specs.OwnBytes.{IsLaidOut, IsOwnWritten, frame_bytes, own_bytes, bytes_cut}
 
 -- ---- where the pieces begin
 
@@ -136,13 +136,13 @@ laid_from l first rises = record {
 
 pub piece_is :
     (starts bytes : List ℕ) (k : ℕ)
-    → slice_get (pieces starts bytes) k
+    → slice_get (bytes_cut starts bytes) k
     ≡ option_map (λ start. slice_range bytes start (begin starts (length bytes) (suc k))) (slice_get starts k)
 piece_is [] bytes k = refl
 piece_is (s ∷ rest) bytes zero = refl
 piece_is (s ∷ rest) bytes (suc k) = piece_is rest bytes k
 
-pub each_is : (l : LocalData) (frame : ℕ) → slice_get (own_bytes l) frame ≡ bytes_of l frame
+pub each_is : (l : LocalData) (frame : ℕ) → slice_get (own_bytes l) frame ≡ frame_bytes l frame
 each_is l frame =
     piece_is l.starts l.bytes frame
     ∙ ap (λ (n : ℕ). option_map (λ start. slice_range l.bytes start (begin l.starts (length l.bytes) n)) (slice_get l.starts frame)) (sym (add-one frame))
@@ -157,7 +157,7 @@ range_and_rest xs a b le =
 -- the pieces, one behind the other
 joined :
     (starts bytes : List ℕ) → Rises starts (length bytes)
-    → concat (pieces starts bytes) ≡ drop (begin starts (length bytes) 0) bytes
+    → concat (bytes_cut starts bytes) ≡ drop (begin starts (length bytes) 0) bytes
 joined [] bytes rises = sym (drop_all (length bytes) bytes (omega arith))
 joined (s ∷ rest) bytes rises =
     let more = joined rest bytes (λ k. rises (suc k)) in
@@ -180,7 +180,7 @@ range_in_front xs a b s le within =
 
 pieces_push :
     (starts : List ℕ) (s : ℕ) (bytes : List ℕ) → Rises (starts ++ s ∷ []) (length bytes)
-    → pieces (starts ++ s ∷ []) bytes ≡ pieces starts (take s bytes) ++ drop s bytes ∷ []
+    → bytes_cut (starts ++ s ∷ []) bytes ≡ bytes_cut starts (take s bytes) ++ drop s bytes ∷ []
 pieces_push [] s bytes rises = ap (λ (ys : List ℕ). ys ∷ []) (take_rest bytes s)
 pieces_push (a ∷ rest) s bytes rises =
     let behind : Rises (rest ++ s ∷ []) (length bytes) = λ k. rises (suc k) in
@@ -194,7 +194,7 @@ pieces_push (a ∷ rest) s bytes rises =
     ap (slice_range bytes a) next
     ∙ range_in_front bytes a (begin rest s 0) s (omega (arith, up, next)) low
     ∙ ap (λ (n : ℕ). slice_range (take s bytes) a (begin rest n 0)) (sym size) in
-    ap (λ (ys : List ℕ). ys ∷ pieces (rest ++ s ∷ []) bytes) front
+    ap (λ (ys : List ℕ). ys ∷ bytes_cut (rest ++ s ∷ []) bytes) front
     ∙ ap (λ (p : List (List ℕ)). slice_range (take s bytes) a (begin rest (length (take s bytes)) 0) ∷ p) (pieces_push rest s bytes behind)
 
 -- ---- opening and closing
@@ -204,15 +204,15 @@ none_laid = record { begins = refl; rises = λ k. omega arith }
 
 pub opened_own :
     (len : ℕ) (l : LocalData) → IsLaidOut l
-    → IsLaidOut (opened len l) × (own_bytes (opened len l) ≡ own_bytes l ++ replicate len 0 ∷ [])
+    → IsLaidOut (open_locals len l) × (own_bytes (open_locals len l) ≡ own_bytes l ++ replicate len 0 ∷ [])
 opened_own len l laid =
     let zeros : List ℕ = replicate len 0 in
     let all : List ℕ = l.bytes ++ zeros in
     let more : length l.bytes ≤ length all = search (rules, places) in
     let rises = rises_push l.starts (length l.bytes) (length all) (rises_from l laid) more in (
-      laid_from (opened len l) (first_push l.starts (length l.bytes) (length all) ∙ laid.begins) rises,
+      laid_from (open_locals len l) (first_push l.starts (length l.bytes) (length all) ∙ laid.begins) rises,
       pieces_push l.starts (length l.bytes) all rises
-          ∙ ap (λ (ys : List ℕ). pieces l.starts ys ++ drop (length l.bytes) all ∷ []) (take_at l.bytes zeros (length l.bytes) refl)
+          ∙ ap (λ (ys : List ℕ). bytes_cut l.starts ys ++ drop (length l.bytes) all ∷ []) (take_at l.bytes zeros (length l.bytes) refl)
           ∙ ap (λ (ys : List ℕ). own_bytes l ++ ys ∷ []) (drop_at l.bytes zeros (length l.bytes) refl),
     )
 
@@ -241,16 +241,16 @@ without_last front x =
 
 closed_last :
     (front : List ℕ) (s : ℕ) (bytes : List ℕ)
-    → closed (record { starts = front ++ s ∷ []; bytes = bytes }) ≡ record { starts = front; bytes = take s bytes }
+    → close_locals (record { starts = front ++ s ∷ []; bytes = bytes }) ≡ record { starts = front; bytes = take s bytes }
 closed_last front s bytes =
     let l : LocalData = record { starts = front ++ s ∷ []; bytes = bytes } in
     let last : last_start (front ++ s ∷ []) ≡ Some s =
     ap (slice_get (front ++ s ∷ [])) (one_less front s) ∙ last_at front s in
-    ap (closed_at l) last
+    ap (close_locals_at l) last
     ∙ ap (λ (z : List ℕ). let r : LocalData = record { starts = z; bytes = take s bytes } in r) (without_last front s)
 
 abbrev IsClosed : LocalData → Type 0
-IsClosed l = IsLaidOut (closed l) × (own_bytes (closed l) ≡ take (length (own_bytes l) - 1) (own_bytes l))
+IsClosed l = IsLaidOut (close_locals l) × (own_bytes (close_locals l) ≡ take (length (own_bytes l) - 1) (own_bytes l))
 
 closed_none : (bytes : List ℕ) → (let l : LocalData = record { starts = []; bytes = bytes } in IsLaidOut l → IsClosed l)
 closed_none bytes laid = (laid, refl)
@@ -317,16 +317,16 @@ same_bytes :
 unfolding number_over
 same_bytes f g at here bit Bit same =
     weights_same (operand_bit_of f at bit Bit) (operand_bit_of g here bit Bit) 1
-    (λ j h. ap (λ (o : Option ℕ). bit_in o bit) (ap f (sym (add-zero at)) ∙ same 0 (lit< tt) ∙ ap g (add-zero here)))
+    (λ j h. ap (λ (o : Option ℕ). bit_of_byte o bit) (ap f (sym (add-zero at)) ∙ same 0 (lit< tt) ∙ ap g (add-zero here)))
 same_bytes f g at here bit Byte same =
     weights_same (operand_bit_of f at bit Byte) (operand_bit_of g here bit Byte) 8
-    (λ j h. ap (λ (o : Option ℕ). bit_in o (j % 8)) (same (1 - 1 - j / 8) (omega arith)))
+    (λ j h. ap (λ (o : Option ℕ). bit_of_byte o (j % 8)) (same (1 - 1 - j / 8) (omega arith)))
 same_bytes f g at here bit Word same =
     weights_same (operand_bit_of f at bit Word) (operand_bit_of g here bit Word) 16
-    (λ j h. ap (λ (o : Option ℕ). bit_in o (j % 8)) (same (2 - 1 - j / 8) (omega arith)))
+    (λ j h. ap (λ (o : Option ℕ). bit_of_byte o (j % 8)) (same (2 - 1 - j / 8) (omega arith)))
 same_bytes f g at here bit Dword same =
     weights_same (operand_bit_of f at bit Dword) (operand_bit_of g here bit Dword) 32
-    (λ j h. ap (λ (o : Option ℕ). bit_in o (j % 8)) (same (4 - 1 - j / 8) (omega arith)))
+    (λ j h. ap (λ (o : Option ℕ). bit_of_byte o (j % 8)) (same (4 - 1 - j / 8) (omega arith)))
 
 -- each operand has a first byte
 some_first : (width : Width) → 0 < byte_count width
@@ -365,17 +365,17 @@ number_in bytes start end at bit width false test =
 pub number_own :
     (l : LocalData) (frame at bit : ℕ) (width : Width)
     → local_number l frame at bit width
-    ≡ option_and_then (λ own. number_over (slice_get own) at bit width) (bytes_of l frame)
+    ≡ option_and_then (λ own. number_over (slice_get own) at bit width) (frame_bytes l frame)
 unfolding local_number
 number_own l frame at bit width = by (slice_get l.starts frame)
   where
     by : (o : Option ℕ)
         → option_and_then (λ place. number_over (slice_get l.bytes) place bit width)
-        (option_and_then (λ start. cond (nat_le (start + at + byte_count width) (end_of l frame)) (Some (start + at)) None) o)
-        ≡ option_and_then (λ own. number_over (slice_get own) at bit width) (option_map (λ start. slice_range l.bytes start (end_of l frame)) o)
+        (option_and_then (λ start. cond (nat_le (start + at + byte_count width) (frame_bytes_end l frame)) (Some (start + at)) None) o)
+        ≡ option_and_then (λ own. number_over (slice_get own) at bit width) (option_map (λ start. slice_range l.bytes start (frame_bytes_end l frame)) o)
     by None = refl
     by (Some start) =
-        number_in l.bytes start (end_of l frame) at bit width (nat_le (start + at + byte_count width) (end_of l frame)) refl
+        number_in l.bytes start (frame_bytes_end l frame) at bit width (nat_le (start + at + byte_count width) (frame_bytes_end l frame)) refl
 
 -- ---- writing
 
@@ -417,9 +417,9 @@ outside_first a b p k h (inr le) = inr (omega (arith, le, h))
 
 stored_other :
     (bytes : List ℕ) (a b p bit : ℕ) (width : Width) (value : ℕ) → Outside a b p (byte_count width)
-    → slice_range (stored bytes p bit width value) a b ≡ slice_range bytes a b
+    → slice_range (bytes_with_number bytes p bit width value) a b ≡ slice_range bytes a b
 stored_other bytes a b p bit Bit value out =
-    range_other bytes a b p (with_bit (slice_index bytes p) bit value) (outside_first a b p 1 (lit< tt) out)
+    range_other bytes a b p (byte_with_bit (slice_index bytes p) bit value) (outside_first a b p 1 (lit< tt) out)
 stored_other bytes a b p bit Byte value out = range_other bytes a b p value (outside_first a b p 1 (lit< tt) out)
 stored_other bytes a b p bit Word value out =
     let one = set bytes p (value / 2 ^ 8) in
@@ -445,10 +445,10 @@ range_index xs a b i within = get_or-take (b - a) (drop a xs) i 0 (omega (arith,
 
 stored_own :
     (bytes : List ℕ) (a b at bit : ℕ) (width : Width) (value : ℕ) → a + at + byte_count width ≤ b
-    → slice_range (stored bytes (a + at) bit width value) a b ≡ stored (slice_range bytes a b) at bit width value
+    → slice_range (bytes_with_number bytes (a + at) bit width value) a b ≡ bytes_with_number (slice_range bytes a b) at bit width value
 stored_own bytes a b at bit Bit value within =
-    range_set bytes a b at (with_bit (slice_index bytes (a + at)) bit value)
-    ∙ ap (λ (n : ℕ). set (slice_range bytes a b) at (with_bit n bit value)) (sym (range_index bytes a b at (omega (arith, within))))
+    range_set bytes a b at (byte_with_bit (slice_index bytes (a + at)) bit value)
+    ∙ ap (λ (n : ℕ). set (slice_range bytes a b) at (byte_with_bit n bit value)) (sym (range_index bytes a b at (omega (arith, within))))
 stored_own bytes a b at bit Byte value within = range_set bytes a b at value
 stored_own bytes a b at bit Word value within =
     range_set_on (set bytes (a + at) (value / 2 ^ 8)) a b at 1 (value % 2 ^ 8)
@@ -484,17 +484,17 @@ within_own bytes a b at bit Dword le all =
     le-leb (at + 4) (length (slice_range bytes a b)) (omega (arith, le, size)) ∙ sym (le-leb (a + at + 4) (length bytes) (omega (arith, le, all)))
 
 put_stored : (bytes : List ℕ) (at bit : ℕ) (width : Width) (value : ℕ) → is_within bytes at bit width ≡ true
-    → put bytes at bit width value ≡ Some (stored bytes at bit width value)
-unfolding put
+    → put_number bytes at bit width value ≡ Some (bytes_with_number bytes at bit width value)
+unfolding put_number
 put_stored bytes at bit width value is = rw is refl
 
 put_none : (bytes : List ℕ) (at bit : ℕ) (width : Width) (value : ℕ) → is_within bytes at bit width ≡ false
-    → put bytes at bit width value ≡ None
-unfolding put
+    → put_number bytes at bit width value ≡ None
+unfolding put_number
 put_none bytes at bit width value is = rw is refl
 
 -- where the next frame's bytes begin
-end_is : (l : LocalData) (frame : ℕ) → end_of l frame ≡ begin l.starts (length l.bytes) (suc frame)
+end_is : (l : LocalData) (frame : ℕ) → frame_bytes_end l frame ≡ begin l.starts (length l.bytes) (suc frame)
 end_is l frame = ap (begin l.starts (length l.bytes)) (add-one frame)
 
 apart : (n m : ℕ) → n ≢ m → (n < m) ⊎ (m < n)
@@ -504,7 +504,7 @@ apart n m other = grind arith
 outside_others :
     (l : LocalData) → IsLaidOut l → (frame start at k other from : ℕ)
     → slice_get l.starts frame ≡ Some start → slice_get l.starts other ≡ Some from → other ≢ frame
-    → start + at + k ≤ end_of l frame → Outside from (end_of l other) (start + at) k
+    → start + at + k ≤ frame_bytes_end l frame → Outside from (frame_bytes_end l other) (start + at) k
 outside_others l laid frame start at k other from is there apart_is within =
     let rises = rises_from l laid in
     let here = begin_is l.starts (length l.bytes) frame start is in
@@ -523,28 +523,28 @@ outside_others l laid frame start at k other from is there apart_is within =
 written_there :
     (l : LocalData) → IsLaidOut l → (frame start at bit : ℕ) (width : Width) (value : ℕ)
     → slice_get l.starts frame ≡ Some start
-    → start + at + byte_count width ≤ end_of l frame
+    → start + at + byte_count width ≤ frame_bytes_end l frame
     → is_within l.bytes (start + at) bit width ≡ true
-    → (let new : LocalData = record l { bytes = stored l.bytes (start + at) bit width value } in IsOwnWritten l new frame at bit width value)
+    → (let new : LocalData = record l { bytes = bytes_with_number l.bytes (start + at) bit width value } in IsOwnWritten l new frame at bit width value)
 written_there l laid frame start at bit width value is le within =
-    let bytes : List ℕ = stored l.bytes (start + at) bit width value in
+    let bytes : List ℕ = bytes_with_number l.bytes (start + at) bit width value in
     let new : LocalData = record l { bytes = bytes } in
     let rises = rises_from l laid in
     let size : length bytes ≡ length l.bytes = length-stored l.bytes (start + at) bit width value in
-    let ends : (k : ℕ) → end_of new k ≡ end_of l k = λ k. ap (λ (n : ℕ). begin l.starts n (k + 1)) size in
+    let ends : (k : ℕ) → frame_bytes_end new k ≡ frame_bytes_end l k = λ k. ap (λ (n : ℕ). begin l.starts n (k + 1)) size in
     let past = before_end l.starts (length l.bytes) rises (suc frame) in
     let end = end_is l frame in
-    let own : List ℕ = slice_range l.bytes start (end_of l frame) in
-    let mine : bytes_of l frame ≡ Some own = ap (option_map (λ s. slice_range l.bytes s (end_of l frame))) is in
+    let own : List ℕ = slice_range l.bytes start (frame_bytes_end l frame) in
+    let mine : frame_bytes l frame ≡ Some own = ap (option_map (λ s. slice_range l.bytes s (frame_bytes_end l frame))) is in
     record {
       own =
-          ap (option_map (λ s. slice_range bytes s (end_of new frame))) is
+          ap (option_map (λ s. slice_range bytes s (frame_bytes_end new frame))) is
           ∙ ap (λ (e : ℕ). Some (slice_range bytes start e)) (ends frame)
-          ∙ ap Some (stored_own l.bytes start (end_of l frame) at bit width value le)
+          ∙ ap Some (stored_own l.bytes start (frame_bytes_end l frame) at bit width value le)
           ∙ sym
-          (ap (option_and_then (λ ys. put ys at bit width value)) mine
+          (ap (option_and_then (λ ys. put_number ys at bit width value)) mine
           ∙ put_stored own at bit width value
-          (within_own l.bytes start (end_of l frame) at bit width le (omega (arith, past, end)) ∙ within));
+          (within_own l.bytes start (frame_bytes_end l frame) at bit width le (omega (arith, past, end)) ∙ within));
       others = λ other apart_is. by other apart_is size ends (slice_get l.starts other) refl;
       laid =
           laid_from new
@@ -553,62 +553,62 @@ written_there l laid frame start at bit width value is le within =
     }
   where
     by : (other : ℕ) → other ≢ frame
-        → length (stored l.bytes (start + at) bit width value) ≡ length l.bytes
-        → ((k : ℕ) → begin l.starts (length (stored l.bytes (start + at) bit width value)) (k + 1) ≡ end_of l k)
+        → length (bytes_with_number l.bytes (start + at) bit width value) ≡ length l.bytes
+        → ((k : ℕ) → begin l.starts (length (bytes_with_number l.bytes (start + at) bit width value)) (k + 1) ≡ frame_bytes_end l k)
         → (o : Option ℕ) → slice_get l.starts other ≡ o
-        → option_map (λ s. slice_range (stored l.bytes (start + at) bit width value) s (begin l.starts (length (stored l.bytes (start + at) bit width value)) (other + 1))) o
-        ≡ option_map (λ s. slice_range l.bytes s (end_of l other)) o
+        → option_map (λ s. slice_range (bytes_with_number l.bytes (start + at) bit width value) s (begin l.starts (length (bytes_with_number l.bytes (start + at) bit width value)) (other + 1))) o
+        ≡ option_map (λ s. slice_range l.bytes s (frame_bytes_end l other)) o
     by other apart_is size ends None there = refl
     by other apart_is size ends (Some from) there =
-        ap (λ (e : ℕ). Some (slice_range (stored l.bytes (start + at) bit width value) from e)) (ends other)
+        ap (λ (e : ℕ). Some (slice_range (bytes_with_number l.bytes (start + at) bit width value) from e)) (ends other)
         ∙ ap Some
-        (stored_other l.bytes from (end_of l other) (start + at) bit width value
+        (stored_other l.bytes from (frame_bytes_end l other) (start + at) bit width value
         (outside_others l laid frame start at (byte_count width) other from is there apart_is le))
 
 -- what a write of a frame leaves, or that the frame's own bytes have no such operand
 abbrev IsWritten : (l : LocalData) (frame at bit : ℕ) (width : Width) (value : ℕ) → (done : Option LocalData) (own : Option (List ℕ)) → Type 0
 IsWritten l frame at bit width value done own =
     MatchOption done
-    (option_and_then (λ ys. put ys at bit width value) own ≡ None)
+    (option_and_then (λ ys. put_number ys at bit width value) own ≡ None)
     (λ new. IsOwnWritten l new frame at bit width value)
 
 pub written_own :
     (l : LocalData) (frame at bit : ℕ) (width : Width) (value : ℕ) → IsLaidOut l
-    → IsWritten l frame at bit width value (local_written l frame at bit width value) (bytes_of l frame)
-unfolding local_written put
+    → IsWritten l frame at bit width value (local_written l frame at bit width value) (frame_bytes l frame)
+unfolding local_written put_number
 written_own l frame at bit width value laid = by (slice_get l.starts frame) refl
   where
     stored_or_not : (start : ℕ) → slice_get l.starts frame ≡ Some start
-        → start + at + byte_count width ≤ end_of l frame
+        → start + at + byte_count width ≤ frame_bytes_end l frame
         → (within : Bool) → is_within l.bytes (start + at) bit width ≡ within
         → IsWritten l frame at bit width value
-        (option_map (λ bytes. record l { bytes = bytes }) (cond within (Some (stored l.bytes (start + at) bit width value)) None))
-        (Some (slice_range l.bytes start (end_of l frame)))
+        (option_map (λ bytes. record l { bytes = bytes }) (cond within (Some (bytes_with_number l.bytes (start + at) bit width value)) None))
+        (Some (slice_range l.bytes start (frame_bytes_end l frame)))
     stored_or_not start is le true within = written_there l laid frame start at bit width value is le within
     stored_or_not start is le false within =
         let past = before_end l.starts (length l.bytes) (rises_from l laid) (suc frame) in
         let end = end_is l frame in
-        put_none (slice_range l.bytes start (end_of l frame)) at bit width value
-        (within_own l.bytes start (end_of l frame) at bit width le (omega (arith, past, end)) ∙ within)
+        put_none (slice_range l.bytes start (frame_bytes_end l frame)) at bit width value
+        (within_own l.bytes start (frame_bytes_end l frame) at bit width le (omega (arith, past, end)) ∙ within)
 
     placed : (start : ℕ) → slice_get l.starts frame ≡ Some start
-        → (ends : Bool) → nat_le (start + at + byte_count width) (end_of l frame) ≡ ends
+        → (ends : Bool) → nat_le (start + at + byte_count width) (frame_bytes_end l frame) ≡ ends
         → IsWritten l frame at bit width value
-        (option_and_then (λ place. option_map (λ bytes. record l { bytes = bytes }) (put l.bytes place bit width value)) (cond ends (Some (start + at)) None))
-        (Some (slice_range l.bytes start (end_of l frame)))
+        (option_and_then (λ place. option_map (λ bytes. record l { bytes = bytes }) (put_number l.bytes place bit width value)) (cond ends (Some (start + at)) None))
+        (Some (slice_range l.bytes start (frame_bytes_end l frame)))
     placed start is true test =
-        stored_or_not start is (leb-true (start + at + byte_count width) (end_of l frame) test) (is_within l.bytes (start + at) bit width) refl
+        stored_or_not start is (leb-true (start + at + byte_count width) (frame_bytes_end l frame) test) (is_within l.bytes (start + at) bit width) refl
     placed start is false test =
-        let past = leb-false (start + at + byte_count width) (end_of l frame) test in
-        let short = range_short l.bytes start (end_of l frame) in
+        let past = leb-false (start + at + byte_count width) (frame_bytes_end l frame) test in
+        let short = range_short l.bytes start (frame_bytes_end l frame) in
         let some = some_first width in
-        put_none (slice_range l.bytes start (end_of l frame)) at bit width value
-        (not_within (slice_range l.bytes start (end_of l frame)) at bit width (omega (arith, past, short, some)))
+        put_none (slice_range l.bytes start (frame_bytes_end l frame)) at bit width value
+        (not_within (slice_range l.bytes start (frame_bytes_end l frame)) at bit width (omega (arith, past, short, some)))
 
     by : (o : Option ℕ) → slice_get l.starts frame ≡ o
         → IsWritten l frame at bit width value
-        (option_and_then (λ place. option_map (λ bytes. record l { bytes = bytes }) (put l.bytes place bit width value))
-        (option_and_then (λ start. cond (nat_le (start + at + byte_count width) (end_of l frame)) (Some (start + at)) None) o))
-        (option_map (λ start. slice_range l.bytes start (end_of l frame)) o)
+        (option_and_then (λ place. option_map (λ bytes. record l { bytes = bytes }) (put_number l.bytes place bit width value))
+        (option_and_then (λ start. cond (nat_le (start + at + byte_count width) (frame_bytes_end l frame)) (Some (start + at)) None) o))
+        (option_map (λ start. slice_range l.bytes start (frame_bytes_end l frame)) o)
     by None is = refl
-    by (Some start) is = placed start is (nat_le (start + at + byte_count width) (end_of l frame)) refl
+    by (Some start) is = placed start is (nat_le (start + at + byte_count width) (frame_bytes_end l frame)) refl

@@ -7,7 +7,7 @@ use Rattle.status_word.specs.Registers.{regs_at_rest}
 use Rattle.frames.specs.Relay.{relay_off}
 use Rattle.plc_base.specs.Profiles.{most_frames}
 use Rattle.plc_base.specs.declared.Profile.{Profile}
-use Rattle.frames.specs.Locals.{opened, closed, no_locals, byte_at, byte_set}
+use Rattle.frames.specs.Locals.{open_locals, close_locals, no_locals, local_byte_at, local_byte_set}
 use Rattle.frames.specs.declared.activation.Activation.{Activation}
 use Rattle.frames.specs.declared.activation.FrameFault.{FrameFault}
 use Rattle.frames.specs.declared.activation.FrameFault.TheVariants.{Depth, LocalFull}
@@ -44,63 +44,63 @@ frame_begun block local_len = record {
 }
 
 -- an activation as its organization block begins: registers and status word 0, nothing delayed, one frame, its local bytes 0
-abbrev pub begun : Profile → (class ob : ℕ) → Frame → Activation
-begun profile class ob f = record {
+abbrev pub activation_begun : Profile → (class ob : ℕ) → Frame → Activation
+activation_begun profile class ob f = record {
   profile = profile;
   class = class;
   ob = ob;
   delay = 0;
-  running = record { regs = regs_at_rest; frame = f; locals = opened f.local_len no_locals };
+  running = record { regs = regs_at_rest; frame = f; locals = open_locals f.local_len no_locals };
   below = [];
   left = false;
 }
 
 -- a local byte of the frame at a place
 abbrev pub local_byte : Activation → (frame byte : ℕ) → Option ℕ
-local_byte a frame byte = byte_at a.running.locals frame byte
+local_byte a frame byte = local_byte_at a.running.locals frame byte
 
 -- another one there
 abbrev pub with_local_byte : (frame byte value : ℕ) → Activation → Option Activation
 with_local_byte frame byte value a =
-    option_map (λ locals. record a { running = record a.running { locals = locals } }) (byte_set a.running.locals frame byte value)
+    option_map (λ locals. record a { running = record a.running { locals = locals } }) (local_byte_set a.running.locals frame byte value)
 
 -- a block is entered: its frame is the innermost one, and its local bytes are 0
-abbrev pub entered : Frame → Activation → Activation
-entered f a = record a {
-  running = record a.running { frame = f; locals = opened f.local_len a.running.locals };
+abbrev pub block_entered : Frame → Activation → Activation
+block_entered f a = record a {
+  running = record a.running { frame = f; locals = open_locals f.local_len a.running.locals };
   below = frames_of a;
   left = false;
 }
 
 -- why a block can't be entered: as many frames stand as the profile has, or its local bytes have no room in 1,024
-abbrev pub refused : (local_len : ℕ) → Activation → Option FrameFault
-refused local_len a =
+abbrev pub entry_fault : (local_len : ℕ) → Activation → Option FrameFault
+entry_fault local_len a =
     if nat_le (most_frames a.profile) (length (frames_of a)) then Some Depth
     else if nat_le (length a.running.locals.bytes + local_len) 1024 then None
     else Some LocalFull
 
 -- without a reason it is entered; else the answer is the reason, and nothing has changed
 abbrev pub EntersBy : Option FrameFault → (old new : Activation) → Frame → Result (Unit {0}) FrameFault → Type 0
-EntersBy None old new f (Ok answer) = new ≡ entered f old
+EntersBy None old new f (Ok answer) = new ≡ block_entered f old
 EntersBy (Some why) old new f (Err fault) = (fault ≡ why) × (new ≡ old)
 EntersBy why old new f answer = ⊥
 
 -- a block is entered, or it can't be
-abbrev pub Enters : (old new : Activation) → Frame → Result (Unit {0}) FrameFault → Type 0
-Enters old new f answer = EntersBy (refused f.local_len old) old new f answer
+abbrev pub EntersBlock : (old new : Activation) → Frame → Result (Unit {0}) FrameFault → Type 0
+EntersBlock old new f answer = EntersBy (entry_fault f.local_len old) old new f answer
 
 -- a block is left: its local bytes end, and the frame below is the innermost one
-abbrev pub LeavesTo : (standing : List Frame) → (old new : Activation) → Option Frame → Type 0
-LeavesTo [] old new None = new ≡ old
-LeavesTo (f ∷ rest) old new (Some frame) =
-    (frame ≡ f) × (frames_of new ≡ rest) × (new.running.locals ≡ closed old.running.locals)
+abbrev pub LeavesFrameTo : (standing : List Frame) → (old new : Activation) → Option Frame → Type 0
+LeavesFrameTo [] old new None = new ≡ old
+LeavesFrameTo (f ∷ rest) old new (Some frame) =
+    (frame ≡ f) × (frames_of new ≡ rest) × (new.running.locals ≡ close_locals old.running.locals)
     × (new.running.regs ≡ old.running.regs) × (new.class ≡ old.class) × (new.ob ≡ old.ob) × (new.delay ≡ old.delay)
     × (new.profile ≡ old.profile)
-LeavesTo standing old new answer = ⊥
+LeavesFrameTo standing old new answer = ⊥
 
 -- the same by the frames that stand; without one the answer is None, and nothing changes
-abbrev pub Leaves : (old new : Activation) → Option Frame → Type 0
-Leaves old new answer = LeavesTo (frames_of old) old new answer
+abbrev pub LeavesFrame : (old new : Activation) → Option Frame → Type 0
+LeavesFrame old new answer = LeavesFrameTo (frames_of old) old new answer
 
 -- a frame in the place of the innermost one, whose local bytes stay
 abbrev pub with_frame : Frame → Activation → Activation
@@ -109,11 +109,11 @@ with_frame f a = record a { running = record a.running { frame = f } }
 -- the frame of the caller is the innermost one again; where there is none, no frame stands
 abbrev pub LeavesBlock : (below : List Frame) → (old new : Activation) → Bool → Type 0
 LeavesBlock [] old new false =
-    (frames_of new ≡ []) × (new.running.locals ≡ closed old.running.locals)
+    (frames_of new ≡ []) × (new.running.locals ≡ close_locals old.running.locals)
     × (new.running.regs ≡ old.running.regs) × (new.class ≡ old.class) × (new.ob ≡ old.ob) × (new.delay ≡ old.delay)
     × (new.profile ≡ old.profile)
 LeavesBlock (caller ∷ rest) old new true = new ≡ record old {
-  running = record old.running { frame = caller; locals = closed old.running.locals };
+  running = record old.running { frame = caller; locals = close_locals old.running.locals };
   below = rest;
 }
 LeavesBlock below old new answer = ⊥

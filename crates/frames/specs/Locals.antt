@@ -5,11 +5,13 @@ use Rattle.plc_base.specs.declared.Width.{Width}
 use Rattle.plc_base.specs.declared.Width.TheVariants.{Byte}
 use Rattle.plc_base.specs.Widths.{byte_count}
 use Rattle.plc_mem.specs.Run.{number_over}
-use Rattle.plc_mem.specs.Writing.{put}
+use Rattle.plc_mem.specs.Writing.{put_number}
 
 -- of each frame where its bytes begin, and the bytes
 pub record LocalData : Type 0 where
+  -- where the local data of each frame begin, the outermost frame's first
   pub starts : List ℕ
+  -- the local data of all frames
   pub bytes : List ℕ
 
 -- before the first frame
@@ -17,45 +19,45 @@ abbrev pub no_locals : LocalData
 no_locals = record { starts = []; bytes = [] }
 
 -- where the bytes of a frame end: where the next frame's begin
-abbrev pub end_of : LocalData → ℕ → ℕ
-end_of l frame = unwrap_or (slice_get l.starts (frame + 1)) (length l.bytes)
+abbrev pub frame_bytes_end : LocalData → ℕ → ℕ
+frame_bytes_end l frame = unwrap_or (slice_get l.starts (frame + 1)) (length l.bytes)
 
 -- where an operand begins, if it lies within the bytes of the frame
-abbrev pub lies_within : LocalData → (frame at : ℕ) → Width → Option ℕ
-lies_within l frame at width =
-    option_and_then (λ start. if nat_le (start + at + byte_count width) (end_of l frame) then Some (start + at) else None) (slice_get l.starts frame)
+abbrev pub local_operand_start : LocalData → (frame at : ℕ) → Width → Option ℕ
+local_operand_start l frame at width =
+    option_and_then (λ start. if nat_le (start + at + byte_count width) (frame_bytes_end l frame) then Some (start + at) else None) (slice_get l.starts frame)
 
 -- the number in an operand of a frame's local bytes
 unfoldable pub local_number : LocalData → (frame at bit : ℕ) → Width → Option ℕ
 local_number l frame at bit width =
-    option_and_then (λ place. number_over (slice_get l.bytes) place bit width) (lies_within l frame at width)
+    option_and_then (λ place. number_over (slice_get l.bytes) place bit width) (local_operand_start l frame at width)
 
 -- local bytes with a number in an operand of a frame's
 unfoldable pub local_written : LocalData → (frame at bit : ℕ) → Width → ℕ → Option LocalData
 local_written l frame at bit width value =
-    option_and_then (λ place. option_map (λ bytes. record l { bytes = bytes }) (put l.bytes place bit width value)) (lies_within l frame at width)
+    option_and_then (λ place. option_map (λ bytes. record l { bytes = bytes }) (put_number l.bytes place bit width value)) (local_operand_start l frame at width)
 
 -- a local byte of a frame, and another one there
-abbrev pub byte_at : LocalData → (frame at : ℕ) → Option ℕ
-byte_at l frame at = local_number l frame at 0 Byte
+abbrev pub local_byte_at : LocalData → (frame at : ℕ) → Option ℕ
+local_byte_at l frame at = local_number l frame at 0 Byte
 
 -- with another value in a byte of a frame; None where the frame has no such byte
-abbrev pub byte_set : LocalData → (frame at value : ℕ) → Option LocalData
-byte_set l frame at value = local_written l frame at 0 Byte value
+abbrev pub local_byte_set : LocalData → (frame at value : ℕ) → Option LocalData
+local_byte_set l frame at value = local_written l frame at 0 Byte value
 
 -- a further frame: so many bytes, all 0
-abbrev pub opened : ℕ → LocalData → LocalData
-opened len l = record { starts = l.starts ++ length l.bytes ∷ []; bytes = l.bytes ++ replicate len 0 }
+abbrev pub open_locals : ℕ → LocalData → LocalData
+open_locals len l = record { starts = l.starts ++ length l.bytes ∷ []; bytes = l.bytes ++ replicate len 0 }
 
 -- where the bytes of the innermost frame begin; None before the first frame
 abbrev pub last_start : List ℕ → Option ℕ
 last_start starts = slice_get starts (length starts - 1)
 
 -- cut off where the bytes of the innermost frame begin; before the first frame nothing changes
-abbrev pub closed_at : LocalData → Option ℕ → LocalData
-closed_at l None = l
-closed_at l (Some start) = record { starts = take (length l.starts - 1) l.starts; bytes = take start l.bytes }
+abbrev pub close_locals_at : LocalData → Option ℕ → LocalData
+close_locals_at l None = l
+close_locals_at l (Some start) = record { starts = take (length l.starts - 1) l.starts; bytes = take start l.bytes }
 
 -- without the innermost frame and its bytes
-abbrev pub closed : LocalData → LocalData
-closed l = closed_at l (last_start l.starts)
+abbrev pub close_locals : LocalData → LocalData
+close_locals l = close_locals_at l (last_start l.starts)

@@ -25,5 +25,5 @@ abbrev pub zone_ended : Relay → Relay
 zone_ended r = record r { zones = outer_zones r.zones }
 
 -- active, and the last zone has the value 0
-abbrev pub is_closed : Relay → Bool
-is_closed r = r.active && not (zone_value r.zones)
+abbrev pub is_zone_closed : Relay → Bool
+is_zone_closed r = r.active && not (zone_value r.zones)

@@ -12,18 +12,18 @@ ghost use Rattle.std.specs.Prelude.{
 ghost use Rattle.plc_base.specs.Changes.{ChangesOrStays};
 ghost use Rattle.status_word.specs.Registers.{regs_at_rest};
 ghost use Rattle.frames.specs.Activations.{
-  Enters,
-  Leaves,
+  EntersBlock,
+  LeavesFrame,
   LeavesBlock,
   PopsTo,
   IsFrame,
   IsFrameIn,
-  begun,
-  entered,
+  activation_begun,
+  block_entered,
   frame_begun,
   frames_of,
   local_byte,
-  refused,
+  entry_fault,
   with_frame,
   with_local_byte,
 };
@@ -147,7 +147,7 @@ impl Activation {
     /// delayed, one frame, whose local bytes are 0. `f` has at most 1,024 local bytes.
     pub fn new(class: u8, ob: u16, f: Frame, profile: Profile) -> Activation
         requires { f.local_len ≤ 1024 }
-        ensures { result ≡ begun profile class ob f }
+        ensures { result ≡ activation_begun profile class ob f }
     {
         let mut locals = Locals::new();
         locals.open(f.local_len);
@@ -170,7 +170,7 @@ impl Activation {
     /// first statement: the activation stays where it is. There are at most 1,024 local bytes.
     pub fn restart(&mut self, class: u8, ob: u16, block: BlockId, local_len: u16, profile: Profile)
         requires { local_len ≤ 1024 }
-        ensures { self.new ≡ begun profile class ob (frame_begun block local_len) }
+        ensures { self.new ≡ activation_begun profile class ob (frame_begun block local_len) }
     {
         self.profile = profile;
         self.class = class;
@@ -194,7 +194,7 @@ impl Activation {
 
     /// Why a block with so many local bytes can't be entered.
     pub fn refuses(&self, local_len: u16) -> Option<FrameFault>
-        ensures value { result ≡ refused local_len self.now }
+        ensures value { result ≡ entry_fault local_len self.now }
         ensures room { IfNone result (length (frames_of self.now) < 24) }
     {
         if self.depth() >= self.profile.most_frames() {
@@ -211,8 +211,8 @@ impl Activation {
     pub fn enter_again(&mut self, local_len: u16)
         requires depth { length self.old.running.locals.starts ≡ length (frames_of self.old) }
         requires few { length (frames_of self.old) < 24 }
-        requires room { refused local_len self.old ≡ None }
-        ensures { self.new ≡ entered (record self.old.running.frame { local_len = local_len })
+        requires room { entry_fault local_len self.old ≡ None }
+        ensures { self.new ≡ block_entered (record self.old.running.frame { local_len = local_len })
             self.old }
     {
         self.running.locals.open(local_len);
@@ -233,7 +233,7 @@ impl Activation {
     /// local bytes would exceed 1,024. Nothing has changed then.
     pub fn enter(&mut self, f: Frame) -> Result<(), FrameFault>
         requires { length self.old.running.locals.starts ≡ length (frames_of self.old) }
-        ensures { Enters self.old self.new f result }
+        ensures { EntersBlock self.old self.new f result }
     {
         if let Some(fault) = self.refuses(f.local_len) {
             return Err(fault);
@@ -258,7 +258,7 @@ impl Activation {
 
     /// Leaves the innermost block, and gives its frame; `None` exactly where no frame stands.
     pub fn leave(&mut self) -> Option<Frame>
-        ensures { Leaves self.old self.new result }
+        ensures { LeavesFrame self.old self.new result }
     {
         if self.left {
             return None;

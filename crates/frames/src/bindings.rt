@@ -1,4 +1,4 @@
-ghost use Rattle.frames.specs.Bound.{set_at};
+ghost use Rattle.frames.specs.Bound.{binding_set};
 ghost use Rattle.std.specs.Prelude.{◌≡◌, ◌+◌, ◌<◌, ◌≤◌, ◌++◌, [], ◌∷◌, length, slice_get};
 
 use arrayvec::ArrayVec;
@@ -100,7 +100,7 @@ impl Bindings {
 
     /// Sets what a parameter stands for, if there is such a parameter.
     pub fn set(&mut self, index: u8, binding: Binding)
-        ensures { self.new ≡ set_at self.old index binding }
+        ensures { self.new ≡ binding_set self.old index binding }
     {
         let at = usize::from(index);
         if at < self.all.len() {

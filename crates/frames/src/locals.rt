@@ -2,7 +2,7 @@ ghost use Rattle.std.specs.Prelude.{◌≡◌, ◌+◌, ◌^◌, ◌<◌, ◌≤
 ghost use Rattle.std.specs.Bool.{OnTrue, OnFalse};
 ghost use Rattle.plc_base.specs.Widths.{bit_count, byte_count};
 ghost use Rattle.plc_base.specs.Changes.{ChangesOrStays};
-ghost use Rattle.frames.specs.Locals.{end_of, lies_within, local_number, local_written, byte_at, byte_set, opened, closed};
+ghost use Rattle.frames.specs.Locals.{frame_bytes_end, local_operand_start, local_number, local_written, local_byte_at, local_byte_set, open_locals, close_locals};
 
 use arrayvec::ArrayVec;
 use plc_base::Width;
@@ -82,7 +82,7 @@ impl Locals {
     #[inline(always)]
     fn end(&self, frame: usize) -> usize
         requires { frame < 2 ^ 8 }
-        ensures value { result ≡ end_of self.now frame }
+        ensures value { result ≡ frame_bytes_end self.now frame }
         ensures bound { result < 2 ^ 16 }
     {
         match self.starts.as_slice().get(frame + 1) {
@@ -94,7 +94,7 @@ impl Locals {
     // The first byte of an operand, if it lies within the bytes of the frame.
     #[inline(always)]
     fn place(&self, frame: u8, at: u16, width: Width) -> Option<usize>
-        ensures value { result ≡ lies_within self.now frame at width }
+        ensures value { result ≡ local_operand_start self.now frame at width }
         ensures bound { IfSome result (λ place. place < 2 ^ 16) }
     {
         let start = usize::from(*self.starts.as_slice().get(usize::from(frame))?);
@@ -140,7 +140,7 @@ impl Locals {
 
     /// A local byte of a frame.
     pub fn byte(&self, frame: u8, at: u16) -> Option<u8>
-        ensures { result ≡ byte_at self.now frame at }
+        ensures { result ≡ local_byte_at self.now frame at }
     {
         let number = self.number(frame, at, 0, Width::Byte)?;
         Some(number as u8)
@@ -152,7 +152,7 @@ impl Locals {
     ///
     /// `Missing`, with nothing changed, exactly where there is no such byte.
     pub fn set_byte(&mut self, frame: u8, at: u16, value: u8) -> Result<(), Missing>
-        ensures { ChangesOrStays (byte_set self.old frame at value) self.old self.new result }
+        ensures { ChangesOrStays (local_byte_set self.old frame at value) self.old self.new result }
     {
         self.put(frame, at, 0, Width::Byte, u32::from(value))
     }
@@ -168,7 +168,7 @@ impl Locals {
     pub fn open(&mut self, len: u16)
         requires depth { length self.old.starts < 24 }
         requires room { length self.old.bytes + len ≤ 1024 }
-        ensures { self.new ≡ opened len self.old }
+        ensures { self.new ≡ open_locals len self.old }
     {
         self.starts.push(self.bytes.len() as u16);
         append(&mut self.bytes, zeros(usize::from(len)));
@@ -176,7 +176,7 @@ impl Locals {
 
     /// Takes the innermost frame's local bytes away.
     pub fn close(&mut self)
-        ensures { self.new ≡ closed self.old }
+        ensures { self.new ≡ close_locals self.old }
     {
         if let Some(start) = self.starts.pop() {
             self.bytes.truncate(usize::from(start));

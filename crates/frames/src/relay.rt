@@ -1,6 +1,6 @@
 ghost use Rattle.std.specs.Prelude.{◌≡◌, ◌==◌, [], ◌∷◌, length, true, false, IsFalse, IsTrue, ◌↔◌};
 ghost use Rattle.std.specs.Bool.{OnTrue, OnFalse};
-ghost use Rattle.frames.specs.Relay.{is_closed, relay_off, zone_ended, zone_opened, zone_value};
+ghost use Rattle.frames.specs.Relay.{is_zone_closed, relay_off, zone_ended, zone_opened, zone_value};
 
 use arrayvec::ArrayVec;
 use std::marker::Model;
@@ -139,7 +139,7 @@ impl Relay {
     /// Whether it is active, and the last open zone has the value 0.
     #[inline(always)]
     pub fn is_closed(&self) -> bool
-        ensures { result ≡ is_closed self.now }
+        ensures { result ≡ is_zone_closed self.now }
     {
         self.active && !self.zones.value()
     }

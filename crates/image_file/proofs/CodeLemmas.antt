@@ -5,9 +5,9 @@ use Rattle.std.proofs.lemmas.List.{append-nil, take_at, drop_at, take-append-dro
 use Rattle.flat_code.specs.Ops.{OpData, is_op, op_bytes, op_at}
 use Rattle.flat_code.proofs.CodingLemmas.{IsBytes, Takes}
 use Rattle.flat_code.proofs.OpLemmas.{op_again, op_takes, long_enough}
-use Rattle.flat_code.specs.Layout.{Cursor, Read, ended, given}
-use Rattle.flat_code.specs.Codes.{cons_op, ops_next, ops_from, ends, are_ops, code_bytes, only, overlong, first_of, stop_at, read_ops, read_code, is_nowhere, code_of, size, last_place}
-use Rattle.image_file.specs.Walking.{ops_behind_front, HasRead}
+use Rattle.flat_code.specs.Layout.{Cursor, ReadResult, reading_ended, reading_given}
+use Rattle.flat_code.specs.Codes.{cons_op, ops_next, ops_from, ends_by_be, are_ops, code_bytes, only, overlong, first_found, stop_at, read_ops, read_code, is_nowhere, code_layout, size, last_place}
+use Rattle.image_file.specs.Walking.{ops_behind_front, HasReadOps}
 use Rattle.image_file.proofs.LayoutLemmas.{at_place, Finds, Spells, IsLaidOut, given_finds}
 
 -- ---- runs of ops
@@ -43,11 +43,11 @@ ops_again (suc n) (op ∷ ops) good long =
 
 -- ---- the code field
 
-pub cond_finds : {A : Type 0} (b : Bool) (x y : Read A) (v : A) (end : Cursor) (P : Type 0) → Finds A (cond b x y) v end → (b ≡ true → Finds A x v end → P) → (b ≡ false → Finds A y v end → P) → P
+pub cond_finds : {A : Type 0} (b : Bool) (x y : ReadResult A) (v : A) (end : Cursor) (P : Type 0) → Finds A (cond b x y) v end → (b ≡ true → Finds A x v end → P) → (b ≡ false → Finds A y v end → P) → P
 cond_finds true x y v end P h f g = f refl h
 cond_finds false x y v end P h f g = g refl h
 
-pub ended_finds : {A : Type 0} (at code : ℕ) (v : A) (end : Cursor) → Finds A (ended at code) v end → ⊥
+pub ended_finds : {A : Type 0} (at code : ℕ) (v : A) (end : Cursor) → Finds A (reading_ended at code) v end → ⊥
 ended_finds at code v end h = let e = h.found in cc
 
 bytes_taken : (n : ℕ) (bytes : List ℕ) → IsBytes bytes → IsBytes (take n bytes)
@@ -60,59 +60,59 @@ bytes_taken n bytes h i =
 bytes_dropped : (n : ℕ) (bytes : List ℕ) → IsBytes bytes → IsBytes (drop n bytes)
 bytes_dropped n bytes h i = rw get_or-drop (h (n + i))
 
-read_finds : (o : Option ℕ) (at : ℕ) (ops : List OpData) (next : Cursor) (v : List OpData) (end : Cursor) → Finds (List OpData) (read_ops o at ops next) v end → (o ≡ None) × Finds (List OpData) (given ops next) v end
+read_finds : (o : Option ℕ) (at : ℕ) (ops : List OpData) (next : Cursor) (v : List OpData) (end : Cursor) → Finds (List OpData) (read_ops o at ops next) v end → (o ≡ None) × Finds (List OpData) (reading_given ops next) v end
 read_finds None at ops next v end h = (refl, h)
 read_finds (Some offset) at ops next v end h = absurd (ended_finds (at + offset) 5 v end h)
 
-first_some : (o : Option ℕ) (n : ℕ) → first_of o (Some n) ≡ None → ⊥
+first_some : (o : Option ℕ) (n : ℕ) → first_found o (Some n) ≡ None → ⊥
 first_some None n h = cc
 first_some (Some at) n h = cc
 
 -- nothing is left where the code has no fault
-nothing_left : (judged : Bool) (ops : List OpData) (left : List ℕ) → stop_at judged ops left ≡ None → left ≡ []
-nothing_left judged ops [] h = refl
-nothing_left judged ops (byte ∷ left) h = absurd (first_some (only judged (overlong 0 0 ops)) (length (code_bytes ops)) h)
+nothing_left : (with_code_faults : Bool) (ops : List OpData) (left : List ℕ) → stop_at with_code_faults ops left ≡ None → left ≡ []
+nothing_left with_code_faults ops [] h = refl
+nothing_left with_code_faults ops (byte ∷ left) h = absurd (first_some (only with_code_faults (overlong 0 0 ops)) (length (code_bytes ops)) h)
 
 pub is_none : (o : Option ℕ) → is_nowhere o ≡ true → o ≡ None
 is_none None h = refl
 is_none (Some at) h = absurd cc
 
-code_takes : (judged : Bool) (n : ℕ) (cur : Cursor) (ops : List OpData) (end : Cursor) → IsBytes cur.rest → Finds (List OpData) (read_code judged n cur) ops end → Spells (List OpData) (code_of judged n) cur ops end
-unfolding code_of
-code_takes judged n cur ops end are h =
-    cond_finds (ltb (length cur.rest) n) (ended cur.at 3) _ ops end _ h (λ _ k. absurd (ended_finds cur.at 3 ops end k)) (λ long h.
+code_takes : (with_code_faults : Bool) (n : ℕ) (cur : Cursor) (ops : List OpData) (end : Cursor) → IsBytes cur.rest → Finds (List OpData) (read_code with_code_faults n cur) ops end → Spells (List OpData) (code_layout with_code_faults n) cur ops end
+unfolding code_layout
+code_takes with_code_faults n cur ops end are h =
+    cond_finds (ltb (length cur.rest) n) (reading_ended cur.at 3) _ ops end _ h (λ _ k. absurd (ended_finds cur.at 3 ops end k)) (λ long h.
     let r = ops_from n (take n cur.rest) in
     let next : Cursor = record { at = cur.at + n; rest = drop n cur.rest } in
-    let f = read_finds (stop_at judged r.0 r.1) cur.at r.0 next ops end h in
+    let f = read_finds (stop_at with_code_faults r.0 r.1) cur.at r.0 next ops end h in
     let made = given_finds r.0 ops next end f.1 in
     let within : n ≤ length cur.rest = ltb-false _ _ long in
-    let nothing : r.1 ≡ [] = nothing_left judged r.0 r.1 f.0 in
+    let nothing : r.1 ≡ [] = nothing_left with_code_faults r.0 r.1 f.0 in
     let t = ops_take n (take n cur.rest) (bytes_taken n cur.rest are) in
     let text : take n cur.rest ≡ code_bytes r.0 = t.0.parts ∙ ap (λ (z : List ℕ). code_bytes r.0 ++ z) nothing ∙ append-nil (code_bytes r.0) in
     let size : length (code_bytes r.0) ≡ n = ap length (sym text) ∙ omega (arith, length-take n cur.rest) in
     let whole : cur.rest ≡ code_bytes r.0 ++ drop n cur.rest = sym (take-append-drop n cur.rest) ∙ ap (λ (z : List ℕ). z ++ drop n cur.rest) text in
-    let fine : is_nowhere (stop_at judged r.0 []) ≡ true = ap (λ (z : List ℕ). is_nowhere (stop_at judged r.0 z)) (sym nothing) ∙ ap is_nowhere f.0 in
-    let here : Spells (List OpData) (code_of judged n) cur r.0 next =
-    record { text = record { parts = whole; rest_fits = bytes_dropped n cur.rest are }; good = and_from (are_ops r.0 && is_nowhere (stop_at judged r.0 [])) _ (and_from (are_ops r.0) _ t.1 fine) (eq-eqb _ _ size) } in
-    subst (λ (z : List OpData). Spells (List OpData) (code_of judged n) cur z end) made.0 (subst (λ (z : Cursor). Spells (List OpData) (code_of judged n) cur r.0 z) made.1 here))
+    let fine : is_nowhere (stop_at with_code_faults r.0 []) ≡ true = ap (λ (z : List ℕ). is_nowhere (stop_at with_code_faults r.0 z)) (sym nothing) ∙ ap is_nowhere f.0 in
+    let here : Spells (List OpData) (code_layout with_code_faults n) cur r.0 next =
+    record { text = record { parts = whole; rest_fits = bytes_dropped n cur.rest are }; good = and_from (are_ops r.0 && is_nowhere (stop_at with_code_faults r.0 [])) _ (and_from (are_ops r.0) _ t.1 fine) (eq-eqb _ _ size) } in
+    subst (λ (z : List OpData). Spells (List OpData) (code_layout with_code_faults n) cur z end) made.0 (subst (λ (z : Cursor). Spells (List OpData) (code_layout with_code_faults n) cur r.0 z) made.1 here))
 
-code_again : (judged : Bool) (n : ℕ) (ops : List OpData) (at : ℕ) (rest : List ℕ) → (are_ops ops && is_nowhere (stop_at judged ops []) && eqb (length (code_bytes ops)) n) ≡ true → Finds (List OpData) (read_code judged n (at_place at (code_bytes ops ++ rest))) ops (at_place (at + length (code_bytes ops)) rest)
-code_again judged n ops at rest good =
-    let g = and_parts (are_ops ops && is_nowhere (stop_at judged ops [])) (eqb (length (code_bytes ops)) n) good in
-    let f = and_parts (are_ops ops) (is_nowhere (stop_at judged ops [])) g.0 in
+code_again : (with_code_faults : Bool) (n : ℕ) (ops : List OpData) (at : ℕ) (rest : List ℕ) → (are_ops ops && is_nowhere (stop_at with_code_faults ops []) && eqb (length (code_bytes ops)) n) ≡ true → Finds (List OpData) (read_code with_code_faults n (at_place at (code_bytes ops ++ rest))) ops (at_place (at + length (code_bytes ops)) rest)
+code_again with_code_faults n ops at rest good =
+    let g = and_parts (are_ops ops && is_nowhere (stop_at with_code_faults ops [])) (eqb (length (code_bytes ops)) n) good in
+    let f = and_parts (are_ops ops) (is_nowhere (stop_at with_code_faults ops [])) g.0 in
     let size : length (code_bytes ops) ≡ n = eqb-true _ _ g.1 in
     let bytes = code_bytes ops ++ rest in
     let long : ltb (length bytes) n ≡ false = le-ltb _ _ (omega (arith, size, length-append (code_bytes ops) rest)) in
     let read : ops_from n (take n bytes) ≡ (ops, []) = ap (ops_from n) (take_at (code_bytes ops) rest n size) ∙ ops_again n ops f.0 (omega (arith, size)) in
     let left : drop n bytes ≡ rest = drop_at (code_bytes ops) rest n size in
-    let none : stop_at judged ops [] ≡ None = is_none (stop_at judged ops []) f.1 in
-    let shape : read_code judged n (at_place at bytes) ≡ given ops (at_place (at + n) rest) = rw (long, read, left, none) refl in
-    subst (λ (z : Read (List OpData)). Finds (List OpData) z ops (at_place (at + length (code_bytes ops)) rest)) (sym shape)
+    let none : stop_at with_code_faults ops [] ≡ None = is_none (stop_at with_code_faults ops []) f.1 in
+    let shape : read_code with_code_faults n (at_place at bytes) ≡ reading_given ops (at_place (at + n) rest) = rw (long, read, left, none) refl in
+    subst (λ (z : ReadResult (List OpData)). Finds (List OpData) z ops (at_place (at + length (code_bytes ops)) rest)) (sym shape)
     (record { found = ap (λ (k : ℕ). Some (ops, at_place (at + k) rest)) (sym size); clean = refl })
 
-pub code_laid : (judged : Bool) (n : ℕ) → IsLaidOut (List OpData) (code_of judged n)
-unfolding code_of
-code_laid judged n = record { again = code_again judged n; takes = code_takes judged n }
+pub code_laid : (with_code_faults : Bool) (n : ℕ) → IsLaidOut (List OpData) (code_layout with_code_faults n)
+unfolding code_layout
+code_laid with_code_faults n = record { again = code_again with_code_faults n; takes = code_takes with_code_faults n }
 
 -- fuel that is enough is as good as any
 shorter : (bytes : List ℕ) (op : OpData) (rest : List ℕ) → IsBytes bytes → op_at bytes ≡ Some (op, rest) → length rest < length bytes
@@ -172,7 +172,7 @@ last_of from [] op = omega arith
 last_of from (a ∷ []) op = omega (arith, length-append (op_bytes a) [])
 last_of from (a ∷ b ∷ front) op = omega (arith, last_of (from + length (op_bytes a)) (b ∷ front) op, length-append (op_bytes a) (code_bytes (b ∷ front)))
 
-pub ends_at : (front : List OpData) (op : OpData) → ends (front ++ op ∷ []) ≡ (eqb op.code 0x7B && op.last)
+pub ends_at : (front : List OpData) (op : OpData) → ends_by_be (front ++ op ∷ []) ≡ (eqb op.code 0x7B && op.last)
 ends_at [] op = refl
 ends_at (a ∷ []) op = refl
 ends_at (a ∷ b ∷ front) op = ends_at (b ∷ front) op
@@ -181,7 +181,7 @@ pub bytes-append : (a b : List OpData) → code_bytes (a ++ b) ≡ code_bytes a 
 bytes-append [] b = refl
 bytes-append (op ∷ a) b = ap (λ (z : List ℕ). op_bytes op ++ z) (bytes-append a b) ∙ sym (append_assoc (op_bytes op) (code_bytes a) (code_bytes b))
 
-pub read_starts : (code : List ℕ) → HasRead code [] 0 0 false 0
+pub read_starts : (code : List ℕ) → HasReadOps code [] 0 0 false 0
 read_starts code = record { within = omega arith; all = refl; size = refl; last = refl; ended = refl; few = refl }
 
 -- the ops from a place on begin with the op there
@@ -198,7 +198,7 @@ abbrev count_after : OpData → ℕ → ℕ
 count_after op count = cond op.last 0 (suc count)
 
 pub read_goes : (code : List ℕ) (ops : List OpData) (at next last count after : ℕ) (ended end : Bool) (op : OpData) → IsBytes code → op_at (drop at code) ≡ Some (op, drop next code) → at < next → next ≤ length code
-    → eqb count 64 ≡ false → after ≡ count_after op count → end ≡ (eqb op.code 0x7B && op.last) → HasRead code ops at last ended count → HasRead code (ops ++ op ∷ []) next at end after
+    → eqb count 64 ≡ false → after ≡ count_after op count → end ≡ (eqb op.code 0x7B && op.last) → HasReadOps code ops at last ended count → HasReadOps code (ops ++ op ∷ []) next at end after
 unfolding size
 read_goes code ops at next last count after ended end op are found lt within not64 counted is_end h =
     let t = op_takes (drop at code) op (drop next code) (bytes_dropped at code are) found in
@@ -217,12 +217,12 @@ read_goes code ops at next last count after ended end op are found lt within not
     }
 
 stop_overlong : (ops : List OpData) (left : List ℕ) (at : ℕ) → overlong 0 0 ops ≡ Some at → stop_at true ops left ≡ Some at
-stop_overlong ops [] at e = ap (λ (o : Option ℕ). first_of o (cond (ends ops) None (Some (last_place 0 ops)))) e
-stop_overlong ops (b ∷ left) at e = ap (λ (o : Option ℕ). first_of o (Some (length (code_bytes ops)))) e
+stop_overlong ops [] at e = ap (λ (o : Option ℕ). first_found o (cond (ends_by_be ops) None (Some (last_place 0 ops)))) e
+stop_overlong ops (b ∷ left) at e = ap (λ (o : Option ℕ). first_found o (Some (length (code_bytes ops)))) e
 
 -- the 65th op of a statement
 pub read_65th : (code : List ℕ) (ops : List OpData) (at next last count : ℕ) (ended : Bool) (op : OpData) → IsBytes code → op_at (drop at code) ≡ Some (op, drop next code) → at < next → next ≤ length code
-    → eqb count 64 ≡ true → HasRead code ops at last ended count → stop_at true (ops_from (length code) code).0 (ops_from (length code) code).1 ≡ Some at
+    → eqb count 64 ≡ true → HasReadOps code ops at last ended count → stop_at true (ops_from (length code) code).0 (ops_from (length code) code).1 ≡ Some at
 read_65th code ops at next last count ended op are found lt within is64 h =
     let there = ops_there (length code) code at next op refl are found lt within in
     let here : overlong count at (ops_from (length code) (drop at code)).0 ≡ Some at = ap (λ (r : List OpData × List ℕ). overlong count at r.0) there ∙ rw is64 refl in
@@ -230,7 +230,7 @@ read_65th code ops at next last count ended op are found lt within is64 h =
 
 left_stop : (ops : List OpData) (left : List ℕ) (at size : ℕ) → overlong 0 0 ops ≡ None → length (code_bytes ops) ≡ at → 0 < length left → stop_at true ops left ≡ Some at
 left_stop ops [] at size e f lt = absurd (omega (arith, lt))
-left_stop ops (b ∷ left) at size e f lt = ap (λ (o : Option ℕ). first_of o (Some (length (code_bytes ops)))) e ∙ ap (λ (n : ℕ). Some n) f
+left_stop ops (b ∷ left) at size e f lt = ap (λ (o : Option ℕ). first_found o (Some (length (code_bytes ops)))) e ∙ ap (λ (n : ℕ). Some n) f
 
 -- what the code has where no op begins: the ops found, and what is left
 record Ended (code : List ℕ) (ops : List OpData) (at : ℕ) : Type 0 where
@@ -238,7 +238,7 @@ record Ended (code : List ℕ) (ops : List OpData) (at : ℕ) : Type 0 where
   left_is : drop at code ≡ (ops_from (length code) code).1
   few : overlong 0 0 ops ≡ None
 
-read_ended : (code : List ℕ) (ops : List OpData) (at last count : ℕ) (ended : Bool) → op_at (drop at code) ≡ None → HasRead code ops at last ended count → Ended code ops at
+read_ended : (code : List ℕ) (ops : List OpData) (at last count : ℕ) (ended : Bool) → op_at (drop at code) ≡ None → HasReadOps code ops at last ended count → Ended code ops at
 read_ended code ops at last count ended none h =
     let p = ops_stop code ops at (ops_from (length code) code) none h.all in
     let nothing : (ops_from (length code) (drop at code)).0 ≡ [] = ap (λ (r : List OpData × List ℕ). r.0) (nothing_more (length code) (drop at code) none) in
@@ -252,7 +252,7 @@ stop_for : (code : List ℕ) (ops : List OpData) (at : ℕ) → Ended code ops a
 stop_for code ops at e = rw (← e.ops_are, ← e.left_is) refl
 
 -- bytes that begin no op
-pub read_bad : (code : List ℕ) (ops : List OpData) (at last count : ℕ) (ended : Bool) → op_at (drop at code) ≡ None → at < length code → HasRead code ops at last ended count → Stops code (Some at)
+pub read_bad : (code : List ℕ) (ops : List OpData) (at last count : ℕ) (ended : Bool) → op_at (drop at code) ≡ None → at < length code → HasReadOps code ops at last ended count → Stops code (Some at)
 read_bad code ops at last count ended none lt h =
     let e = read_ended code ops at last count ended none h in
     sym (stop_for code ops at e ∙ left_stop ops (drop at code) at at e.few h.size (omega (arith, length-drop at code)))
@@ -260,17 +260,17 @@ read_bad code ops at last count ended none lt h =
 none_left : (code : List ℕ) (at : ℕ) → length code ≤ at → drop at code ≡ []
 none_left code at le = nil_from_length (drop at code) (omega (arith, length-drop at code))
 
-whole_stop : (code : List ℕ) (ops : List OpData) (at last count : ℕ) (ended : Bool) → op_at (drop at code) ≡ None → length code ≤ at → HasRead code ops at last ended count → stop_at true (ops_from (length code) code).0 (ops_from (length code) code).1 ≡ cond ended None (Some last)
+whole_stop : (code : List ℕ) (ops : List OpData) (at last count : ℕ) (ended : Bool) → op_at (drop at code) ≡ None → length code ≤ at → HasReadOps code ops at last ended count → stop_at true (ops_from (length code) code).0 (ops_from (length code) code).1 ≡ cond ended None (Some last)
 whole_stop code ops at last count ended none le h =
     let e = read_ended code ops at last count ended none h in
     stop_for code ops at e ∙ ap (stop_at true ops) (none_left code at le)
-    ∙ ap (λ (o : Option ℕ). first_of o (cond (ends ops) None (Some (last_place 0 ops)))) e.few
+    ∙ ap (λ (o : Option ℕ). first_found o (cond (ends_by_be ops) None (Some (last_place 0 ops)))) e.few
     ∙ rw (← h.ended, ← h.last) refl
 
 -- code whose last op isn't BE with the end mark
-pub read_open : (code : List ℕ) (ops : List OpData) (at last count : ℕ) (ended : Bool) → op_at (drop at code) ≡ None → length code ≤ at → ended ≡ false → HasRead code ops at last ended count → Stops code (Some last)
+pub read_open : (code : List ℕ) (ops : List OpData) (at last count : ℕ) (ended : Bool) → op_at (drop at code) ≡ None → length code ≤ at → ended ≡ false → HasReadOps code ops at last ended count → Stops code (Some last)
 read_open code ops at last count ended none le open_is h = sym (whole_stop code ops at last count ended none le h ∙ rw open_is refl)
 
-pub read_whole : (code : List ℕ) (ops : List OpData) (at last count : ℕ) (ended : Bool) → op_at (drop at code) ≡ None → length code ≤ at → ended ≡ true → HasRead code ops at last ended count → Stops code None × (ops ≡ (ops_from (length code) code).0)
+pub read_whole : (code : List ℕ) (ops : List OpData) (at last count : ℕ) (ended : Bool) → op_at (drop at code) ≡ None → length code ≤ at → ended ≡ true → HasReadOps code ops at last ended count → Stops code None × (ops ≡ (ops_from (length code) code).0)
 read_whole code ops at last count ended none le ended_is h =
     (sym (whole_stop code ops at last count ended none le h ∙ rw ended_is refl), (read_ended code ops at last count ended none h).ops_are)

@@ -5,7 +5,7 @@ pub mod RunLemmas
 pub mod LeastLemmas
 pub mod WholeRunLemmas
 pub mod WholeLemmas
-pub mod JudgeLemmas
+pub mod CheckLemmas
 pub mod LoadLemmas
 pub mod EndLemmas
 pub mod WritingLemmas

@@ -10,19 +10,19 @@ use Rattle.flat_code.specs.declared.stamps.Stamp.{Stamp}
 use Rattle.flat_code.specs.Records.{BlockRecord, NameRecord}
 use Rattle.flat_code.specs.declared.programs.DataBlock.{DataBlock as Block}
 use Rattle.flat_code.specs.Layout.{Note, Faulty, Whole, AllBlocks, Cursor, faults_in}
-use Rattle.flat_code.specs.Image.{program_of, read_image, IsProgram, record_of_block, block_of_record, entry_of_name}
-use Rattle.flat_code.specs.Blocks.{Signature, signature_of, Around, block_faults}
-use Rattle.flat_code.specs.Loading.{around, judged_blocks, lens_of, later, wholes, all_blocks, blocks_of, faults_of, Gives, Verifies}
+use Rattle.flat_code.specs.Image.{program_of_records, read_image, IsProgram, record_of_block, block_of_record, entry_of_name}
+use Rattle.flat_code.specs.Blocks.{BlockSignature, signature_of, Around, block_faults}
+use Rattle.flat_code.specs.Loading.{around_block, op_faults_of_blocks, lens_of, later, wholes, all_blocks, blocks_of, faults_of, Gives, Verifies}
 use Rattle.image_file.specs.declared.faults.LoadFault.{LoadFault}
 use Rattle.image_file.specs.declared.records.Started.{Started}
-use Rattle.image_file.specs.Least.{is_less, fault, with_faults}
+use Rattle.image_file.specs.Least.{is_fault_less, fault_of_pair, with_faults}
 use Rattle.image_file.specs.Typing.{AreFew, program_from}
 use Rattle.image_file.specs.declared.reader.Reader.{Reader}
 use Rattle.image_file.specs.declared.loading.ImageRead.{ImageRead}
-use Rattle.image_file.specs.declared.loading.Judged.{Judged}
-use Rattle.image_file.specs.declared.loading.Judged.TheVariants as outcome
+use Rattle.image_file.specs.declared.loading.CheckResult.{CheckResult}
+use Rattle.image_file.specs.declared.loading.CheckResult.TheVariants as outcome
 use Rattle.image_file.specs.declared.records.FoundRead.{FoundRead}
-use Rattle.image_file.specs.Running.{started, judged_read, program_read, found_values, HoldsAll, IsJudged, with_wholes, with_all, Log, logged, Ran, Goes, Stops, ran, ran_read, log_of, SeesFound, HasFound}
+use Rattle.image_file.specs.Running.{started_block, checked_faults, program_read, found_values, HoldsAll, IsCheckResult, with_wholes, with_all, Log, log_after, Ran, Goes, Stops, run_result, run_of_read, log_of, SeesFound, HasFound}
 use Rattle.flat_code.proofs.CodingLemmas.{IsBytes}
 use Rattle.image_file.proofs.EndLemmas.{image_ends}
 use Rattle.image_file.proofs.ImageLemmas.{program_again, program_few, Stamped}
@@ -32,20 +32,20 @@ use Rattle.image_file.proofs.WholeLemmas.{image_noted, gives_image}
 abbrev Lens : Type 0
 Lens = Option (List (ℕ × ℕ))
 
-abbrev pub around_by : Lens → List Signature → BlockRecord → Around
+abbrev pub around_by : Lens → List BlockSignature → BlockRecord → Around
 around_by lens signatures b = record { kind = b.kind; local_len = b.local_len; params = b.params; blocks = signatures; data_lens = lens }
 
-pub judged_next : (lens : Lens) (signatures : List Signature) (all : List BlockRecord) (bs : List Started) (i : ℕ) (s : Started) (least mid : Option LoadFault) → i < length bs → s ≡ get_or bs i s → signatures ≡ map signature_of all
-    → mid ≡ with_faults least (block_faults (around_by lens signatures s.block) s.start s.block.code) → with_faults mid (judged_blocks lens all (map started (drop (i + 1) bs))) ≡ with_faults least (judged_blocks lens all (map started (drop i bs)))
-judged_next lens signatures all bs i s least mid lt is known m =
-    let here : mid ≡ with_faults least (block_faults (around lens all s.block) s.start s.block.code) = m ∙ ap (λ (z : List Signature). with_faults least (block_faults (around_by lens z s.block) s.start s.block.code)) known in
-    ap (λ (z : Option LoadFault). with_faults z (judged_blocks lens all (map started (drop (i + 1) bs)))) here
-    ∙ sym (with_more least (block_faults (around lens all s.block) s.start s.block.code) (judged_blocks lens all (map started (drop (i + 1) bs))))
-    ∙ sym (ap (λ (z : List Started). with_faults least (judged_blocks lens all (map started z))) (drop_next bs i s lt is))
+pub checked_next : (lens : Lens) (signatures : List BlockSignature) (all : List BlockRecord) (bs : List Started) (i : ℕ) (s : Started) (least mid : Option LoadFault) → i < length bs → s ≡ get_or bs i s → signatures ≡ map signature_of all
+    → mid ≡ with_faults least (block_faults (around_by lens signatures s.block) s.start s.block.code) → with_faults mid (op_faults_of_blocks lens all (map started_block (drop (i + 1) bs))) ≡ with_faults least (op_faults_of_blocks lens all (map started_block (drop i bs)))
+checked_next lens signatures all bs i s least mid lt is known m =
+    let here : mid ≡ with_faults least (block_faults (around_block lens all s.block) s.start s.block.code) = m ∙ ap (λ (z : List BlockSignature). with_faults least (block_faults (around_by lens z s.block) s.start s.block.code)) known in
+    ap (λ (z : Option LoadFault). with_faults z (op_faults_of_blocks lens all (map started_block (drop (i + 1) bs)))) here
+    ∙ sym (with_more least (block_faults (around_block lens all s.block) s.start s.block.code) (op_faults_of_blocks lens all (map started_block (drop (i + 1) bs))))
+    ∙ sym (ap (λ (z : List Started). with_faults least (op_faults_of_blocks lens all (map started_block z))) (drop_next bs i s lt is))
 
-pub judged_done : (lens : Lens) (all : List BlockRecord) (bs : List Started) (i : ℕ) (least : Option LoadFault) → length bs ≤ i → least ≡ with_faults least (judged_blocks lens all (map started (drop i bs)))
+pub checked_done : (lens : Lens) (all : List BlockRecord) (bs : List Started) (i : ℕ) (least : Option LoadFault) → length bs ≤ i → least ≡ with_faults least (op_faults_of_blocks lens all (map started_block (drop i bs)))
 unfolding with_faults
-judged_done lens all bs i least le = rw (drop_of_length-le bs {i = i} le) refl
+checked_done lens all bs i least le = rw (drop_of_length-le bs {i = i} le) refl
 
 -- ---- what one pass keeps
 
@@ -78,63 +78,63 @@ record Kept (text : List ℕ) (log : Log) : Type 0 where
   blocks : log.blocks ≡ wholes (read_image text).notes
   datas : log.datas ≡ all_blocks (read_image text).notes
 
-kept_by : (text : List ℕ) (log : Log) → log ≡ logged empty_log (read_image text).notes → Kept text log
-unfolding logged
+kept_by : (text : List ℕ) (log : Log) → log ≡ log_after empty_log (read_image text).notes → Kept text log
+unfolding log_after
 kept_by text log e = record {
   least = ap (λ (z : Log). z.least) e;
   blocks = ap (λ (z : Log). z.blocks) e ∙ wholes_kept [] (read_image text).notes;
   datas = ap (λ (z : Log). z.datas) e ∙ datas_kept None (read_image text).notes ∙ later_none (all_blocks (read_image text).notes);
 }
 
-goes_found : (o : Option (Stamped × Cursor)) (p : Stamped) (end : Cursor) (log all : Log) → Goes p end log ≡ ran o all → (o ≡ Some (p, end)) × (log ≡ all)
+goes_found : (o : Option (Stamped × Cursor)) (p : Stamped) (end : Cursor) (log all : Log) → Goes p end log ≡ run_result o all → (o ≡ Some (p, end)) × (log ≡ all)
 goes_found None p end log all e = absurd cc
 goes_found (Some x) p end log all e = let a : p ≡ x.0 = cc in let b : end ≡ x.1 = cc in (rw (a, b) refl, cc)
 
-stops_found : (o : Option (Stamped × Cursor)) (log all : Log) → ◌≡◌ {A = Ran Stamped} (Stops log) (ran o all) → (o ≡ None) × (log ≡ all)
+stops_found : (o : Option (Stamped × Cursor)) (log all : Log) → ◌≡◌ {A = Ran Stamped} (Stops log) (run_result o all) → (o ≡ None) × (log ≡ all)
 stops_found None log all e = (refl, cc)
 stops_found (Some x) log all e = absurd cc
 
-kept_of : (found : Option (Stamp × List NameRecord)) (r : Reader) (text : List ℕ) → SeesFound found r (ran_read (read_image text) empty_log) → Kept text (log_of r)
-unfolding ran_read
-kept_of None r text h = kept_by text (log_of r) (stops_found (read_image text).found (log_of r) (logged empty_log (read_image text).notes) h).1
-kept_of (Some found) r text h = kept_by text (log_of r) (goes_found (read_image text).found (found.0, program_of h.0) h.1 (log_of r) (logged empty_log (read_image text).notes) h.2).1
+kept_of : (found : Option (Stamp × List NameRecord)) (r : Reader) (text : List ℕ) → SeesFound found r (run_of_read (read_image text) empty_log) → Kept text (log_of r)
+unfolding run_of_read
+kept_of None r text h = kept_by text (log_of r) (stops_found (read_image text).found (log_of r) (log_after empty_log (read_image text).notes) h).1
+kept_of (Some found) r text h = kept_by text (log_of r) (goes_found (read_image text).found (found.0, program_of_records h.0) h.1 (log_of r) (log_after empty_log (read_image text).notes) h.2).1
 
-pub found_of : (found : Option (Stamp × List NameRecord)) (r : Reader) (text : List ℕ) → SeesFound found r (ran_read (read_image text) empty_log) → HasFound text (map started r.blocks.items) (option_map (λ v. v.items) r.datas) found
-unfolding ran_read
-found_of None r text h = (stops_found (read_image text).found (log_of r) (logged empty_log (read_image text).notes) h).0
+pub found_of : (found : Option (Stamp × List NameRecord)) (r : Reader) (text : List ℕ) → SeesFound found r (run_of_read (read_image text) empty_log) → HasFound text (map started_block r.blocks.items) (option_map (λ v. v.items) r.datas) found
+unfolding run_of_read
+found_of None r text h = (stops_found (read_image text).found (log_of r) (log_after empty_log (read_image text).notes) h).0
 found_of (Some found) r text h =
-    let g = goes_found (read_image text).found (found.0, program_of h.0) h.1 (log_of r) (logged empty_log (read_image text).notes) h.2 in
+    let g = goes_found (read_image text).found (found.0, program_of_records h.0) h.1 (log_of r) (log_after empty_log (read_image text).notes) h.2 in
     let k = kept_by text (log_of r) g.1 in
     (h.0, h.1, g.0, h.3, k.blocks, k.datas)
 
 -- the least of all faults
-pub least_of : (found : Option (Stamp × List NameRecord)) (r : Reader) (text : List ℕ) (result : Option LoadFault) → SeesFound found r (ran_read (read_image text) empty_log)
-    → result ≡ with_faults r.least (judged_read (log_of r)) → result ≡ with_faults None (faults_of text)
+pub least_of : (found : Option (Stamp × List NameRecord)) (r : Reader) (text : List ℕ) (result : Option LoadFault) → SeesFound found r (run_of_read (read_image text) empty_log)
+    → result ≡ with_faults r.least (checked_faults (log_of r)) → result ≡ with_faults None (faults_of text)
 unfolding faults_of
 least_of found r text result h e =
     let k = kept_of found r text h in
     let notes = (read_image text).notes in
     let lens : Lens = option_map lens_of (log_of r).datas in
-    e ∙ ap (λ (z : Option LoadFault). with_faults z (judged_read (log_of r))) k.least
-    ∙ ap (λ (z : List (ℕ × BlockRecord)). with_faults (with_faults None (faults_in notes)) (judged_blocks lens (blocks_of z) z)) k.blocks
-    ∙ ap (λ (z : Option (List DataBlock)). with_faults (with_faults None (faults_in notes)) (judged_blocks (option_map lens_of z) (blocks_of (wholes notes)) (wholes notes))) k.datas
-    ∙ sym (with_more None (faults_in notes) (judged_blocks (option_map lens_of (all_blocks notes)) (blocks_of (wholes notes)) (wholes notes)))
+    e ∙ ap (λ (z : Option LoadFault). with_faults z (checked_faults (log_of r))) k.least
+    ∙ ap (λ (z : List (ℕ × BlockRecord)). with_faults (with_faults None (faults_in notes)) (op_faults_of_blocks lens (blocks_of z) z)) k.blocks
+    ∙ ap (λ (z : Option (List DataBlock)). with_faults (with_faults None (faults_in notes)) (op_faults_of_blocks (option_map lens_of z) (blocks_of (wholes notes)) (wholes notes))) k.datas
+    ∙ sym (with_more None (faults_in notes) (op_faults_of_blocks (option_map lens_of (all_blocks notes)) (blocks_of (wholes notes)) (wholes notes)))
 
 -- ---- bytes without fault
 
-stays_by : (f : LoadFault) (x : ℕ × ℕ) (fs : List (ℕ × ℕ)) → ((g : LoadFault) → with_faults (Some g) fs ≡ None → ⊥) → (b : Bool) → with_faults (cond b (Some (fault x)) (Some f)) fs ≡ None → ⊥
-stays_by f x fs inner true e = inner (fault x) e
+stays_by : (f : LoadFault) (x : ℕ × ℕ) (fs : List (ℕ × ℕ)) → ((g : LoadFault) → with_faults (Some g) fs ≡ None → ⊥) → (b : Bool) → with_faults (cond b (Some (fault_of_pair x)) (Some f)) fs ≡ None → ⊥
+stays_by f x fs inner true e = inner (fault_of_pair x) e
 stays_by f x fs inner false e = inner f e
 
 some_stays : (fs : List (ℕ × ℕ)) (f : LoadFault) → with_faults (Some f) fs ≡ None → ⊥
 unfolding with_faults
 some_stays [] f e = cc
-some_stays (x ∷ fs) f e = stays_by f x fs (λ g h. some_stays fs g h) (is_less x f) e
+some_stays (x ∷ fs) f e = stays_by f x fs (λ g h. some_stays fs g h) (is_fault_less x f) e
 
 pub none_left : (fs : List (ℕ × ℕ)) → with_faults None fs ≡ None → fs ≡ []
 unfolding with_faults
 none_left [] e = refl
-none_left (x ∷ fs) e = absurd (some_stays fs (fault x) e)
+none_left (x ∷ fs) e = absurd (some_stays fs (fault_of_pair x) e)
 
 fields_clean : (text : List ℕ) → faults_of text ≡ [] → faults_in (read_image text).notes ≡ []
 unfolding faults_of
@@ -153,13 +153,13 @@ pub record Loads (text : List ℕ) (bs : List (ℕ × BlockRecord)) (stamp : Sta
 
 pub has_datas : (text : List ℕ) (bs : List (ℕ × BlockRecord)) (found : Stamp × List NameRecord) → IsBytes text → faults_of text ≡ [] → HasFound text bs None (Some found) → ⊥
 has_datas text bs found are none h =
-    let m = image_noted text found.0 (program_of h.0) h.1 are h.2 (fields_clean text none) in
-    let e : ◌≡◌ {A = Option (List DataBlock)} None (Some (program_of h.0).data_blocks) = h.5 ∙ m.datas in
+    let m = image_noted text found.0 (program_of_records h.0) h.1 are h.2 (fields_clean text none) in
+    let e : ◌≡◌ {A = Option (List DataBlock)} None (Some (program_of_records h.0).data_blocks) = h.5 ∙ m.datas in
     cc
 
 pub loads : (text : List ℕ) (bs : List (ℕ × BlockRecord)) (ds : List DataBlock) (stamp : Stamp) (ns : List NameRecord) → IsBytes text → faults_of text ≡ [] → HasFound text bs (Some ds) (Some (stamp, ns)) → Loads text bs stamp (program_from bs ds ns)
 loads text bs ds stamp ns are none h =
-    let p = program_of h.0 in
+    let p = program_of_records h.0 in
     let gives : Gives text stamp p = record { end = h.1; found = h.2; clean = none } in
     let is = gives_image text stamp p are gives in
     let m = image_noted text stamp p h.1 are h.2 (fields_clean text none) in
@@ -181,31 +181,31 @@ loads text bs ds stamp ns are none h =
 -- ---- bytes that were read and checked
 
 abbrev Found : List ℕ → Reader → Option FoundRead → Type 0
-Found text r found = HasFound text (map started r.blocks.items) (option_map (λ v. v.items) r.datas) (option_map found_values found)
+Found text r found = HasFound text (map started_block r.blocks.items) (option_map (λ v. v.items) r.datas) (option_map found_values found)
 
 no_faults_by : (text : List ℕ) (least : Option LoadFault) → least ≡ with_faults None (faults_of text) → least ≡ None → faults_of text ≡ []
 no_faults_by text least e none = none_left (faults_of text) (sym e ∙ none)
 
 pub image_there : (text : List ℕ) (least : Option LoadFault) (r : Reader) (found : Option FoundRead) → least ≡ with_faults None (faults_of text) → Found text r found → least ≡ None → IsSome found
-image_there text least r None e h none = absurd (never_ends text (map started r.blocks.items) (option_map (λ v. v.items) r.datas) (no_faults_by text least e none) h)
+image_there text least r None e h none = absurd (never_ends text (map started_block r.blocks.items) (option_map (λ v. v.items) r.datas) (no_faults_by text least e none) h)
 image_there text least r (Some f) e h none = refl
 
 pub datas_there : (text : List ℕ) (least : Option LoadFault) (r : Reader) (found : Option FoundRead) → IsBytes text → least ≡ with_faults None (faults_of text) → Found text r found → least ≡ None → IsSome r.datas
-datas_there text least r None are e h none = absurd (never_ends text (map started r.blocks.items) (option_map (λ v. v.items) r.datas) (no_faults_by text least e none) h)
+datas_there text least r None are e h none = absurd (never_ends text (map started_block r.blocks.items) (option_map (λ v. v.items) r.datas) (no_faults_by text least e none) h)
 datas_there text least r (Some f) are e h none = by r.datas h
   where
-    by : (d : Option (Vec Block Global)) → HasFound text (map started r.blocks.items) (option_map (λ v. v.items) d) (Some (found_values f)) → IsSome d
-    by None h = absurd (has_datas text (map started r.blocks.items) (found_values f) are (no_faults_by text least e none) h)
+    by : (d : Option (Vec Block Global)) → HasFound text (map started_block r.blocks.items) (option_map (λ v. v.items) d) (Some (found_values f)) → IsSome d
+    by None h = absurd (has_datas text (map started_block r.blocks.items) (found_values f) are (no_faults_by text least e none) h)
     by (Some v) h = refl
 
-pub judged_by : (text : List ℕ) (least : Option LoadFault) (r : Reader) (found : Option FoundRead) (j : Judged) → least ≡ with_faults None (faults_of text) → Found text r found → HoldsAll least r.blocks.items (option_map (λ v. v.items) r.datas) found j → IsJudged text j
-judged_by text least r found (outcome.Faulty f) e h all = sym e ∙ all
-judged_by text least r found (outcome.Clean image) e h all = (
+pub checked_by : (text : List ℕ) (least : Option LoadFault) (r : Reader) (found : Option FoundRead) (j : CheckResult) → least ≡ with_faults None (faults_of text) → Found text r found → HoldsAll least r.blocks.items (option_map (λ v. v.items) r.datas) found j → IsCheckResult text j
+checked_by text least r found (outcome.Faulty f) e h all = sym e ∙ all
+checked_by text least r found (outcome.Clean image) e h all = (
   sym e ∙ all.0,
-  subst (λ (z : List Started). HasFound text (map started z) (Some image.data_blocks.items) (Some (image.stamp, image.names.items))) (sym all.1)
-      (subst (λ (z : Option (List DataBlock)). HasFound text (map started r.blocks.items) z (Some (image.stamp, image.names.items))) all.2
-      (subst (λ (z : Option (Stamp × List NameRecord)). HasFound text (map started r.blocks.items) (option_map (λ v. v.items) r.datas) z) all.3 h)),
+  subst (λ (z : List Started). HasFound text (map started_block z) (Some image.data_blocks.items) (Some (image.stamp, image.names.items))) (sym all.1)
+      (subst (λ (z : Option (List DataBlock)). HasFound text (map started_block r.blocks.items) z (Some (image.stamp, image.names.items))) all.2
+      (subst (λ (z : Option (Stamp × List NameRecord)). HasFound text (map started_block r.blocks.items) (option_map (λ v. v.items) r.datas) z) all.3 h)),
 )
 
-pub image_loads : (text : List ℕ) (image : ImageRead) → IsBytes text → IsJudged text (outcome.Clean image) → Loads text (map started image.blocks.items) image.stamp (program_read image)
-image_loads text image are h = loads text (map started image.blocks.items) image.data_blocks.items image.stamp image.names.items are (none_left (faults_of text) h.0) h.1
+pub image_loads : (text : List ℕ) (image : ImageRead) → IsBytes text → IsCheckResult text (outcome.Clean image) → Loads text (map started_block image.blocks.items) image.stamp (program_read image)
+image_loads text image are h = loads text (map started_block image.blocks.items) image.data_blocks.items image.stamp image.names.items are (none_left (faults_of text) h.0) h.1

@@ -12,10 +12,10 @@ use Rattle.flat_code.specs.Image.{end_marks}
 use Rattle.flat_code.specs.Ops.{OpData, IsOp, is_op, op_at, op_bytes}
 use Rattle.flat_code.specs.Placed.{op_placed, line_placed}
 use Rattle.flat_code.specs.Programs.{CodeBlock}
-use Rattle.image_file.specs.Marks.{inside, marks_from, ops_in, IsInPlace}
-use Rattle.image_file.specs.Tables.{nowhere, IsSmall, AreSmall}
+use Rattle.image_file.specs.Marks.{inside_mark, marks_from, ops_of_bytes, IsInPlace}
+use Rattle.image_file.specs.Tables.{no_index, HasSmallCode, AreSmall}
 use Rattle.image_file.proofs.CodeLemmas.{ops_again}
-use Rattle.image_file.proofs.JudgeLemmas.{code_len}
+use Rattle.image_file.proofs.CheckLemmas.{code_len}
 
 -- ---- ops and their bytes
 
@@ -81,26 +81,26 @@ behind (suc n) i e more =
 -- the op and the offset behind it, where a mark says that one begins
 abbrev pub op_marked : (mark : Option ℕ) → (at : ℕ) → Option (OpData × List ℕ) → Option (OpData × ℕ)
 op_marked None at found = None
-op_marked (Some mark) at found = cond (eqb mark nowhere) None (option_map (λ r. (r.0, at + size r.0)) found)
+op_marked (Some mark) at found = cond (eqb mark no_index) None (option_map (λ r. (r.0, at + size r.0)) found)
 
 -- a mark tells what ops have at an offset, and where it says that an op begins there bytes begin with one
 pub record Tells (mark : Option ℕ) (at : ℕ) (found : Option (OpData × List ℕ)) (placed : Option (OpData × ℕ)) : Type 0 where
   pub is : placed ≡ op_marked mark at found
-  pub known : (m : ℕ) → mark ≡ Some m → eqb m nowhere ≡ false → is_some found ≡ true
+  pub known : (m : ℕ) → mark ≡ Some m → eqb m no_index ≡ false → is_some found ≡ true
 
-first_mark : (begins : Bool) (n : ℕ) → n < nowhere → eqb (cond begins n inside) nowhere ≡ false
-first_mark true n few = ne_eqb n nowhere (omega (arith, few))
+first_mark : (begins : Bool) (n : ℕ) → n < no_index → eqb (cond begins n inside_mark) no_index ≡ false
+first_mark true n few = ne_eqb n no_index (omega (arith, few))
 first_mark false n few = refl
 
 counted : (last : Bool) (n rest : ℕ) → n + (cond last 1 0 + rest) ≡ cond last (suc n) n + rest
 counted true n rest = omega arith
 counted false n rest = omega arith
 
-first_tells : (from n : ℕ) (begins : Bool) (op : OpData) (rest : List ℕ) → IsOp op → n < nowhere → Tells (Some (cond begins n inside)) from (op_at (op_bytes op ++ rest)) (Some (op, from + size op))
+first_tells : (from n : ℕ) (begins : Bool) (op : OpData) (rest : List ℕ) → IsOp op → n < no_index → Tells (Some (cond begins n inside_mark)) from (op_at (op_bytes op ++ rest)) (Some (op, from + size op))
 first_tells from n begins op rest is few =
     rw (op_again op rest is) (record { is = rw (first_mark begins n few) refl; known = λ m same there. refl })
 
-pub marks_tell : (from n : ℕ) (begins : Bool) (ops : List OpData) (at : ℕ) → are_ops ops ≡ true → n + end_marks ops < nowhere → Tells (slice_get (marks_from n begins ops) at) (from + at) (op_at (drop at (code_bytes ops))) (op_placed from ops (from + at))
+pub marks_tell : (from n : ℕ) (begins : Bool) (ops : List OpData) (at : ℕ) → are_ops ops ≡ true → n + end_marks ops < no_index → Tells (slice_get (marks_from n begins ops) at) (from + at) (op_at (drop at (code_bytes ops))) (op_placed from ops (from + at))
 marks_tell from n begins [] at are few = record { is = refl; known = λ m same there. absurd cc }
 marks_tell from n begins (op ∷ ops) zero are few =
     let here : from + 0 ≡ from = omega arith in
@@ -110,16 +110,16 @@ marks_tell from n begins (op ∷ ops) (suc j) are few =
     rw (ne_eqb from (from + suc j) (omega arith))
     (by (within (size op - 1) j)
     (λ i. marks_tell (from + size op) (cond op.last (suc n) n) op.last ops i (and_parts (is_op op.code op.operand) (are_ops ops) are).1
-    (subst (λ (k : ℕ). k < nowhere) (counted op.last n (end_marks ops)) few)))
+    (subst (λ (k : ℕ). k < no_index) (counted op.last n (end_marks ops)) few)))
   where
     rest : List ℕ
     rest = marks_from (cond op.last (suc n) n) op.last ops
 
     by : Within (size op - 1) j
         → ((i : ℕ) → Tells (slice_get rest i) (from + size op + i) (op_at (drop i (code_bytes ops))) (op_placed (from + size op) ops (from + size op + i)))
-        → Tells (slice_get (replicate (size op - 1) nowhere ++ rest) j) (from + suc j) (op_at (drop (suc j) (op_bytes op ++ code_bytes ops))) (op_placed (from + size op) ops (from + suc j))
+        → Tells (slice_get (replicate (size op - 1) no_index ++ rest) j) (from + suc j) (op_at (drop (suc j) (op_bytes op ++ code_bytes ops))) (op_placed (from + size op) ops (from + suc j))
     by (inl less) next =
-        rw (in_front (size op - 1) j nowhere rest less)
+        rw (in_front (size op - 1) j no_index rest less)
         (record {
           is = op_before (from + size op) ops (from + suc j) (omega (arith, less, two_bytes op));
           known = λ m same there. absurd cc;
@@ -127,8 +127,8 @@ marks_tell from n begins (op ∷ ops) (suc j) are few =
     by (inr past) next =
         let i : ℕ = past.0 in
         let there : from + suc j ≡ from + size op + i = omega (arith, past.1, two_bytes op) in
-        let mark : slice_get (replicate (size op - 1) nowhere ++ rest) j ≡ slice_get rest i =
-        ap (slice_get (replicate (size op - 1) nowhere ++ rest)) past.1 ∙ behind (size op - 1) i nowhere rest in
+        let mark : slice_get (replicate (size op - 1) no_index ++ rest) j ≡ slice_get rest i =
+        ap (slice_get (replicate (size op - 1) no_index ++ rest)) past.1 ∙ behind (size op - 1) i no_index rest in
         let place : suc j ≡ length (op_bytes op) + i = omega (arith, past.1, two_bytes op, size_is op) in
         let bytes : drop (suc j) (op_bytes op ++ code_bytes ops) ≡ drop i (code_bytes ops) =
         ap (λ (k : ℕ). drop k (op_bytes op ++ code_bytes ops)) place ∙ drop-append-add (op_bytes op) (code_bytes ops) i in
@@ -153,9 +153,9 @@ lines_left false n lines = refl
 abbrev line_marked : (mark : Option ℕ) → (lines : List ℕ) → Option ℕ
 line_marked mark lines = option_and_then (λ m. slice_get lines m) mark
 
-line_here : (begins : Bool) (n : ℕ) (lines : List ℕ) → length lines < 65536 → cond begins (slice_get (drop n lines) 0) None ≡ slice_get lines (cond begins n inside)
+line_here : (begins : Bool) (n : ℕ) (lines : List ℕ) → length lines < 65536 → cond begins (slice_get (drop n lines) 0) None ≡ slice_get lines (cond begins n inside_mark)
 line_here true n lines few = first_line n lines
-line_here false n lines few = sym (get_past lines inside (omega (arith, few)))
+line_here false n lines few = sym (get_past lines inside_mark (omega (arith, few)))
 
 lines_tell : (from n : ℕ) (begins : Bool) (ops : List OpData) (lines : List ℕ) (at : ℕ) → length lines < 65536 → line_placed from begins ops (drop n lines) (from + at) ≡ line_marked (slice_get (marks_from n begins ops) at) lines
 lines_tell from n begins [] lines at few = refl
@@ -175,15 +175,15 @@ lines_tell from n begins (op ∷ ops) lines (suc j) few =
 
     by : Within (size op - 1) j
         → ((i : ℕ) → line_placed (from + size op) op.last ops left (from + size op + i) ≡ line_marked (slice_get rest i) lines)
-        → line_placed (from + size op) op.last ops left (from + suc j) ≡ line_marked (slice_get (replicate (size op - 1) nowhere ++ rest) j) lines
+        → line_placed (from + size op) op.last ops left (from + suc j) ≡ line_marked (slice_get (replicate (size op - 1) no_index ++ rest) j) lines
     by (inl less) next =
-        rw (in_front (size op - 1) j nowhere rest less)
-        (line_before (from + size op) op.last ops left (from + suc j) (omega (arith, less, two_bytes op)) ∙ sym (get_past lines nowhere (omega (arith, few))))
+        rw (in_front (size op - 1) j no_index rest less)
+        (line_before (from + size op) op.last ops left (from + suc j) (omega (arith, less, two_bytes op)) ∙ sym (get_past lines no_index (omega (arith, few))))
     by (inr past) next =
         let i : ℕ = past.0 in
         let there : from + suc j ≡ from + size op + i = omega (arith, past.1, two_bytes op) in
-        let mark : slice_get (replicate (size op - 1) nowhere ++ rest) j ≡ slice_get rest i =
-        ap (slice_get (replicate (size op - 1) nowhere ++ rest)) past.1 ∙ behind (size op - 1) i nowhere rest in
+        let mark : slice_get (replicate (size op - 1) no_index ++ rest) j ≡ slice_get rest i =
+        ap (slice_get (replicate (size op - 1) no_index ++ rest)) past.1 ∙ behind (size op - 1) i no_index rest in
         rw mark (rw there (next i))
 
 -- ---- what the readers give
@@ -193,28 +193,28 @@ zero_more i = omega arith
 
 tells : (b : CodeBlock) (bytes marks lines : List ℕ) (at : ℕ) → IsInPlace b bytes marks lines → Tells (slice_get marks at) at (op_at (drop at bytes)) (op_placed 0 b.code at)
 tells b bytes marks lines at h =
-    let few : 0 + end_marks b.code < nowhere = omega (arith, few_statements b.code, h.small.code) in
+    let few : 0 + end_marks b.code < no_index = omega (arith, few_statements b.code, h.small.code) in
     let here : Tells (slice_get (marks_from 0 true b.code) at) at (op_at (drop at (code_bytes b.code))) (op_placed 0 b.code at) =
     subst (λ (k : ℕ). Tells (slice_get (marks_from 0 true b.code) at) k (op_at (drop at (code_bytes b.code))) (op_placed 0 b.code k)) (zero_more at)
     (marks_tell 0 0 true b.code at h.ops few) in
     rw h.marked (rw h.spelled here)
 
--- where an offset has no mark, or `nowhere`, no op begins
+-- where an offset has no mark, or `no_index`, no op begins
 pub op_missing : (b : CodeBlock) (bytes marks lines : List ℕ) (at : ℕ) → IsInPlace b bytes marks lines → slice_get marks at ≡ None → op_placed 0 b.code at ≡ None
 op_missing b bytes marks lines at h none = (tells b bytes marks lines at h).is ∙ ap (λ (m : Option ℕ). op_marked m at (op_at (drop at bytes))) none
 
-pub op_nowhere : (b : CodeBlock) (bytes marks lines : List ℕ) (at mark : ℕ) → IsInPlace b bytes marks lines → slice_get marks at ≡ Some mark → mark ≡ nowhere → op_placed 0 b.code at ≡ None
+pub op_nowhere : (b : CodeBlock) (bytes marks lines : List ℕ) (at mark : ℕ) → IsInPlace b bytes marks lines → slice_get marks at ≡ Some mark → mark ≡ no_index → op_placed 0 b.code at ≡ None
 op_nowhere b bytes marks lines at mark h there is =
     (tells b bytes marks lines at h).is ∙ ap (λ (m : Option ℕ). op_marked m at (op_at (drop at bytes))) (there ∙ ap (λ (m : ℕ). Some m) is)
 
 -- where it has another mark the bytes begin with the op that begins there
-pub op_known : (b : CodeBlock) (bytes marks lines : List ℕ) (at mark : ℕ) → IsInPlace b bytes marks lines → slice_get marks at ≡ Some mark → (mark ≡ nowhere → ⊥) → is_some (op_at (drop at bytes)) ≡ true
-op_known b bytes marks lines at mark h there begins = (tells b bytes marks lines at h).known mark there (ne_eqb mark nowhere begins)
+pub op_known : (b : CodeBlock) (bytes marks lines : List ℕ) (at mark : ℕ) → IsInPlace b bytes marks lines → slice_get marks at ≡ Some mark → (mark ≡ no_index → ⊥) → is_some (op_at (drop at bytes)) ≡ true
+op_known b bytes marks lines at mark h there begins = (tells b bytes marks lines at h).known mark there (ne_eqb mark no_index begins)
 
-pub op_there : (b : CodeBlock) (bytes marks lines : List ℕ) (at mark : ℕ) → IsInPlace b bytes marks lines → slice_get marks at ≡ Some mark → (mark ≡ nowhere → ⊥) → op_placed 0 b.code at ≡ option_map (λ r. (r.0, at + size r.0)) (op_at (drop at bytes))
+pub op_there : (b : CodeBlock) (bytes marks lines : List ℕ) (at mark : ℕ) → IsInPlace b bytes marks lines → slice_get marks at ≡ Some mark → (mark ≡ no_index → ⊥) → op_placed 0 b.code at ≡ option_map (λ r. (r.0, at + size r.0)) (op_at (drop at bytes))
 op_there b bytes marks lines at mark h there begins =
     (tells b bytes marks lines at h).is ∙ ap (λ (m : Option ℕ). op_marked m at (op_at (drop at bytes))) there
-    ∙ ap (λ (t : Bool). cond t None (option_map (λ (r : OpData × List ℕ). (r.0, at + size r.0)) (op_at (drop at bytes)))) (ne_eqb mark nowhere begins)
+    ∙ ap (λ (t : Bool). cond t None (option_map (λ (r : OpData × List ℕ). (r.0, at + size r.0)) (op_at (drop at bytes)))) (ne_eqb mark no_index begins)
 
 -- the line of a statement is that of its number
 pub line_by_mark : (b : CodeBlock) (bytes marks lines : List ℕ) (at : ℕ) → IsInPlace b bytes marks lines → option_and_then (λ mark. slice_get lines mark) (slice_get marks at) ≡ line_placed 0 true b.code b.lines at
@@ -222,28 +222,28 @@ line_by_mark b bytes marks lines at h =
     rw h.marked (rw h.lined (sym (lines_tell 0 0 true b.code b.lines at h.small.lines) ∙ ap (line_placed 0 true b.code b.lines) (zero_more at)))
 
 -- ops are what their bytes begin with
-pub ops_are_in : (ops : List OpData) → are_ops ops ≡ true → ops_in (code_bytes ops) ≡ ops
+pub ops_are_in : (ops : List OpData) → are_ops ops ≡ true → ops_of_bytes (code_bytes ops) ≡ ops
 ops_are_in ops are = ap (λ (r : List OpData × List ℕ). r.0) (ops_again (length (code_bytes ops)) ops are (omega arith))
 
 -- a block, and the ops that were marked are its code
-pub block_again : (b fields : CodeBlock) (ops : List OpData) (bytes : List ℕ) → fields ≡ b → ops ≡ fields.code → bytes ≡ code_bytes ops → are_ops ops ≡ true → (record fields { code = ops_in bytes }) ≡ b
+pub block_again : (b fields : CodeBlock) (ops : List OpData) (bytes : List ℕ) → fields ≡ b → ops ≡ fields.code → bytes ≡ code_bytes ops → are_ops ops ≡ true → (record fields { code = ops_of_bytes bytes }) ≡ b
 block_again b fields ops bytes is code spelled are =
-    let ops_is : ops_in bytes ≡ fields.code = ap ops_in spelled ∙ ops_are_in ops are ∙ code in
+    let ops_is : ops_of_bytes bytes ≡ fields.code = ap ops_of_bytes spelled ∙ ops_are_in ops are ∙ code in
     ap (λ (z : List OpData). record fields { code = z }) ops_is ∙ is
 
-pub in_place : (b fields : CodeBlock) (ops : List OpData) (bytes marks : List ℕ) → fields ≡ b → ops ≡ fields.code → bytes ≡ code_bytes ops → marks ≡ marks_from 0 true ops → are_ops ops ≡ true → IsSmall b → IsInPlace (record fields { code = ops_in bytes }) bytes marks fields.lines
+pub in_place : (b fields : CodeBlock) (ops : List OpData) (bytes marks : List ℕ) → fields ≡ b → ops ≡ fields.code → bytes ≡ code_bytes ops → marks ≡ marks_from 0 true ops → are_ops ops ≡ true → HasSmallCode b → IsInPlace (record fields { code = ops_of_bytes bytes }) bytes marks fields.lines
 in_place b fields ops bytes marks is code spelled marked are small =
-    let ops_is : ops_in bytes ≡ ops = ap ops_in spelled ∙ ops_are_in ops are in record {
+    let ops_is : ops_of_bytes bytes ≡ ops = ap ops_of_bytes spelled ∙ ops_are_in ops are in record {
       ops = ap are_ops ops_is ∙ are;
       spelled = spelled ∙ sym (ap code_bytes ops_is);
       marked = marked ∙ sym (ap (marks_from 0 true) ops_is);
       lined = refl;
-      small = subst IsSmall (sym (block_again b fields ops bytes is code spelled are)) small;
+      small = subst HasSmallCode (sym (block_again b fields ops bytes is code spelled are)) small;
     }
 
-pub small_at : (bs : List CodeBlock) (i : ℕ) (b : CodeBlock) → AreSmall bs → i < length bs → b ≡ get_or bs i b → IsSmall b
+pub small_at : (bs : List CodeBlock) (i : ℕ) (b : CodeBlock) → AreSmall bs → i < length bs → b ≡ get_or bs i b → HasSmallCode b
 small_at [] i b h lt is = absurd (omega (arith, lt))
-small_at (c ∷ bs) zero b h lt is = subst IsSmall (sym is) h.0
+small_at (c ∷ bs) zero b h lt is = subst HasSmallCode (sym is) h.0
 small_at (c ∷ bs) (suc i) b h lt is = small_at bs i b h.1 (omega (arith, lt)) is
 
 -- ---- ops that are marked one behind the other
@@ -258,8 +258,8 @@ pub record IsMade (ops : List OpData) (i statements : ℕ) (begins : Bool) (byte
 pub made_none : (ops : List OpData) (bytes marks : List ℕ) → bytes ≡ [] → marks ≡ [] → IsMade ops 0 0 true bytes marks
 made_none ops bytes marks b m = rw b (rw m (record { bytes_left = refl; marks_left = refl; ops_left = λ h. h; count = omega arith }))
 
-pub made_more : (ops : List OpData) (i statements next : ℕ) (begins last : Bool) (bytes marks more_bytes more_marks : List ℕ) (mark : ℕ) (op : OpData) → i < length ops → op ≡ get_or ops i op → IsOp op → mark ≡ cond begins statements inside
-    → more_bytes ≡ bytes ++ op_bytes op → more_marks ≡ marks ++ mark ∷ replicate (size op - 1) nowhere → last ≡ op.last → next ≡ cond last (suc statements) statements
+pub made_more : (ops : List OpData) (i statements next : ℕ) (begins last : Bool) (bytes marks more_bytes more_marks : List ℕ) (mark : ℕ) (op : OpData) → i < length ops → op ≡ get_or ops i op → IsOp op → mark ≡ cond begins statements inside_mark
+    → more_bytes ≡ bytes ++ op_bytes op → more_marks ≡ marks ++ mark ∷ replicate (size op - 1) no_index → last ≡ op.last → next ≡ cond last (suc statements) statements
     → IsMade ops i statements begins bytes marks → IsMade ops (i + 1) next last more_bytes more_marks
 made_more ops i statements next begins last bytes marks more_bytes more_marks mark op lt is valid mark_is b m l n h =
     let cut : drop i ops ≡ op ∷ drop (i + 1) ops = drop_next ops i op lt is in
@@ -271,10 +271,10 @@ made_more ops i statements next begins last bytes marks more_bytes more_marks ma
           ∙ sym (ap (λ (z : List OpData). bytes ++ code_bytes z) cut) ∙ h.bytes_left;
       marks_left =
           ap (λ (z : List ℕ). z ++ marks_from next last left) m
-          ∙ append_assoc marks (mark ∷ replicate (size op - 1) nowhere) (marks_from next last left)
-          ∙ ap (λ (k : ℕ). marks ++ k ∷ (replicate (size op - 1) nowhere ++ marks_from next last left)) mark_is
-          ∙ ap (λ (k : ℕ). marks ++ cond begins statements inside ∷ (replicate (size op - 1) nowhere ++ marks_from k last left)) number
-          ∙ ap (λ (t : Bool). marks ++ cond begins statements inside ∷ (replicate (size op - 1) nowhere ++ marks_from (cond op.last (suc statements) statements) t left)) l
+          ∙ append_assoc marks (mark ∷ replicate (size op - 1) no_index) (marks_from next last left)
+          ∙ ap (λ (k : ℕ). marks ++ k ∷ (replicate (size op - 1) no_index ++ marks_from next last left)) mark_is
+          ∙ ap (λ (k : ℕ). marks ++ cond begins statements inside_mark ∷ (replicate (size op - 1) no_index ++ marks_from k last left)) number
+          ∙ ap (λ (t : Bool). marks ++ cond begins statements inside_mark ∷ (replicate (size op - 1) no_index ++ marks_from (cond op.last (suc statements) statements) t left)) l
           ∙ sym (ap (λ (z : List OpData). marks ++ marks_from statements begins z) cut) ∙ h.marks_left;
       ops_left = λ are. h.ops_left (ap are_ops cut ∙ and_from (is_op op.code op.operand) (are_ops left) valid are);
       count = more op.last number (ap end_marks cut);
@@ -293,7 +293,7 @@ made_all ops i statements begins bytes marks past h =
     )
 
 -- there is a number left for a further statement
-pub number_left : (ops : List OpData) (i statements : ℕ) (begins : Bool) (bytes marks : List ℕ) → length (code_bytes ops) ≤ nowhere → IsMade ops i statements begins bytes marks → statements < nowhere
+pub number_left : (ops : List OpData) (i statements : ℕ) (begins : Bool) (bytes marks : List ℕ) → length (code_bytes ops) ≤ no_index → IsMade ops i statements begins bytes marks → statements < no_index
 number_left ops i statements begins bytes marks short h = omega (arith, short, few_statements ops, h.count)
 
 -- ---- ops that are decoded one behind the other

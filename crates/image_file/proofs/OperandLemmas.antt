@@ -20,11 +20,11 @@ use Rattle.plc_base.specs.Widths.{byte_count, width_number}
 use Rattle.flat_code.specs.Programs.{CodeBlock, Program}
 use Rattle.flat_code.specs.Image.{record_of_param, record_of_block}
 use Rattle.flat_code.specs.Loading.{lens_of}
-use Rattle.flat_code.specs.Table.{takes_of, has_width}
+use Rattle.flat_code.specs.Table.{takes_of, has_memory_width}
 use Rattle.flat_code.specs.Placed.{Placed, spots, begins, last_op}
-use Rattle.flat_code.specs.Blocks.{signature_of, Callee, block_with, callee, is_odd_bit, is_past_locals, is_bad_place, lacks_width, writes, own_parameter, lacks_own, is_input, is_in_db, is_above, pass_before, is_stray_pass, is_bad_actual, misfits_index, misfits_callee, misfits_call, are_passed, is_bad_instance, is_bad_call, seven_if, operand_fault, call_fault_among}
-use Rattle.image_file.specs.Readers.{same_id, block_of}
-use Rattle.image_file.specs.Verified.{IsOp, LiesWithin, HasParam, FitsOperand, FitsPassed, FitsPrepared, signatures, FitsCall, FitsParameter, IsCalled}
+use Rattle.flat_code.specs.Blocks.{signature_of, CalleeSeen, block_with, callee, is_odd_bit, is_past_locals, is_bad_place, lacks_width, writes_operand, parameter_meant, lacks_own, is_in_parameter, is_in_db, is_above, pass_before, is_stray_pass, is_bad_actual, misfits_index, misfits_callee, misfits_call, are_passed, is_bad_instance, is_bad_call, seven_if, operand_fault, call_fault_among}
+use Rattle.image_file.specs.Readers.{is_same_id, block_by_id}
+use Rattle.image_file.specs.Verified.{IsVerifiedOp, LiesWithin, HasParam, FitsOperand, FitsPassed, FitsPrepared, block_signatures, FitsCall, FitsParameter, IsCalledBlock}
 use Rattle.image_file.proofs.ImageLemmas.{width_there}
 use Rattle.image_file.proofs.VerifiedLemmas.{op_none, around_in}
 
@@ -60,7 +60,7 @@ record Has (b : CodeBlock) (index : ℕ) (w : Width) (own : Option ParameterReco
   has : HasParam b index w param
   own_is : own ≡ Some (record_of_param param)
 
-has_param : (p : Program) (b : CodeBlock) (index : ℕ) (w : Width) → lacks_own (own_parameter (around_in p b) index) w ≡ false → Has b index w (own_parameter (around_in p b) index)
+has_param : (p : Program) (b : CodeBlock) (index : ℕ) (w : Width) → lacks_own (parameter_meant (around_in p b) index) w ≡ false → Has b index w (parameter_meant (around_in p b) index)
 has_param p b index w e = by_kind (eqb (kind_number b.id.kind) 2) refl e
   where
     by_param : (o : Option Param) → slice_get b.params index ≡ o → eqb (kind_number b.id.kind) 2 ≡ true → lacks_own (option_map record_of_param o) w ≡ false → Has b index w (option_map record_of_param o)
@@ -79,22 +79,22 @@ has_param p b index w e = by_kind (eqb (kind_number b.id.kind) 2) refl e
         let there = slice_get-map record_of_param b.params index in
         subst (λ (z : Option ParameterRecord). Has b index w z) (sym there) (by_param (slice_get b.params index) refl kind (subst (λ (z : Option ParameterRecord). lacks_own z w ≡ false) there l))
 
-not_written : (code section : ℕ) → (writes code && eqb section 1) ≡ false → writes code ≡ true → section ≡ 1 → ⊥
+not_written : (code section : ℕ) → (writes_operand code && eqb section 1) ≡ false → writes_operand code ≡ true → section ≡ 1 → ⊥
 not_written code section e w is = let f : true ≡ false = sym (rw (w, eq-eqb section 1 is) refl) ∙ e in absurd cc
 
 fits_operand : (p : Program) (b : CodeBlock) (q : Placed) (o : Operand) → operand_fault (around_in p b) (spots b.code) q o ≡ None → FitsOperand b q.op o
 fits_operand p b q (operand.Direct a w byte bit) e =
     let s = or_parts (lacks_width q.op w) (is_bad_place (around_in p b) a w byte bit) (seven_none _ e) in
     let f = fits_place p b a w byte bit s.1 in
-    (not-false (has_width (takes_of q.op.code) w) s.0, f.0, f.1)
-fits_operand p b q (operand.ByMemory a w from byte) e = not-false (has_width (takes_of q.op.code) w) (seven_none _ e)
-fits_operand p b q (operand.ByRegister a w register bits) e = not-false (has_width (takes_of q.op.code) w) (seven_none _ e)
+    (not-false (has_memory_width (takes_of q.op.code) w) s.0, f.0, f.1)
+fits_operand p b q (operand.ByMemory a w from byte) e = not-false (has_memory_width (takes_of q.op.code) w) (seven_none _ e)
+fits_operand p b q (operand.ByRegister a w register bits) e = not-false (has_memory_width (takes_of q.op.code) w) (seven_none _ e)
 fits_operand p b q (operand.Parameter index w) e =
-    let own = own_parameter (around_in p b) index in
-    let s = or_parts (lacks_width q.op w || lacks_own own w) (writes q.op.code && is_input own) (seven_none _ e) in
+    let own = parameter_meant (around_in p b) index in
+    let s = or_parts (lacks_width q.op w || lacks_own own w) (writes_operand q.op.code && is_in_parameter own) (seven_none _ e) in
     let t = or_parts (lacks_width q.op w) (lacks_own own w) s.0 in
     let h = has_param p b index w t.1 in
-    (not-false (has_width (takes_of q.op.code) w) t.0, h.param, h.has, not_written q.op.code h.param.section (ap (λ (z : Option ParameterRecord). writes q.op.code && is_input z) (sym h.own_is) ∙ s.1))
+    (not-false (has_memory_width (takes_of q.op.code) w) t.0, h.param, h.has, not_written q.op.code h.param.section (ap (λ (z : Option ParameterRecord). writes_operand q.op.code && is_in_parameter z) (sym h.own_is) ∙ s.1))
 fits_operand p b q operand.Nothing e = tt
 fits_operand p b q (operand.Literal value) e = tt
 fits_operand p b q (operand.Numbered kind number) e = tt
@@ -107,7 +107,7 @@ fits_operand p b q (operand.Called kind number instance) e = tt
 fits_operand p b q (operand.OpenBlock register number) e = tt
 fits_operand p b q (operand.OpenBy register from byte) e = tt
 
-pub operand_fits : (p : Program) (b : CodeBlock) (q : Placed) → IsOp p b q → FitsOperand b q.op q.op.operand
+pub operand_fits : (p : Program) (b : CodeBlock) (q : Placed) → IsVerifiedOp p b q → FitsOperand b q.op q.op.operand
 operand_fits p b q h = fits_operand p b q q.op.operand (op_none p b q h).operand
 
 -- ---- USEDB and PASS
@@ -146,15 +146,15 @@ fits_prepared p b q (operand.Called kind number instance) e = tt
 fits_prepared p b q (operand.OpenBlock register number) e = tt
 fits_prepared p b q (operand.OpenBy register from byte) e = tt
 
-pub prepared_fits : (p : Program) (b : CodeBlock) (q : Placed) → IsOp p b q → FitsPrepared b q q.op.operand
+pub prepared_fits : (p : Program) (b : CodeBlock) (q : Placed) → IsVerifiedOp p b q → FitsPrepared b q q.op.operand
 prepared_fits p b q h = fits_prepared p b q q.op.operand (op_none p b q h).operand
 
 -- ---- calls
 
-among : (p : Program) (b : CodeBlock) (q : Placed) (o : Operand) → IsOp p b q → q.op.operand ≡ o → call_fault_among (around_in p b) (lens_of p.data_blocks) q o ≡ None
+among : (p : Program) (b : CodeBlock) (q : Placed) (o : Operand) → IsVerifiedOp p b q → q.op.operand ≡ o → call_fault_among (around_in p b) (lens_of p.data_blocks) q o ≡ None
 among p b q o h is = subst (λ (z : Operand). call_fault_among (around_in p b) (lens_of p.data_blocks) q z ≡ None) is (op_none p b q h).call
 
-fits_call : (p : Program) (q : Placed) (kind number instance : ℕ) (found : Option Callee) → callee (signatures p) kind number ≡ found → is_bad_call (lens_of p.data_blocks) found instance q.before ≡ false → FitsCall p q kind number instance
+fits_call : (p : Program) (q : Placed) (kind number instance : ℕ) (found : Option CalleeSeen) → callee (block_signatures p) kind number ≡ found → is_bad_call (lens_of p.data_blocks) found instance q.before ≡ false → FitsCall p q kind number instance
 fits_call p q kind number instance None is e = absurd cc
 fits_call p q kind number instance (Some s) is e =
     let o = or_parts (not (eqb s.0 3) && not (are_passed 0 s.2 q.before)) (is_bad_instance (lens_of p.data_blocks) s instance) e in
@@ -168,33 +168,33 @@ fits_call p q kind number instance (Some s) is e =
     passed_all : eqb s.0 3 ≡ false → (not (eqb s.0 3) && not (are_passed 0 s.2 q.before)) ≡ false → are_passed 0 s.2 q.before ≡ true
     passed_all f e = not-false (are_passed 0 s.2 q.before) (rw f at e)
 
-pub call_fits : (p : Program) (b : CodeBlock) (q : Placed) (kind number instance : ℕ) → IsOp p b q → q.op.operand ≡ operand.Called kind number instance → FitsCall p q kind number instance
-call_fits p b q kind number instance h is = fits_call p q kind number instance (callee (signatures p) kind number) refl (seven_none _ (among p b q (operand.Called kind number instance) h is))
+pub call_fits : (p : Program) (b : CodeBlock) (q : Placed) (kind number instance : ℕ) → IsVerifiedOp p b q → q.op.operand ≡ operand.Called kind number instance → FitsCall p q kind number instance
+call_fits p b q kind number instance h is = fits_call p q kind number instance (callee (block_signatures p) kind number) refl (seven_none _ (among p b q (operand.Called kind number instance) h is))
 
-fits_index : (p : Program) (b : CodeBlock) (called : Callee) (index : ℕ) (actual : Passed) (o : Option ParameterRecord) → slice_get called.2 index ≡ o → misfits_index (around_in p b) o actual ≡ false → FitsParameter p b called index actual
+fits_index : (p : Program) (b : CodeBlock) (called : CalleeSeen) (index : ℕ) (actual : Passed) (o : Option ParameterRecord) → slice_get called.2 index ≡ o → misfits_index (around_in p b) o actual ≡ false → FitsParameter p b called index actual
 fits_index p b called index actual None is e = absurd cc
 fits_index p b called index actual (Some parameter) is e = record { parameter = parameter; there = is; fits = e }
 
-pub passed_fits : (p : Program) (b : CodeBlock) (q : Placed) (index : ℕ) (actual : Passed) (kind number instance : ℕ) (called : Callee) → IsOp p b q → q.op.operand ≡ operand.Pass index actual → (last_op q).operand ≡ operand.Called kind number instance → callee (signatures p) kind number ≡ Some called → FitsParameter p b called index actual
+pub passed_fits : (p : Program) (b : CodeBlock) (q : Placed) (index : ℕ) (actual : Passed) (kind number instance : ℕ) (called : CalleeSeen) → IsVerifiedOp p b q → q.op.operand ≡ operand.Pass index actual → (last_op q).operand ≡ operand.Called kind number instance → callee (block_signatures p) kind number ≡ Some called → FitsParameter p b called index actual
 passed_fits p b q index actual kind number instance called h is last there =
     let code = (fits_prepared p b q (operand.Pass index actual) (subst (λ (z : Operand). operand_fault (around_in p b) (spots b.code) q z ≡ None) is (op_none p b q h).operand)).0 in
     let bad = seven_none _ (among p b q (operand.Pass index actual) h is) in
     let here : misfits_call (around_in p b) (last_op q).operand index actual ≡ false = rw (eq-eqb (last_op q).code 0x78 code) at bad in
-    let whom : misfits_callee (around_in p b) (callee (signatures p) kind number) index actual ≡ false = subst (λ (z : Operand). misfits_call (around_in p b) z index actual ≡ false) last here in
-    fits_index p b called index actual (slice_get called.2 index) refl (subst (λ (z : Option Callee). misfits_callee (around_in p b) z index actual ≡ false) there whom)
+    let whom : misfits_callee (around_in p b) (callee (block_signatures p) kind number) index actual ≡ false = subst (λ (z : Operand). misfits_call (around_in p b) z index actual ≡ false) last here in
+    fits_index p b called index actual (slice_get called.2 index) refl (subst (λ (z : Option CalleeSeen). misfits_callee (around_in p b) z index actual ≡ false) there whom)
 
 -- what is called among blocks
-record FoundIn (bs : List CodeBlock) (id : BlockId) (kind : ℕ) (called : Callee) : Type 0 where
+record FoundIn (bs : List CodeBlock) (id : BlockId) (kind : ℕ) (called : CalleeSeen) : Type 0 where
   block : CodeBlock
-  there : block_of id bs ≡ Some block
+  there : block_by_id id bs ≡ Some block
   same : called ≡ (kind, block.instance_len, map record_of_param block.params)
 
-found_in : (bs : List CodeBlock) (id : BlockId) (kind : ℕ) (called : Callee) → ((k : BlockKind) → eqb (kind_number k) kind ≡ eqb (kind_order k) (kind_order id.kind)) → block_with kind id.number (map signature_of (map record_of_block bs)) ≡ Some called → FoundIn bs id kind called
+found_in : (bs : List CodeBlock) (id : BlockId) (kind : ℕ) (called : CalleeSeen) → ((k : BlockKind) → eqb (kind_number k) kind ≡ eqb (kind_order k) (kind_order id.kind)) → block_with kind id.number (map signature_of (map record_of_block bs)) ≡ Some called → FoundIn bs id kind called
 found_in [] id kind called agree e = absurd cc
 found_in (b ∷ bs) id kind called agree e =
     by (eqb (kind_number b.id.kind) kind && eqb b.id.number id.number) refl (ap (λ (z : Bool). z && eqb b.id.number id.number) (sym (agree b.id.kind))) e (λ h. found_in bs id kind called agree h)
   where
-    by : (t : Bool) → (eqb (kind_number b.id.kind) kind && eqb b.id.number id.number) ≡ t → same_id b.id id ≡ (eqb (kind_number b.id.kind) kind && eqb b.id.number id.number)
+    by : (t : Bool) → (eqb (kind_number b.id.kind) kind && eqb b.id.number id.number) ≡ t → is_same_id b.id id ≡ (eqb (kind_number b.id.kind) kind && eqb b.id.number id.number)
         → cond t (Some (kind_number b.id.kind, b.instance_len, map record_of_param b.params)) (block_with kind id.number (map signature_of (map record_of_block bs))) ≡ Some called
         → (block_with kind id.number (map signature_of (map record_of_block bs)) ≡ Some called → FoundIn bs id kind called) → FoundIn (b ∷ bs) id kind called
     by true t s e more =
@@ -202,7 +202,7 @@ found_in (b ∷ bs) id kind called agree e =
         record {
           block = b;
           there = rw (s ∙ t) refl;
-          same = sym (same_Some (kind_number b.id.kind, b.instance_len, map record_of_param b.params) called e) ∙ ap (λ (n : ℕ). let c : Callee = (n, b.instance_len, map record_of_param b.params) in c) k;
+          same = sym (same_Some (kind_number b.id.kind, b.instance_len, map record_of_param b.params) called e) ∙ ap (λ (n : ℕ). let c : CalleeSeen = (n, b.instance_len, map record_of_param b.params) in c) k;
         }
     by false t s e more = let m = more e in record { block = m.block; there = rw (s ∙ t) m.there; same = m.same }
 
@@ -222,14 +222,14 @@ function_blocks_agree kinds.Db = refl
 function_blocks_agree kinds.Sfc = refl
 function_blocks_agree kinds.Udt = refl
 
-function_there : (p : Program) (number : ℕ) (called : Callee) → callee (signatures p) 2 number ≡ Some called → IsCalled p 2 number called
+function_there : (p : Program) (number : ℕ) (called : CalleeSeen) → callee (block_signatures p) 2 number ≡ Some called → IsCalledBlock p 2 number called
 unfolding callee
 function_there p number called e = let f = found_in p.code_blocks (record { kind = kinds.Fc; number = number }) 2 called functions_agree e in record { block = f.block; there = f.there; same = f.same }
 
-function_block_there : (p : Program) (number : ℕ) (called : Callee) → callee (signatures p) 3 number ≡ Some called → IsCalled p 3 number called
+function_block_there : (p : Program) (number : ℕ) (called : CalleeSeen) → callee (block_signatures p) 3 number ≡ Some called → IsCalledBlock p 3 number called
 unfolding callee
 function_block_there p number called e = let f = found_in p.code_blocks (record { kind = kinds.Fb; number = number }) 3 called function_blocks_agree e in record { block = f.block; there = f.there; same = f.same }
 
-pub called_there : (p : Program) (kind number : ℕ) (called : Callee) → (kind ≡ 2) ⊎ (kind ≡ 3) → callee (signatures p) kind number ≡ Some called → IsCalled p kind number called
-called_there p kind number called (inl is) e = subst (λ (k : ℕ). IsCalled p k number called) (sym is) (function_there p number called (subst (λ (k : ℕ). callee (signatures p) k number ≡ Some called) is e))
-called_there p kind number called (inr is) e = subst (λ (k : ℕ). IsCalled p k number called) (sym is) (function_block_there p number called (subst (λ (k : ℕ). callee (signatures p) k number ≡ Some called) is e))
+pub called_there : (p : Program) (kind number : ℕ) (called : CalleeSeen) → (kind ≡ 2) ⊎ (kind ≡ 3) → callee (block_signatures p) kind number ≡ Some called → IsCalledBlock p kind number called
+called_there p kind number called (inl is) e = subst (λ (k : ℕ). IsCalledBlock p k number called) (sym is) (function_there p number called (subst (λ (k : ℕ). callee (block_signatures p) k number ≡ Some called) is e))
+called_there p kind number called (inr is) e = subst (λ (k : ℕ). IsCalledBlock p k number called) (sym is) (function_block_there p number called (subst (λ (k : ℕ). callee (block_signatures p) k number ≡ Some called) is e))

@@ -6,19 +6,19 @@ use Rattle.std.proofs.lemmas.List.{take-append-drop}
 use Rattle.plc_base.proofs.ListLemmas.{drop_next, nil_parts}
 use Rattle.flat_code.specs.declared.image_fields.Field.TheVariants.{StatementCount, Line}
 use Rattle.flat_code.specs.Ops.{OpData}
-use Rattle.flat_code.specs.Codes.{size, are_ops, code_bytes, code_fault, code_of, ends, is_nowhere, last_place, overlong, stop_at}
-use Rattle.flat_code.specs.Blocks.{Around, Signature, signature_of, at_offset, block_faults}
-use Rattle.flat_code.specs.Faults.{fault_of}
-use Rattle.flat_code.specs.Image.{end_marks, head, head_of_block, parts_of_block, parameters, line_field, line_after, lines_of, code_and_lines, block_rows, plain_block, code_block, after_block, code_blocks, data_blocks, counts, parts_of_records, row_of_body_parts, body_rows, records, records_of, record_of_block, body, IsProgram, IsRight}
+use Rattle.flat_code.specs.Codes.{size, are_ops, code_bytes, code_fault, code_layout, ends_by_be, is_nowhere, last_place, overlong, stop_at}
+use Rattle.flat_code.specs.Blocks.{Around, BlockSignature, signature_of, at_offset, block_faults}
+use Rattle.flat_code.specs.Faults.{field_fault}
+use Rattle.flat_code.specs.Image.{end_marks, head_layout, head_of_block, parts_of_block, parameters, line_field, line_after, lines_layout, code_and_lines, block_rows, plain_block, code_block_layout, after_block, code_blocks, data_blocks_layout, counts_layout, parts_of_records, row_of_body_parts, body_rows, records, records_of, record_of_block, body, IsProgram, IsRight}
 use Rattle.flat_code.specs.Layout.{good_many, is_fine}
-use Rattle.flat_code.specs.Loading.{lens_of, around, AreVerified, Verifies}
+use Rattle.flat_code.specs.Loading.{lens_of, around_block, AreVerified, Verifies}
 use Rattle.flat_code.specs.Programs.{CodeBlock, Program}
 use Rattle.flat_code.specs.Records.{BlockRecord}
 use Rattle.flat_code.proofs.PartLemmas.{GoodBlock}
 use Rattle.image_file.specs.declared.faults.LoadFault.{LoadFault}
 use Rattle.image_file.specs.declared.faults.VerifyFault.{VerifyFault}
-use Rattle.image_file.specs.Least.{with_faults, IsLeast}
-use Rattle.image_file.specs.Verifying.{line_faults, count_faults, faults_unless, faults_of_block, are_whole, lens_where, lens_judged, DecidesFor, IsFirstOf, AreClean, IsClean}
+use Rattle.image_file.specs.Least.{with_faults, IsLeastFault}
+use Rattle.image_file.specs.Verifying.{line_faults, count_faults, faults_unless, faults_of_block, are_whole, lens_where, lens_checked, DecidesFor, IsFirstOf, AreClean, IsClean}
 use Rattle.image_file.proofs.CodeLemmas.{bytes-append, ends_at, last_of}
 use Rattle.image_file.proofs.ImageLemmas.{good_block_of, GoodRecords, good_records}
 use Rattle.image_file.proofs.LeastLemmas.{kept_is_least}
@@ -50,15 +50,15 @@ front_fits ops last most some is fits =
     let front = take (length ops - 1) ops in
     omega (arith, fits, ap (λ (z : List OpData). length (code_bytes z)) (split_last ops last some is), ap length (bytes-append front (last ∷ [])), length-append (code_bytes front) (code_bytes (last ∷ [])))
 
-pub ends_well : (ops : List OpData) (last : OpData) → 1 ≤ length ops → last ≡ get_or ops (length ops - 1) last → true ≡ (eqb last.code 0x7B && last.last) → None ≡ cond (ends ops) None (Some (last_place 0 ops))
+pub ends_well : (ops : List OpData) (last : OpData) → 1 ≤ length ops → last ≡ get_or ops (length ops - 1) last → true ≡ (eqb last.code 0x7B && last.last) → None ≡ cond (ends_by_be ops) None (Some (last_place 0 ops))
 ends_well ops last some is end =
-    let e : ends ops ≡ true = ap ends (split_last ops last some is) ∙ ends_at (take (length ops - 1) ops) last ∙ sym end in
+    let e : ends_by_be ops ≡ true = ap ends_by_be (split_last ops last some is) ∙ ends_at (take (length ops - 1) ops) last ∙ sym end in
     rw e refl
 
-pub ends_badly : (ops : List OpData) (last : OpData) (at : ℕ) → 1 ≤ length ops → last ≡ get_or ops (length ops - 1) last → false ≡ (eqb last.code 0x7B && last.last) → at ≡ length (code_bytes (take (length ops - 1) ops)) → Some at ≡ cond (ends ops) None (Some (last_place 0 ops))
+pub ends_badly : (ops : List OpData) (last : OpData) (at : ℕ) → 1 ≤ length ops → last ≡ get_or ops (length ops - 1) last → false ≡ (eqb last.code 0x7B && last.last) → at ≡ length (code_bytes (take (length ops - 1) ops)) → Some at ≡ cond (ends_by_be ops) None (Some (last_place 0 ops))
 ends_badly ops last at some is end at_is =
     let split = split_last ops last some is in
-    let e : ends ops ≡ false = ap ends split ∙ ends_at (take (length ops - 1) ops) last ∙ sym end in
+    let e : ends_by_be ops ≡ false = ap ends_by_be split ∙ ends_at (take (length ops - 1) ops) last ∙ sym end in
     let place : last_place 0 ops ≡ at = omega (arith, ap (last_place 0) split, last_of 0 (take (length ops - 1) ops) last, at_is) in
     rw (e, place) refl
 
@@ -70,10 +70,10 @@ whole_not i at bs b lt is some = sym (ap (λ (z : List CodeBlock). are_whole (ma
 
 -- ---- faults 9
 
-pub lines_next : (least mid : Option LoadFault) (before i : ℕ) (lines : List ℕ) (line : ℕ) → drop i lines ≡ line ∷ drop (i + 1) lines → mid ≡ with_faults least (at_offset 0 (fault_of (Line before line))) → with_faults mid (line_faults line (drop (i + 1) lines)) ≡ with_faults least (line_faults before (drop i lines))
+pub lines_next : (least mid : Option LoadFault) (before i : ℕ) (lines : List ℕ) (line : ℕ) → drop i lines ≡ line ∷ drop (i + 1) lines → mid ≡ with_faults least (at_offset 0 (field_fault (Line before line))) → with_faults mid (line_faults line (drop (i + 1) lines)) ≡ with_faults least (line_faults before (drop i lines))
 lines_next least mid before i lines line shape is =
     ap (λ (z : Option LoadFault). with_faults z (line_faults line (drop (i + 1) lines))) is
-    ∙ sym (with_more least (at_offset 0 (fault_of (Line before line))) (line_faults line (drop (i + 1) lines)))
+    ∙ sym (with_more least (at_offset 0 (field_fault (Line before line))) (line_faults line (drop (i + 1) lines)))
     ∙ ap (λ (z : List ℕ). with_faults least (line_faults before z)) (sym shape)
 
 pub lines_done : (least : Option LoadFault) (before i : ℕ) (lines : List ℕ) → length lines ≤ i → least ≡ with_faults least (line_faults before (drop i lines))
@@ -104,19 +104,19 @@ pub record Passed (lens : Lens) (all : List BlockRecord) (bs rest : List CodeBlo
   pub later : (f : VerifyFault) → IsFirstOf lens all rest f → IsFirstOf lens all bs f
   pub clean : AreClean lens all rest → AreClean lens all bs
 
-decides : (b : CodeBlock) (f : LoadFault) (fs : List (ℕ × ℕ)) (Later : Type 0) → IsLeast f fs → DecidesFor b.id (record { block = b.id; at = f.at; code = f.code }) fs Later
+decides : (b : CodeBlock) (f : LoadFault) (fs : List (ℕ × ℕ)) (Later : Type 0) → IsLeastFault f fs → DecidesFor b.id (record { block = b.id; at = f.at; code = f.code }) fs Later
 decides b f [] Later least = absurd least.one
 decides b f (g ∷ gs) Later least = (refl, least)
 
-pub found_here : (lens : Lens) (all : List BlockRecord) (bs rest tail : List CodeBlock) (b : CodeBlock) (f : LoadFault) → rest ≡ b ∷ tail → Some f ≡ with_faults None (faults_of_block (around lens all (record_of_block b)) (record_of_block b)) → Passed lens all bs rest → IsFirstOf lens all bs (record { block = b.id; at = f.at; code = f.code })
+pub found_here : (lens : Lens) (all : List BlockRecord) (bs rest tail : List CodeBlock) (b : CodeBlock) (f : LoadFault) → rest ≡ b ∷ tail → Some f ≡ with_faults None (faults_of_block (around_block lens all (record_of_block b)) (record_of_block b)) → Passed lens all bs rest → IsFirstOf lens all bs (record { block = b.id; at = f.at; code = f.code })
 found_here lens all bs rest tail b f shape e passed =
     let fault : VerifyFault = record { block = b.id; at = f.at; code = f.code } in
-    let fs = faults_of_block (around lens all (record_of_block b)) (record_of_block b) in
+    let fs = faults_of_block (around_block lens all (record_of_block b)) (record_of_block b) in
     passed.later fault (subst (λ (z : List CodeBlock). IsFirstOf lens all z fault) (sym shape) (decides b f fs (IsFirstOf lens all tail fault) (kept_is_least fs f (sym e))))
 
-pub passes : (lens : Lens) (all : List BlockRecord) (bs rest tail : List CodeBlock) (b : CodeBlock) → rest ≡ b ∷ tail → None ≡ with_faults None (faults_of_block (around lens all (record_of_block b)) (record_of_block b)) → Passed lens all bs rest → Passed lens all bs tail
+pub passes : (lens : Lens) (all : List BlockRecord) (bs rest tail : List CodeBlock) (b : CodeBlock) → rest ≡ b ∷ tail → None ≡ with_faults None (faults_of_block (around_block lens all (record_of_block b)) (record_of_block b)) → Passed lens all bs rest → Passed lens all bs tail
 passes lens all bs rest tail b shape e passed =
-    let fs = faults_of_block (around lens all (record_of_block b)) (record_of_block b) in
+    let fs = faults_of_block (around_block lens all (record_of_block b)) (record_of_block b) in
     let none : fs ≡ [] = none_left fs (sym e) in
     record {
       later = λ f h. passed.later f (subst (λ (z : List CodeBlock). IsFirstOf lens all z f) (sym shape) (subst (λ (z : List (ℕ × ℕ)). DecidesFor b.id f z (IsFirstOf lens all tail f)) (sym none) h));
@@ -130,11 +130,11 @@ pub passed_all : (lens : Lens) (all : List BlockRecord) (bs : List CodeBlock) (i
 passed_all lens all bs i le passed = passed.clean (subst (λ (z : List CodeBlock). AreClean lens all z) (sym (drop_of_length-le bs {i = i} le)) tt)
 
 -- what is found of a block by its place among the signatures of all
-pub in_its_place : (lens : Lens) (signatures : List Signature) (bs : List CodeBlock) (b : CodeBlock) (found wanted : Option LoadFault) → signatures ≡ map signature_of (map record_of_block bs)
+pub in_its_place : (lens : Lens) (signatures : List BlockSignature) (bs : List CodeBlock) (b : CodeBlock) (found wanted : Option LoadFault) → signatures ≡ map signature_of (map record_of_block bs)
     → found ≡ with_faults None (faults_of_block (record { kind = (record_of_block b).kind; local_len = b.local_len; params = (record_of_block b).params; blocks = signatures; data_lens = lens }) (record_of_block b))
-    → found ≡ wanted → wanted ≡ with_faults None (faults_of_block (around lens (map record_of_block bs) (record_of_block b)) (record_of_block b))
+    → found ≡ wanted → wanted ≡ with_faults None (faults_of_block (around_block lens (map record_of_block bs) (record_of_block b)) (record_of_block b))
 in_its_place lens signatures bs b found wanted all e is =
-    sym is ∙ e ∙ ap (λ (z : List Signature). with_faults None (faults_of_block (record { kind = (record_of_block b).kind; local_len = b.local_len; params = (record_of_block b).params; blocks = z; data_lens = lens }) (record_of_block b))) all
+    sym is ∙ e ∙ ap (λ (z : List BlockSignature). with_faults None (faults_of_block (record { kind = (record_of_block b).kind; local_len = b.local_len; params = (record_of_block b).params; blocks = z; data_lens = lens }) (record_of_block b))) all
 
 -- ---- a program without faults verifies
 
@@ -166,7 +166,7 @@ is_whole (Some at) e = absurd cc
 
 clean_whole : (lens : Lens) (all : List BlockRecord) (bs : List CodeBlock) → AreClean lens all bs → are_whole (map record_of_block bs) ≡ true
 clean_whole lens all [] h = refl
-clean_whole lens all (b ∷ bs) h = and_from _ _ (is_whole (code_fault b.code) (clean_parts (around lens all (record_of_block b)) (record_of_block b) h.0).code) (clean_whole lens all bs h.1)
+clean_whole lens all (b ∷ bs) h = and_from _ _ (is_whole (code_fault b.code) (clean_parts (around_block lens all (record_of_block b)) (record_of_block b) h.0).code) (clean_whole lens all bs h.1)
 
 fine : (o : Option ℕ) → at_offset 0 o ≡ [] → is_fine o ≡ true
 fine None e = refl
@@ -179,41 +179,41 @@ lines_right zero before (line ∷ lines) h e = absurd cc
 lines_right (suc n) before [] h e = absurd cc
 lines_right (suc n) before (line ∷ lines) h e =
     let g = and_parts (ltb line 4294967296 && true) (good_many (line_field false) line_after line n lines) h in
-    let p = nil_parts (at_offset 0 (fault_of (Line before line))) (line_faults line lines) e in
-    and_from (ltb line 4294967296 && is_fine (fault_of (Line before line))) (good_many (line_field true) line_after line n lines)
-    (and_from (ltb line 4294967296) (is_fine (fault_of (Line before line))) (and_parts (ltb line 4294967296) true g.0).0 (fine (fault_of (Line before line)) p.0))
+    let p = nil_parts (at_offset 0 (field_fault (Line before line))) (line_faults line lines) e in
+    and_from (ltb line 4294967296 && is_fine (field_fault (Line before line))) (good_many (line_field true) line_after line n lines)
+    (and_from (ltb line 4294967296) (is_fine (field_fault (Line before line))) (and_parts (ltb line 4294967296) true g.0).0 (fine (field_fault (Line before line)) p.0))
     (lines_right n line lines g.1 p.1)
 
-code_right : (n : ℕ) (ops : List OpData) → (code_of false n).good ops ≡ true → code_fault ops ≡ None → (code_of true n).good ops ≡ true
-unfolding code_of
+code_right : (n : ℕ) (ops : List OpData) → (code_layout false n).good ops ≡ true → code_fault ops ≡ None → (code_layout true n).good ops ≡ true
+unfolding code_layout
 code_right n ops h e =
     let a = and_parts (are_ops ops && is_nowhere (stop_at false ops [])) (eqb (length (code_bytes ops)) n) h in
     let b = and_parts (are_ops ops) (is_nowhere (stop_at false ops [])) a.0 in
     and_from (are_ops ops && is_nowhere (code_fault ops)) (eqb (length (code_bytes ops)) n) (and_from (are_ops ops) (is_nowhere (code_fault ops)) b.0 (is_whole (code_fault ops) e)) a.1
 
-lines_of_right : (b : BlockRecord) → (lines_of false 0 (head_of_block b) b.code).good b.lines ≡ true → count_faults b ≡ [] → line_faults 0 b.lines ≡ [] → (lines_of true 0 (head_of_block b) b.code).good b.lines ≡ true
-unfolding lines_of
+lines_of_right : (b : BlockRecord) → (lines_layout false 0 (head_of_block b) b.code).good b.lines ≡ true → count_faults b ≡ [] → line_faults 0 b.lines ≡ [] → (lines_layout true 0 (head_of_block b) b.code).good b.lines ≡ true
+unfolding lines_layout
 lines_of_right b h count lines =
-    let f = fault_of (StatementCount (end_marks b.code) (length b.lines)) in
+    let f = field_fault (StatementCount (end_marks b.code) (length b.lines)) in
     let g = and_parts true (good_many (line_field false) line_after 0 (length b.lines) b.lines) h in
     and_from (is_fine f) (good_many (line_field true) line_after 0 (length b.lines) b.lines) (fine f count) (lines_right (length b.lines) 0 b.lines g.1 lines)
 
-parts_right : (before : ℕ × ℕ) (around : Around) (b : BlockRecord) → GoodBlock false before 0 (parts_of_block b) → Clean around b → (code_block true before).good b ≡ true
-unfolding code_block plain_block block_rows code_and_lines
+parts_right : (before : ℕ × ℕ) (around : Around) (b : BlockRecord) → GoodBlock false before 0 (parts_of_block b) → Clean around b → (code_block_layout true before).good b ≡ true
+unfolding code_block_layout plain_block block_rows code_and_lines
 parts_right before around b p h =
     let x = head_of_block b in
-    and_from ((head before).good x) _ p.head_good
+    and_from ((head_layout before).good x) _ p.head_good
     (and_from ((parameters x).good b.params) _ p.params_good
-    (and_from ((code_of true x.code_length).good b.code) ((lines_of true 0 x b.code).good b.lines) (code_right x.code_length b.code p.code_good h.code) (lines_of_right b p.lines_good h.count h.lines)))
+    (and_from ((code_layout true x.code_length).good b.code) ((lines_layout true 0 x b.code).good b.lines) (code_right x.code_length b.code p.code_good h.code) (lines_of_right b p.lines_good h.count h.lines)))
 
-blocks_right : (lens : Lens) (all : List BlockRecord) (s : ℕ × ℕ) (n : ℕ) (bs : List CodeBlock) → good_many (code_block false) after_block s n (map record_of_block bs) ≡ true → AreClean lens all bs → good_many (code_block true) after_block s n (map record_of_block bs) ≡ true
+blocks_right : (lens : Lens) (all : List BlockRecord) (s : ℕ × ℕ) (n : ℕ) (bs : List CodeBlock) → good_many (code_block_layout false) after_block s n (map record_of_block bs) ≡ true → AreClean lens all bs → good_many (code_block_layout true) after_block s n (map record_of_block bs) ≡ true
 blocks_right lens all s zero [] h clean = refl
 blocks_right lens all s zero (b ∷ bs) h clean = absurd cc
 blocks_right lens all s (suc n) [] h clean = absurd cc
 blocks_right lens all s (suc n) (b ∷ bs) h clean =
     let r = record_of_block b in
-    let a = around lens all r in
-    let g = and_parts ((code_block false s).good r) (good_many (code_block false) after_block (after_block s r) n (map record_of_block bs)) h in
+    let a = around_block lens all r in
+    let g = and_parts ((code_block_layout false s).good r) (good_many (code_block_layout false) after_block (after_block s r) n (map record_of_block bs)) h in
     and_from _ _ (parts_right s a r (good_block_of false s r g.0) (clean_parts a r clean.0)) (blocks_right lens all (after_block s r) n bs g.1 clean.1)
 
 codes_right : (lens : Lens) (all : List BlockRecord) (n : ℕ) (bs : List CodeBlock) → (code_blocks false n).good (map record_of_block bs) ≡ true → AreClean lens all bs → (code_blocks true n).good (map record_of_block bs) ≡ true
@@ -225,23 +225,23 @@ unfolding body_rows
 right_by p lens all q clean =
     let x = parts_of_records (records_of p) in
     let c = x.counts in
-    and_from (counts.good c) _ q.counts_good
+    and_from (counts_layout.good c) _ q.counts_good
     (and_from ((code_blocks true c.code_blocks).good x.code_blocks) _ (codes_right lens all c.code_blocks p.code_blocks q.codes_good clean)
-    (and_from ((data_blocks c.data_blocks).good x.data_blocks) _ q.datas_good q.names_good))
+    (and_from ((data_blocks_layout c.data_blocks).good x.data_blocks) _ q.datas_good q.names_good))
 
 right : (p : Program) → IsProgram p → IsClean p → IsRight p
 unfolding body records
-right p h clean = right_by p (lens_judged p) (map record_of_block p.code_blocks) (good_records false (records_of p) h.good) clean
+right p h clean = right_by p (lens_checked p) (map record_of_block p.code_blocks) (good_records false (records_of p) h.good) clean
 
 ops_verified : (lens : List (ℕ × ℕ)) (all : List BlockRecord) (bs : List CodeBlock) → AreClean (Some lens) all bs → AreVerified lens all (map record_of_block bs)
 ops_verified lens all [] h = tt
-ops_verified lens all (b ∷ bs) h = ((clean_parts (around (Some lens) all (record_of_block b)) (record_of_block b) h.0).ops, ops_verified lens all bs h.1)
+ops_verified lens all (b ∷ bs) h = ((clean_parts (around_block (Some lens) all (record_of_block b)) (record_of_block b) h.0).ops, ops_verified lens all bs h.1)
 
-pub lens_are : (p : Program) → are_whole (map record_of_block p.code_blocks) ≡ true → lens_judged p ≡ Some (lens_of p.data_blocks)
+pub lens_are : (p : Program) → are_whole (map record_of_block p.code_blocks) ≡ true → lens_checked p ≡ Some (lens_of p.data_blocks)
 lens_are p e = ap (λ (z : Bool). lens_where z p.data_blocks) e
 
 pub clean_verifies : (p : Program) → IsProgram p → IsClean p → Verifies p
 clean_verifies p h clean =
     let all = map record_of_block p.code_blocks in
-    let lens = lens_are p (clean_whole (lens_judged p) all p.code_blocks clean) in
+    let lens = lens_are p (clean_whole (lens_checked p) all p.code_blocks clean) in
     record { right = right p h clean; blocks = ops_verified (lens_of p.data_blocks) all p.code_blocks (subst (λ (z : Lens). AreClean z all p.code_blocks) lens clean) }

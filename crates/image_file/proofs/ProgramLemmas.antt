@@ -9,26 +9,26 @@ use Rattle.plc_base.specs.Kinds.{kind_number, kind_order}
 use Rattle.plc_base.specs.declared.blocks.BlockId.{BlockId}
 use Rattle.plc_base.specs.declared.blocks.BlockKind.{BlockKind}
 use Rattle.plc_base.specs.declared.blocks.BlockKind.TheVariants as kinds
-use Rattle.flat_code.specs.Faults.{fault_of, unless, lies_within, is_ob_number, has_number}
+use Rattle.flat_code.specs.Faults.{field_fault, unless, is_in_range, is_existing_ob, has_number}
 use Rattle.flat_code.specs.Layout.{is_fine, chain, good_many}
-use Rattle.flat_code.specs.Codes.{size, code_bytes, code_of, are_ops, ends, overlong, first_of, is_nowhere, last_place, stop_at, only}
+use Rattle.flat_code.specs.Codes.{size, code_bytes, code_layout, are_ops, ends_by_be, overlong, first_found, is_nowhere, last_place, stop_at, only}
 use Rattle.flat_code.specs.declared.image_fields.Field.TheVariants.{StatementCount}
 use Rattle.flat_code.specs.Ops.{OpData, is_op}
 use Rattle.flat_code.specs.Programs.{CodeBlock, Program}
 use Rattle.flat_code.specs.declared.programs.Param.{Param}
-use Rattle.flat_code.specs.Image.{plain_u16, zero_u16, parameter_count, block_number, local_bytes, Head, head, head_of_block, Counts, row_of_counts, count_rows, counts, counts_of, data_count, code_block, code_blocks, after_block, records_of, body, record_of_block, IsProgram, IsRight, end_marks, lines_of, line_field, line_after, record_of_param}
+use Rattle.flat_code.specs.Image.{plain_u16, zero_u16, parameter_count_layout, block_number_layout, local_length_layout, Head, head_layout, head_of_block, Counts, row_of_counts, count_rows, counts_layout, counts_of, data_count, code_block_layout, code_blocks, after_block, records_of, body, record_of_block, IsProgram, IsRight, end_marks, lines_layout, line_field, line_after, record_of_param}
 use Rattle.flat_code.specs.declared.image_fields.OpenBracket.{OpenBracket}
-use Rattle.flat_code.specs.Placed.{Placed, placed, places, opened, zones_behind, before_next}
+use Rattle.flat_code.specs.Placed.{Placed, ops_placed, code_places, brackets_after, zones_behind_op, before_next}
 use Rattle.flat_code.proofs.PartLemmas.{all_of_blocks, chain_parts, dword_fits, good_head, unless_fine, word_fits}
-use Rattle.image_file.specs.Verified.{place_at, Begins, BlockIsRight}
-use Rattle.image_file.specs.Readers.{same_id, block_of}
+use Rattle.image_file.specs.Verified.{placed_at, BlockBegins, BlockIsRight}
+use Rattle.image_file.specs.Readers.{is_same_id, block_by_id}
 use Rattle.image_file.specs.Tables.{AreSmall, slot_of, HaveSlots}
 use Rattle.image_file.proofs.ImageLemmas.{good_records, good_block_of, head_kind}
 
-ob_small : (n : ℕ) → is_ob_number n ≡ true → n < 2048
+ob_small : (n : ℕ) → is_existing_ob n ≡ true → n < 2048
 ob_small n h = grind (arith, nat_tests, h)
 
-number_small : (b : Bool) (n : ℕ) → cond b (is_ob_number n) (leb n 2047) ≡ true → n < 2048
+number_small : (b : Bool) (n : ℕ) → cond b (is_existing_ob n) (leb n 2047) ≡ true → n < 2048
 number_small true n h = ob_small n h
 number_small false n h = let le = leb-true n 2047 h in omega (arith, le)
 
@@ -38,8 +38,8 @@ record HasSmall (h : Head) : Type 0 where
   statements : h.statement_count < 65536
   code : h.code_length < 4294967296
 
-head_small : (before : ℕ × ℕ) (h : Head) → (head before).good h ≡ true → HasSmall h
-unfolding block_number fault_of
+head_small : (before : ℕ × ℕ) (h : Head) → (head_layout before).good h ≡ true → HasSmall h
+unfolding block_number_layout field_fault
 head_small before h good =
     let parts = good_head before h good in
     let n = h.number in
@@ -52,7 +52,7 @@ head_small before h good =
       code = dword_fits h.code_length parts.size_good;
     }
 
-kind_small : (k : BlockKind) → lies_within 1 3 (kind_number k) ≡ true → ltb (kind_order k) 3 ≡ true
+kind_small : (k : BlockKind) → is_in_range 1 3 (kind_number k) ≡ true → ltb (kind_order k) 3 ≡ true
 kind_small kinds.Ob h = refl
 kind_small kinds.Fc h = refl
 kind_small kinds.Fb h = refl
@@ -68,32 +68,32 @@ pub record HasRoom (bs : List CodeBlock) : Type 0 where
   pub small : AreSmall bs
   pub slots : HaveSlots bs
 
-blocks_room : (judged : Bool) (s : ℕ × ℕ) (n : ℕ) (bs : List CodeBlock) → good_many (code_block judged) after_block s n (map record_of_block bs) ≡ true → HasRoom bs
-blocks_room judged s zero [] h = record { small = tt; slots = tt }
-blocks_room judged s zero (b ∷ bs) h = absurd cc
-blocks_room judged s (suc n) [] h = absurd cc
-blocks_room judged s (suc n) (b ∷ bs) h =
+blocks_room : (with_code_faults : Bool) (s : ℕ × ℕ) (n : ℕ) (bs : List CodeBlock) → good_many (code_block_layout with_code_faults) after_block s n (map record_of_block bs) ≡ true → HasRoom bs
+blocks_room with_code_faults s zero [] h = record { small = tt; slots = tt }
+blocks_room with_code_faults s zero (b ∷ bs) h = absurd cc
+blocks_room with_code_faults s (suc n) [] h = absurd cc
+blocks_room with_code_faults s (suc n) (b ∷ bs) h =
     let r = record_of_block b in
-    let g = and_parts ((code_block judged s).good r) (good_many (code_block judged) after_block (after_block s r) n (map record_of_block bs)) h in
-    let p = good_block_of judged s r g.0 in
+    let g = and_parts ((code_block_layout with_code_faults s).good r) (good_many (code_block_layout with_code_faults) after_block (after_block s r) n (map record_of_block bs)) h in
+    let p = good_block_of with_code_faults s r g.0 in
     let small = head_small s (head_of_block r) p.head_good in
     let kind = kind_small b.id.kind (head_kind s (head_of_block r) p.head_good) in
-    let more = blocks_room judged (after_block s r) n bs g.1 in
+    let more = blocks_room with_code_faults (after_block s r) n bs g.1 in
     record {
       small = (record { code = omega (arith, small.code); lines = small.statements }, more.small);
       slots = (has_slot b kind small.number, more.slots);
     }
 
-codes_room : (judged : Bool) (n : ℕ) (bs : List CodeBlock) → (code_blocks judged n).good (map record_of_block bs) ≡ true → HasRoom bs
+codes_room : (with_code_faults : Bool) (n : ℕ) (bs : List CodeBlock) → (code_blocks with_code_faults n).good (map record_of_block bs) ≡ true → HasRoom bs
 unfolding code_blocks
-codes_room judged n bs good = blocks_room judged (0, 0) n bs good
+codes_room with_code_faults n bs good = blocks_room with_code_faults (0, 0) n bs good
 
 pub program_room : (p : Program) → IsProgram p → HasRoom p.code_blocks
 unfolding body
 program_room p h = let q = good_records false (records_of p) h.good in codes_room false (length (map record_of_block p.code_blocks)) p.code_blocks q.codes_good
 
-count_small : (c : Counts) → counts.good c ≡ true → c.code_blocks < 65536
-unfolding counts count_rows
+count_small : (c : Counts) → counts_layout.good c ≡ true → c.code_blocks < 65536
+unfolding counts_layout count_rows
 count_small c good = word_fits c.code_blocks (chain_parts plain_u16 (λ codes. chain data_count (λ datas. chain plain_u16 (λ names. zero_u16))) (row_of_counts c) good).0
 
 pub program_count : (p : Program) → IsProgram p → length p.code_blocks ≤ 0xFFFF
@@ -106,7 +106,7 @@ program_count p h =
 -- ---- code and lines of a program without fault
 
 pub record IsRightCode (b : CodeBlock) : Type 0 where
-  pub ended : ends b.code ≡ true
+  pub ended : ends_by_be b.code ≡ true
   pub few : overlong 0 0 b.code ≡ None
   pub marks : end_marks b.code ≡ length b.lines
   pub ops : are_ops b.code ≡ true
@@ -116,17 +116,17 @@ pub record IsRightCode (b : CodeBlock) : Type 0 where
 abbrev pub AreRight : List CodeBlock → Type 0
 AreRight bs = AllByRecursion IsRightCode bs
 
-stops_nowhere : (long : Option ℕ) (last : ℕ) (ended : Bool) → is_nowhere (first_of long (cond ended None (Some last))) ≡ true → (long ≡ None) × (ended ≡ true)
+stops_nowhere : (long : Option ℕ) (last : ℕ) (ended : Bool) → is_nowhere (first_found long (cond ended None (Some last))) ≡ true → (long ≡ None) × (ended ≡ true)
 stops_nowhere None last true h = (refl, refl)
 stops_nowhere None last false h = absurd cc
 stops_nowhere (Some at) last ended h = absurd cc
 
-code_right : (n : ℕ) (ops : List OpData) → (code_of true n).good ops ≡ true → (overlong 0 0 ops ≡ None) × (ends ops ≡ true) × (are_ops ops ≡ true)
-unfolding code_of
+code_right : (n : ℕ) (ops : List OpData) → (code_layout true n).good ops ≡ true → (overlong 0 0 ops ≡ None) × (ends_by_be ops ≡ true) × (are_ops ops ≡ true)
+unfolding code_layout
 code_right n ops h =
     let a = and_parts (are_ops ops && is_nowhere (stop_at true ops [])) (eqb (length (code_bytes ops)) n) h in
     let b = and_parts (are_ops ops) (is_nowhere (stop_at true ops [])) a.0 in
-    let stops = stops_nowhere (overlong 0 0 ops) (last_place 0 ops) (ends ops) b.1 in
+    let stops = stops_nowhere (overlong 0 0 ops) (last_place 0 ops) (ends_by_be ops) b.1 in
     (stops.0, stops.1, b.0)
 
 -- no parameters, and room for the start information
@@ -136,16 +136,16 @@ none_if_ob kind count is h = eqb-true count 0 (rw is at h)
 room_if_ob : (kind bytes : ℕ) → kind ≡ 1 → (not (eqb kind 1) || leb 20 bytes) ≡ true → 20 ≤ bytes
 room_if_ob kind bytes is h = leb-true 20 bytes (rw is at h)
 
-locals_right : (before : ℕ × ℕ) (h : Head) → (head before).good h ≡ true → h.local_bytes ≤ 1024
-unfolding local_bytes fault_of
+locals_right : (before : ℕ × ℕ) (h : Head) → (head_layout before).good h ≡ true → h.local_bytes ≤ 1024
+unfolding local_length_layout field_fault
 locals_right before h good =
     let bytes = h.local_bytes in
     let has_room = not (eqb h.kind 1) || leb 20 bytes in
     let long = and_parts (ltb bytes 65536) (is_fine (unless (leb bytes 1024 && has_room) 4)) (good_head before h good).locals_good in
     leb-true bytes 1024 (and_parts (leb bytes 1024) has_room (unless_fine (leb bytes 1024 && has_room) 4 long.1)).0
 
-ob_right : (before : ℕ × ℕ) (h : Head) → (head before).good h ≡ true → h.kind ≡ kind_number kinds.Ob → (h.parameter_count ≡ 0) × (20 ≤ h.local_bytes)
-unfolding parameter_count local_bytes fault_of
+ob_right : (before : ℕ × ℕ) (h : Head) → (head_layout before).good h ≡ true → h.kind ≡ kind_number kinds.Ob → (h.parameter_count ≡ 0) × (20 ≤ h.local_bytes)
+unfolding parameter_count_layout local_length_layout field_fault
 ob_right before h good is =
     let parts = good_head before h good in
     let count = h.parameter_count in
@@ -162,18 +162,18 @@ none_mapped : (ps : List Param) → length (map record_of_param ps) ≡ 0 → ps
 none_mapped [] e = refl
 none_mapped (p ∷ ps) e = absurd (omega (arith, e))
 
-ob_block : (s : ℕ × ℕ) (b : CodeBlock) → (head s).good (head_of_block (record_of_block b)) ≡ true → b.id.kind ≡ kinds.Ob → (b.params ≡ []) × (20 ≤ b.local_len)
+ob_block : (s : ℕ × ℕ) (b : CodeBlock) → (head_layout s).good (head_of_block (record_of_block b)) ≡ true → b.id.kind ≡ kinds.Ob → (b.params ≡ []) × (20 ≤ b.local_len)
 ob_block s b good is =
     let right = ob_right s (head_of_block (record_of_block b)) good (ap kind_number is) in
     (none_mapped b.params right.0, right.1)
 
-lines_right : (start : ℕ) (h : Head) (ops : List OpData) (lines : List ℕ) → (lines_of true start h ops).good lines ≡ true → end_marks ops ≡ h.statement_count
-unfolding lines_of fault_of
+lines_right : (start : ℕ) (h : Head) (ops : List OpData) (lines : List ℕ) → (lines_layout true start h ops).good lines ≡ true → end_marks ops ≡ h.statement_count
+unfolding lines_layout field_fault
 lines_right start h ops lines good =
-    let c = and_parts (is_fine (only true (fault_of (StatementCount (end_marks ops) h.statement_count)))) (good_many (line_field true) line_after 0 h.statement_count lines) good in
+    let c = and_parts (is_fine (only true (field_fault (StatementCount (end_marks ops) h.statement_count)))) (good_many (line_field true) line_after 0 h.statement_count lines) good in
     eqb-true (end_marks ops) h.statement_count (unless_fine (eqb (end_marks ops) h.statement_count) 9 c.0)
 
-right_code : (s : ℕ × ℕ) (b : CodeBlock) → (code_block true s).good (record_of_block b) ≡ true → IsRightCode b
+right_code : (s : ℕ × ℕ) (b : CodeBlock) → (code_block_layout true s).good (record_of_block b) ≡ true → IsRightCode b
 right_code s b good =
     let r = record_of_block b in
     let p = good_block_of true s r good in
@@ -185,37 +185,37 @@ pub program_right : (p : Program) → IsRight p → AreRight p.code_blocks
 unfolding body
 program_right p h = let q = good_records true (records_of p) h in all_of_blocks true IsRightCode right_code (length (map record_of_block p.code_blocks)) p.code_blocks q.codes_good
 
-pub right_at : (bs : List CodeBlock) (b : CodeBlock) (id : BlockId) → AreRight bs → block_of id bs ≡ Some b → IsRightCode b
+pub right_at : (bs : List CodeBlock) (b : CodeBlock) (id : BlockId) → AreRight bs → block_by_id id bs ≡ Some b → IsRightCode b
 right_at [] b id h found = absurd cc
-right_at (c ∷ bs) b id h found = by (same_id c.id id) found (λ e. right_at bs b id h.1 e)
+right_at (c ∷ bs) b id h found = by (is_same_id c.id id) found (λ e. right_at bs b id h.1 e)
   where
-    by : (t : Bool) → cond t (Some c) (block_of id bs) ≡ Some b → (block_of id bs ≡ Some b → IsRightCode b) → IsRightCode b
+    by : (t : Bool) → cond t (Some c) (block_by_id id bs) ≡ Some b → (block_by_id id bs ≡ Some b → IsRightCode b) → IsRightCode b
     by true e more = subst IsRightCode (same_Some c b e) h.0
     by false e more = more e
 
 -- ---- the ops and the beginning of a block
 
-pub op_right : (from : ℕ) (brackets : List OpenBracket) (zones : List ℕ) (before ops : List OpData) (at : ℕ) (q : Placed) → are_ops ops ≡ true → place_at at (placed from brackets zones before ops) ≡ Some q → is_op q.op.code q.op.operand ≡ true
+pub op_right : (from : ℕ) (brackets : List OpenBracket) (zones : List ℕ) (before ops : List OpData) (at : ℕ) (q : Placed) → are_ops ops ≡ true → placed_at at (ops_placed from brackets zones before ops) ≡ Some q → is_op q.op.code q.op.operand ≡ true
 op_right from brackets zones before [] at q right found = absurd cc
 op_right from brackets zones before (o ∷ ops) at q right found =
     let parts = and_parts (is_op o.code o.operand) (are_ops ops) right in
-    by (eqb from at) found parts.0 (λ e. op_right (from + size o) (opened from o.code brackets) (zones_behind from o.code zones) (before_next o before) ops at q parts.1 e)
+    by (eqb from at) found parts.0 (λ e. op_right (from + size o) (brackets_after from o.code brackets) (zones_behind_op from o.code zones) (before_next o before) ops at q parts.1 e)
   where
     here : Placed
     here = record { at = from; brackets = brackets; zones = zones; before = before; op = o; rest = ops }
 
     behind : Option Placed
-    behind = place_at at (placed (from + size o) (opened from o.code brackets) (zones_behind from o.code zones) (before_next o before) ops)
+    behind = placed_at at (ops_placed (from + size o) (brackets_after from o.code brackets) (zones_behind_op from o.code zones) (before_next o before) ops)
 
     by : (t : Bool) → cond t (Some here) behind ≡ Some q → is_op o.code o.operand ≡ true → (behind ≡ Some q → is_op q.op.code q.op.operand ≡ true) → is_op q.op.code q.op.operand ≡ true
     by true e is more = subst (λ (z : Placed). is_op z.op.code z.op.operand ≡ true) (same_Some here q e) is
     by false e is more = more e
 
-pub code_begins : (b : CodeBlock) (ops : List OpData) → b.code ≡ ops → ends ops ≡ true → Begins b
+pub code_begins : (b : CodeBlock) (ops : List OpData) → b.code ≡ ops → ends_by_be ops ≡ true → BlockBegins b
 code_begins b [] is ended = absurd cc
 code_begins b (o ∷ ops) is ended =
     let first : Placed = record { at = 0; brackets = []; zones = []; before = []; op = o; rest = ops } in
-    let there : place_at 0 (places b.code) ≡ Some first = rw is refl in
+    let there : placed_at 0 (code_places b.code) ≡ Some first = rw is refl in
     record { first = first; place = there; offset = refl; statement = refl; closed = refl; no_zones = refl }
 
 pub block_right : (b : CodeBlock) → IsRightCode b → BlockIsRight b

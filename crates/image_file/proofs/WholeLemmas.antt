@@ -10,13 +10,13 @@ use Rattle.flat_code.specs.Programs.{DataBlock, Program}
 use Rattle.flat_code.specs.declared.stamps.Stamp.{Stamp}
 use Rattle.flat_code.specs.Records.{BlockRecord, NameRecord, Records}
 use Rattle.flat_code.specs.declared.image_fields.ParameterRecord.{ParameterRecord}
-use Rattle.flat_code.specs.Layout.{Note, Faulty, Whole, AllBlocks, Cursor, Read, Layout, ended, given, go_on, bind, noted, field_of, field, chain, checked, located, read_many, many, seen_as, remembered, faults_in}
-use Rattle.flat_code.specs.Codes.{ops_from, stop_at, read_ops, read_code, code_of}
-use Rattle.flat_code.specs.Image.{plain, plain_u16, plain_u32, zero_u8, zero_u16, width_field, bytes, section_field, parameter_byte, parameter_bit, parameter_rows, parameter_fields, parameter_row, parameter_of_fields, fields_of_parameter, parameter, kind_field, parameter_count, block_number, local_bytes, instance_bytes, Head, head_of_row, row_of_head, head_rows, head, same_state, parameters, line_after, line_field, lines_of, code_and_lines, BlockRow, parts_of_block_row, row_of_block_parts, block_rows, block_of_parts, parts_of_block, plain_block, whole_at, code_block_at, code_block, after_block, data_number, instance_field, data_len, contents, data_rows, data_fields, data_row, data_of_fields, fields_of_data, data_block, after_data, name_len, name_bytes, name_area, name_bit, name_rows, name_fields, name_row, name_of_fields, fields_of_name, name_record, after_name, data_count, Counts, counts_of_row, row_of_counts, count_rows, counts, code_blocks, plain_data_blocks, data_blocks, names, BodyRow, parts_of_body_row, row_of_body_parts, body_rows, records_of_parts, parts_of_records, records, record_of_block, program_of, records_of, body, magic_field, version_field, profile_field, Front, front_of_row, row_of_front, front_rows, front, front_size, stamp_in, at_end, cut, read_by, read_image}
+use Rattle.flat_code.specs.Layout.{Note, Faulty, Whole, AllBlocks, Cursor, ReadResult, Layout, reading_ended, reading_given, go_on, bind, fault_note, field_of, field, chain, checked_layout, located_layout, read_many, many, seen_as, noted_layout, faults_in}
+use Rattle.flat_code.specs.Codes.{ops_from, stop_at, read_ops, read_code, code_layout}
+use Rattle.flat_code.specs.Image.{no_fault, plain_u16, plain_u32, zero_u8, zero_u16, width_field, bytes, section_field, parameter_byte, parameter_bit, parameter_rows, parameter_fields, parameter_row, parameter_of_fields, fields_of_parameter, parameter_layout, kind_field, parameter_count_layout, block_number_layout, local_length_layout, instance_bytes, Head, head_of_row, row_of_head, head_rows, head_layout, same_state, parameters, line_after, line_field, lines_layout, code_and_lines, BlockRow, parts_of_block_row, row_of_block_parts, block_rows, block_of_parts, parts_of_block, plain_block, whole_note, code_block_at, code_block_layout, after_block, data_number_layout, instance_field, data_length_layout, contents, data_rows, data_fields, data_row, data_of_fields, fields_of_data, data_block_layout, after_data, name_len, name_bytes, name_area, name_bit, name_rows, name_fields, name_row, name_of_fields, fields_of_name, name_record, after_name, data_count, Counts, counts_of_row, row_of_counts, count_rows, counts_layout, code_blocks, plain_data_blocks, data_blocks_layout, names, BodyRow, parts_of_body_row, row_of_body_parts, body_rows, records_of_parts, parts_of_records, records, record_of_block, program_of_records, records_of, body, magic_field, version_field, profile_field, Front, front_of_row, row_of_front, front_rows, front, front_size, stamp_in, end_layout, cut, read_by, read_image}
 use Rattle.flat_code.specs.declared.image_fields.OpenBracket.{OpenBracket}
-use Rattle.flat_code.specs.Placed.{Placed, Spot, spots, places, open_behind, zones_left}
+use Rattle.flat_code.specs.Placed.{Placed, StatementSpot, spots, code_places, open_behind, zones_left}
 use Rattle.flat_code.specs.Blocks.{Around, operand_fault, call_fault, mark_fault, bracket_fault, zone_fault, at_offset, op_faults, faults_over, open_faults, open_zone_faults, block_faults}
-use Rattle.flat_code.specs.Loading.{lens_of, later, around, wholes, all_blocks, blocks_of, judged_blocks, faults_of, Gives, AreVerified, IsLoadable}
+use Rattle.flat_code.specs.Loading.{lens_of, later, around_block, wholes, all_blocks, blocks_of, op_faults_of_blocks, faults_of, Gives, AreVerified, IsLoadable}
 use Rattle.flat_code.proofs.CodingLemmas.{IsBytes}
 use Rattle.image_file.proofs.LayoutLemmas.{at_place, no_faults}
 use Rattle.image_file.proofs.ImageLemmas.{image_again, image_takes, records_back, records_laid, front_laid, bytes_taken, Stamped}
@@ -72,7 +72,7 @@ nothing-join : (a : Told) → join nothing a ≡ a
 unfolding join nothing
 nothing-join a = pairs refl (later-none a.1)
 
-none_noted : (at : ℕ) (o : Option ℕ) → told_in (noted at o) ≡ nothing
+none_noted : (at : ℕ) (o : Option ℕ) → told_in (fault_note at o) ≡ nothing
 unfolding told_in nothing
 none_noted at None = refl
 none_noted at (Some code) = refl
@@ -84,7 +84,7 @@ none_at_all = refl
 one : BlockRecord → Told
 one b = (b ∷ [], None)
 
-one_block : (start : ℕ) (b : BlockRecord) → told_in (whole_at start b ∷ []) ≡ one b
+one_block : (start : ℕ) (b : BlockRecord) → told_in (whole_note start b ∷ []) ≡ one b
 unfolding told_in one
 one_block start b = refl
 
@@ -99,7 +99,7 @@ all_are_told ds = refl
 record Notes (A : Type 0) (l : Layout A) (view : A → Told) : Type 0 where
   says : (cur : Cursor) (x : A) (end : Cursor) → (l.read cur).found ≡ Some (x, end) → told_in (l.read cur).notes ≡ view x
 
-record Steps (A B : Type 0) (r : Read A) (f : A → Cursor → Read B) (y : B) (end : Cursor) : Type 0 where
+record Steps (A B : Type 0) (r : ReadResult A) (f : A → Cursor → ReadResult B) (y : B) (end : Cursor) : Type 0 where
   first : A
   next : Cursor
   one : r.found ≡ Some (first, next)
@@ -107,44 +107,44 @@ record Steps (A B : Type 0) (r : Read A) (f : A → Cursor → Read B) (y : B) (
   are : (bind r f).notes ≡ r.notes ++ (f first next).notes
   notes : told_in (bind r f).notes ≡ join (told_in r.notes) (told_in (f first next).notes)
 
-go_steps : {A B : Type 0} (notes : List Note) (o : Option (A × Cursor)) (f : A → Cursor → Read B) (y : B) (end : Cursor) → (go_on notes o f).found ≡ Some (y, end) → Steps A B (record { notes = notes; found = o }) f y end
+go_steps : {A B : Type 0} (notes : List Note) (o : Option (A × Cursor)) (f : A → Cursor → ReadResult B) (y : B) (end : Cursor) → (go_on notes o f).found ≡ Some (y, end) → Steps A B (record { notes = notes; found = o }) f y end
 go_steps {A = A} {B = B} notes None f y end e = absurd cc
 go_steps {A = A} {B = B} notes (Some x) f y end e = record { first = x.0; next = x.1; one = refl; two = e; are = refl; notes = told-append notes (f x.0 x.1).notes }
 
-steps : {A B : Type 0} (r : Read A) (f : A → Cursor → Read B) (y : B) (end : Cursor) → (bind r f).found ≡ Some (y, end) → Steps A B r f y end
+steps : {A B : Type 0} (r : ReadResult A) (f : A → Cursor → ReadResult B) (y : B) (end : Cursor) → (bind r f).found ≡ Some (y, end) → Steps A B r f y end
 steps r f y end e = go_steps r.notes r.found f y end e
 
-field_of_notes : {A : Type 0} (judge : A → Option ℕ) (cur : Cursor) (o : Option (A × List ℕ)) (x : A) (end : Cursor) → (field_of judge cur o).found ≡ Some (x, end) → told_in (field_of judge cur o).notes ≡ nothing
-field_of_notes {A = A} judge cur None x end h = absurd cc
-field_of_notes {A = A} judge cur (Some r) x end h = none_noted cur.at (judge r.0)
+field_of_notes : {A : Type 0} (fault_in : A → Option ℕ) (cur : Cursor) (o : Option (A × List ℕ)) (x : A) (end : Cursor) → (field_of fault_in cur o).found ≡ Some (x, end) → told_in (field_of fault_in cur o).notes ≡ nothing
+field_of_notes {A = A} fault_in cur None x end h = absurd cc
+field_of_notes {A = A} fault_in cur (Some r) x end h = none_noted cur.at (fault_in r.0)
 
-field_notes : {A : Type 0} (c : Coding A) (judge : A → Option ℕ) → Notes A (field c judge) (λ x. nothing)
-field_notes {A = A} c judge = record { says = λ cur x end e. field_of_notes judge cur (c.read cur.rest) x end e }
+field_notes : {A : Type 0} (c : Coding A) (fault_in : A → Option ℕ) → Notes A (field c fault_in) (λ x. nothing)
+field_notes {A = A} c fault_in = record { says = λ cur x end e. field_of_notes fault_in cur (c.read cur.rest) x end e }
 
 chain_notes : {A B : Type 0} (l : Layout A) (m : A → Layout B) (v : A → Told) (w : A → B → Told) → Notes A l v → ((x : A) → Notes B (m x) (w x)) → Notes (A × B) (chain l m) (λ x. join (v x.0) (w x.0 x.1))
 chain_notes {A = A} {B = B} l m v w p q = record {
   says = λ cur x end e.
-      let a = steps (l.read cur) (λ x next. bind ((m x).read next) (λ y end. given (x, y) end)) x end e in
-      let b = steps ((m a.first).read a.next) (λ y end. given (a.first, y) end) x end a.two in
+      let a = steps (l.read cur) (λ x next. bind ((m x).read next) (λ y end. reading_given (x, y) end)) x end e in
+      let b = steps ((m a.first).read a.next) (λ y end. reading_given (a.first, y) end) x end a.two in
       let made = same_Some ((a.first, b.first), b.next) (x, end) b.two in
       let x_is = ap (λ (z : (A × B) × Cursor). z.0) made in
       let inner = b.notes ∙ ap (λ (z : Told). join (told_in ((m a.first).read a.next).notes) z) none_at_all ∙ join-nothing (told_in ((m a.first).read a.next).notes) ∙ (q a.first).says a.next b.first b.next b.one in
-      a.notes ∙ ap (λ (z : Told). join z (told_in (bind {B = A × B} ((m a.first).read a.next) (λ y end. given (a.first, y) end)).notes)) (p.says cur a.first a.next a.one)
+      a.notes ∙ ap (λ (z : Told). join z (told_in (bind {B = A × B} ((m a.first).read a.next) (λ y end. reading_given (a.first, y) end)).notes)) (p.says cur a.first a.next a.one)
       ∙ ap (λ (z : Told). join (v a.first) z) inner ∙ ap (λ (z : A × B). join (v z.0) (w z.0 z.1)) x_is;
 }
 
-checked_notes : {A : Type 0} (at : ℕ) (fault : Option ℕ) (l : Layout A) (v : A → Told) → Notes A l v → Notes A (checked at fault l) v
-checked_notes {A = A} at fault l v p = record { says = λ cur x end e. told-append (noted at fault) (l.read cur).notes ∙ ap (λ (z : Told). join z (told_in (l.read cur).notes)) (none_noted at fault) ∙ nothing-join (told_in (l.read cur).notes) ∙ p.says cur x end e }
+checked_notes : {A : Type 0} (at : ℕ) (fault : Option ℕ) (l : Layout A) (v : A → Told) → Notes A l v → Notes A (checked_layout at fault l) v
+checked_notes {A = A} at fault l v p = record { says = λ cur x end e. told-append (fault_note at fault) (l.read cur).notes ∙ ap (λ (z : Told). join z (told_in (l.read cur).notes)) (none_noted at fault) ∙ nothing-join (told_in (l.read cur).notes) ∙ p.says cur x end e }
 
 seen_notes : {A B : Type 0} (to : A → B) (from : B → A) (l : Layout A) (v : A → Told) (w : B → Told) → ((x : A) → v x ≡ w (to x)) → Notes A l v → Notes B (seen_as to from l) w
 seen_notes {A = A} {B = B} to from l v w same p = record {
   says = λ cur y end e.
-      let a = steps (l.read cur) (λ x end. given (to x) end) y end e in
+      let a = steps (l.read cur) (λ x end. reading_given (to x) end) y end e in
       let made = same_Some (to a.first, a.next) (y, end) a.two in
       a.notes ∙ ap (λ (z : Told). join (told_in (l.read cur).notes) z) none_at_all ∙ join-nothing (told_in (l.read cur).notes) ∙ p.says cur a.first a.next a.one ∙ same a.first ∙ ap w (ap (λ (z : B × Cursor). z.0) made);
 }
 
-remembered_notes : {A : Type 0} (note : A → Note) (l : Layout A) (w : A → Told) → ((x : A) → told_in (note x ∷ []) ≡ w x) → Notes A l (λ x. nothing) → Notes A (remembered note l) w
+remembered_notes : {A : Type 0} (note : A → Note) (l : Layout A) (w : A → Told) → ((x : A) → told_in (note x ∷ []) ≡ w x) → Notes A l (λ x. nothing) → Notes A (noted_layout note l) w
 remembered_notes {A = A} note l w tells p = record {
   says = λ cur b end e.
       let a = steps (l.read cur) (λ x end. record { notes = note x ∷ []; found = Some (x, end) }) b end e in
@@ -152,7 +152,7 @@ remembered_notes {A = A} note l w tells p = record {
       a.notes ∙ ap (λ (z : Told). join z (told_in (note a.first ∷ []))) (p.says cur a.first a.next a.one) ∙ nothing-join (told_in (note a.first ∷ [])) ∙ tells a.first ∙ ap (λ (z : A × Cursor). w z.0) made;
 }
 
-located_notes : {A : Type 0} (l : ℕ → Layout A) (v : A → Told) → ((at : ℕ) → Notes A (l at) v) → Notes A (located l) v
+located_notes : {A : Type 0} (l : ℕ → Layout A) (v : A → Told) → ((at : ℕ) → Notes A (l at) v) → Notes A (located_layout l) v
 located_notes {A = A} l v p = record { says = λ cur x end e. (p cur.at).says cur x end e }
 
 all_of : {A : Type 0} → (A → Told) → List A → Told
@@ -163,11 +163,11 @@ many_says : {S A : Type 0} (l : S → Layout A) (next : S → A → S) (v : A �
 unfolding all_of
 many_says {S = S} {A = A} l next v p s zero cur xs end e = let made = same_Some ([], cur) (xs, end) e in none_at_all ∙ ap (λ (z : List A × Cursor). all_of v z.0) made
 many_says {S = S} {A = A} l next v p s (suc n) cur xs end e =
-    let a = steps ((l s).read cur) (λ x after. bind (read_many l next (next s x) n after) (λ xs end. given (x ∷ xs) end)) xs end e in
-    let b = steps (read_many l next (next s a.first) n a.next) (λ xs end. given (a.first ∷ xs) end) xs end a.two in
+    let a = steps ((l s).read cur) (λ x after. bind (read_many l next (next s x) n after) (λ xs end. reading_given (x ∷ xs) end)) xs end e in
+    let b = steps (read_many l next (next s a.first) n a.next) (λ xs end. reading_given (a.first ∷ xs) end) xs end a.two in
     let made = same_Some (a.first ∷ b.first, b.next) (xs, end) b.two in
     let inner = b.notes ∙ ap (λ (z : Told). join (told_in (read_many l next (next s a.first) n a.next).notes) z) none_at_all ∙ join-nothing (told_in (read_many l next (next s a.first) n a.next).notes) ∙ many_says l next v p (next s a.first) n a.next b.first b.next b.one in
-    a.notes ∙ ap (λ (z : Told). join z (told_in (bind (read_many l next (next s a.first) n a.next) (λ xs end. given (a.first ∷ xs) end)).notes)) ((p s).says cur a.first a.next a.one)
+    a.notes ∙ ap (λ (z : Told). join z (told_in (bind (read_many l next (next s a.first) n a.next) (λ xs end. reading_given (a.first ∷ xs) end)).notes)) ((p s).says cur a.first a.next a.one)
     ∙ ap (λ (z : Told). join (v a.first) z) inner ∙ ap (λ (z : List A × Cursor). all_of v z.0) made
 
 many_notes : {S A : Type 0} (l : S → Layout A) (next : S → A → S) (v : A → Told) → ((s : S) → Notes A (l s) v) → (s : S) (n : ℕ) → Notes (List A) (many l next s n) (all_of v)
@@ -188,7 +188,7 @@ all_none (x ∷ xs) = nothing-join (all_of (λ x. nothing) xs) ∙ all_none xs
 many_none : {S A : Type 0} (l : S → Layout A) (next : S → A → S) → ((s : S) → Notes A (l s) (λ x. nothing)) → (s : S) (n : ℕ) → Notes (List A) (many l next s n) (λ xs. nothing)
 many_none l next p s n = weaker (many l next s n) (all_of (λ x. nothing)) (λ xs. nothing) (λ xs. all_none xs) (many_notes l next (λ x. nothing) p s n)
 
-cond_found : {A : Type 0} (b : Bool) (x y : Read A) (v : A) (end : Cursor) (t : Told) → (cond b x y).found ≡ Some (v, end) → (x.found ≡ Some (v, end) → told_in x.notes ≡ t) → (y.found ≡ Some (v, end) → told_in y.notes ≡ t) → told_in (cond b x y).notes ≡ t
+cond_found : {A : Type 0} (b : Bool) (x y : ReadResult A) (v : A) (end : Cursor) (t : Told) → (cond b x y).found ≡ Some (v, end) → (x.found ≡ Some (v, end) → told_in x.notes ≡ t) → (y.found ≡ Some (v, end) → told_in y.notes ≡ t) → told_in (cond b x y).notes ≡ t
 cond_found true x y v end t e f g = f e
 cond_found false x y v end t e f g = g e
 
@@ -201,12 +201,12 @@ code_says n cur ops end e =
     let r = ops_from n (take n cur.rest) in
     cond_found (ltb (length cur.rest) n) _ _ ops end nothing e (λ h. absurd cc) (λ e. read_ops_says (stop_at true r.0 r.1) cur.at r.0 _ ops end e)
 
-code_notes : (n : ℕ) → Notes (List OpData) (code_of true n) (λ ops. nothing)
-unfolding code_of
+code_notes : (n : ℕ) → Notes (List OpData) (code_layout true n) (λ ops. nothing)
+unfolding code_layout
 code_notes n = record { says = code_says n }
 
-parameter_notes : (kind instance : ℕ) → Notes ParameterRecord (parameter kind instance) (λ p. nothing)
-unfolding parameter parameter_rows section_field width_field parameter_byte parameter_bit zero_u8
+parameter_notes : (kind instance : ℕ) → Notes ParameterRecord (parameter_layout kind instance) (λ p. nothing)
+unfolding parameter_layout parameter_rows section_field width_field parameter_byte parameter_bit zero_u8
 parameter_notes kind instance =
     seen_notes (λ r. parameter_of_fields (parameter_fields r)) (λ p. parameter_row (fields_of_parameter p)) (parameter_rows kind instance) (λ x. nothing) (λ p. nothing) (λ x. refl)
     (chain_none section_field _ (field_notes u8 _) (λ s.
@@ -216,33 +216,33 @@ parameter_notes kind instance =
 
 parameters_notes : (h : Head) → Notes (List ParameterRecord) (parameters h) (λ ps. nothing)
 unfolding parameters
-parameters_notes h = many_none (λ s. parameter h.kind h.instance_bytes) same_state (λ s. parameter_notes h.kind h.instance_bytes) 0 h.parameter_count
+parameters_notes h = many_none (λ s. parameter_layout h.kind h.instance_bytes) same_state (λ s. parameter_notes h.kind h.instance_bytes) 0 h.parameter_count
 
-head_notes : (before : ℕ × ℕ) → Notes Head (head before) (λ h. nothing)
-unfolding head head_rows kind_field parameter_count block_number local_bytes instance_bytes zero_u16 plain_u16 plain_u32
+head_notes : (before : ℕ × ℕ) → Notes Head (head_layout before) (λ h. nothing)
+unfolding head_layout head_rows kind_field parameter_count_layout block_number_layout local_length_layout instance_bytes zero_u16 plain_u16 plain_u32
 head_notes before = seen_notes head_of_row row_of_head (head_rows before) (λ r. nothing) (λ h. nothing) (λ r. refl)
     (chain_none (kind_field before.0) _ (field_notes u8 _) (λ kind.
-    chain_none (parameter_count kind) _ (field_notes u8 _) (λ params.
-    chain_none (block_number before.0 before.1 kind) _ (field_notes u16 _) (λ number.
-    chain_none (local_bytes kind) _ (field_notes u16 _) (λ locals.
+    chain_none (parameter_count_layout kind) _ (field_notes u8 _) (λ params.
+    chain_none (block_number_layout before.0 before.1 kind) _ (field_notes u16 _) (λ number.
+    chain_none (local_length_layout kind) _ (field_notes u16 _) (λ locals.
     chain_none (instance_bytes kind) _ (field_notes u16 _) (λ instance.
-    chain_none plain_u16 _ (field_notes u16 plain) (λ statements.
-    chain_none zero_u16 _ (field_notes u16 _) (λ zero. field_notes u32 plain))))))))
+    chain_none plain_u16 _ (field_notes u16 no_fault) (λ statements.
+    chain_none zero_u16 _ (field_notes u16 _) (λ zero. field_notes u32 no_fault))))))))
 
-lines_notes : (start : ℕ) (h : Head) (ops : List OpData) → Notes (List ℕ) (lines_of true start h ops) (λ x. nothing)
-unfolding lines_of line_field
+lines_notes : (start : ℕ) (h : Head) (ops : List OpData) → Notes (List ℕ) (lines_layout true start h ops) (λ x. nothing)
+unfolding lines_layout line_field
 lines_notes start h ops = checked_notes (start + 8) _ (many (line_field true) line_after 0 h.statement_count) (λ x. nothing) (many_none (line_field true) line_after (λ s. field_notes u32 _) 0 h.statement_count)
 
 block_rows_notes : (before : ℕ × ℕ) (at : ℕ) → Notes BlockRow (block_rows true before at) (λ r. nothing)
 unfolding block_rows code_and_lines
 block_rows_notes before at =
-    chain_none (head before) _ (head_notes before) (λ h.
+    chain_none (head_layout before) _ (head_notes before) (λ h.
     chain_none (parameters h) (λ params. code_and_lines true at h) (parameters_notes h) (λ params.
-    chain_none (code_of true h.code_length) (lines_of true at h) (code_notes h.code_length) (lines_notes at h)))
+    chain_none (code_layout true h.code_length) (lines_layout true at h) (code_notes h.code_length) (lines_notes at h)))
 
-code_block_notes : (before : ℕ × ℕ) → Notes BlockRecord (code_block true before) one
-unfolding code_block plain_block
-code_block_notes before = located_notes (code_block_at true before) one (λ at. remembered_notes (whole_at at) (plain_block true before at) one (one_block at) (seen_notes (λ r. block_of_parts (parts_of_block_row r)) (λ b. row_of_block_parts (parts_of_block b)) (block_rows true before at) (λ x. nothing) (λ b. nothing) (λ x. refl) (block_rows_notes before at)))
+code_block_notes : (before : ℕ × ℕ) → Notes BlockRecord (code_block_layout true before) one
+unfolding code_block_layout plain_block
+code_block_notes before = located_notes (code_block_at true before) one (λ at. remembered_notes (whole_note at) (plain_block true before at) one (one_block at) (seen_notes (λ r. block_of_parts (parts_of_block_row r)) (λ b. row_of_block_parts (parts_of_block b)) (block_rows true before at) (λ x. nothing) (λ b. nothing) (λ x. refl) (block_rows_notes before at)))
 
 singles : (bs : List BlockRecord) → all_of one bs ≡ (bs, None)
 unfolding all_of one join nothing
@@ -254,19 +254,19 @@ codes_told bs = (bs, None)
 
 code_blocks_notes : (n : ℕ) → Notes (List BlockRecord) (code_blocks true n) codes_told
 unfolding code_blocks
-code_blocks_notes n = weaker (many (code_block true) after_block (0, 0) n) (all_of one) codes_told singles (many_notes (code_block true) after_block one code_block_notes (0, 0) n)
+code_blocks_notes n = weaker (many (code_block_layout true) after_block (0, 0) n) (all_of one) codes_told singles (many_notes (code_block_layout true) after_block one code_block_notes (0, 0) n)
 
-data_notes : (before : ℕ × ℕ) → Notes DataBlock (data_block before) (λ d. nothing)
-unfolding data_block data_rows data_number instance_field data_len zero_u16 contents
+data_notes : (before : ℕ × ℕ) → Notes DataBlock (data_block_layout before) (λ d. nothing)
+unfolding data_block_layout data_rows data_number_layout instance_field data_length_layout zero_u16 contents
 data_notes before = seen_notes (λ r. data_of_fields (data_fields r)) (λ d. data_row (fields_of_data d)) (data_rows before) (λ x. nothing) (λ d. nothing) (λ x. refl)
-    (chain_none (data_number before.0) _ (field_notes u16 _) (λ number.
+    (chain_none (data_number_layout before.0) _ (field_notes u16 _) (λ number.
     chain_none instance_field _ (field_notes u16 _) (λ instance.
-    chain_none (data_len before.1) _ (field_notes u16 _) (λ n.
+    chain_none (data_length_layout before.1) _ (field_notes u16 _) (λ n.
     chain_none zero_u16 (λ zero. contents n) (field_notes u16 _) (λ zero. field_notes (bytes n) (λ bs. None))))))
 
-data_blocks_notes : (n : ℕ) → Notes (List DataBlock) (data_blocks n) all_told
-unfolding data_blocks
-data_blocks_notes n = remembered_notes AllBlocks (plain_data_blocks n) all_told all_are_told (many_none data_block after_data data_notes (0, 0) n)
+data_blocks_notes : (n : ℕ) → Notes (List DataBlock) (data_blocks_layout n) all_told
+unfolding data_blocks_layout
+data_blocks_notes n = remembered_notes AllBlocks (plain_data_blocks n) all_told all_are_told (many_none data_block_layout after_data data_notes (0, 0) n)
 
 name_notes : (before : List ℕ) → Notes NameRecord (name_record before) (λ n. nothing)
 unfolding name_record name_rows name_len name_bytes name_area width_field plain_u16 name_bit
@@ -275,18 +275,18 @@ name_notes before = seen_notes (λ r. name_of_fields (name_fields r)) (λ n. nam
     chain_none (name_bytes before n) _ (field_notes (bytes n) _) (λ name.
     chain_none name_area _ (field_notes u8 _) (λ area.
     chain_none width_field _ (field_notes u8 _) (λ w.
-    chain_none plain_u16 (λ byte. name_bit w) (field_notes u16 plain) (λ byte. field_notes u8 _))))))
+    chain_none plain_u16 (λ byte. name_bit w) (field_notes u16 no_fault) (λ byte. field_notes u8 _))))))
 
 names_notes : (n : ℕ) → Notes (List NameRecord) (names n) (λ ns. nothing)
 unfolding names
 names_notes n = many_none name_record after_name name_notes [] n
 
-counts_notes : Notes Counts counts (λ c. nothing)
-unfolding counts count_rows plain_u16 data_count zero_u16
+counts_notes : Notes Counts counts_layout (λ c. nothing)
+unfolding counts_layout count_rows plain_u16 data_count zero_u16
 counts_notes = seen_notes counts_of_row row_of_counts count_rows (λ r. nothing) (λ c. nothing) (λ r. refl)
-    (chain_none plain_u16 _ (field_notes u16 plain) (λ codes.
+    (chain_none plain_u16 _ (field_notes u16 no_fault) (λ codes.
     chain_none data_count _ (field_notes u16 _) (λ datas.
-    chain_none plain_u16 (λ names. zero_u16) (field_notes u16 plain) (λ names. field_notes u16 _))))
+    chain_none plain_u16 (λ names. zero_u16) (field_notes u16 no_fault) (λ names. field_notes u16 _))))
 
 abbrev datas_and_names : List DataBlock × List NameRecord → Told
 datas_and_names x = join (all_told x.0) nothing
@@ -297,9 +297,9 @@ blocks_and_names x = join (codes_told x.0) (datas_and_names x.1)
 body_rows_notes : Notes BodyRow (body_rows true) (λ r. join nothing (blocks_and_names r.1))
 unfolding body_rows
 body_rows_notes =
-    chain_notes counts (λ c. chain (code_blocks true c.code_blocks) (λ blocks. chain (data_blocks c.data_blocks) (λ datas. names c.names))) (λ c. nothing) (λ c. blocks_and_names) counts_notes (λ c.
-    chain_notes (code_blocks true c.code_blocks) (λ blocks. chain (data_blocks c.data_blocks) (λ datas. names c.names)) codes_told (λ bs. datas_and_names) (code_blocks_notes c.code_blocks) (λ blocks.
-    chain_notes (data_blocks c.data_blocks) (λ datas. names c.names) all_told (λ ds ns. nothing) (data_blocks_notes c.data_blocks) (λ datas. names_notes c.names)))
+    chain_notes counts_layout (λ c. chain (code_blocks true c.code_blocks) (λ blocks. chain (data_blocks_layout c.data_blocks) (λ datas. names c.names))) (λ c. nothing) (λ c. blocks_and_names) counts_notes (λ c.
+    chain_notes (code_blocks true c.code_blocks) (λ blocks. chain (data_blocks_layout c.data_blocks) (λ datas. names c.names)) codes_told (λ bs. datas_and_names) (code_blocks_notes c.code_blocks) (λ blocks.
+    chain_notes (data_blocks_layout c.data_blocks) (λ datas. names c.names) all_told (λ ds ns. nothing) (data_blocks_notes c.data_blocks) (λ datas. names_notes c.names)))
 
 -- all blocks of records
 told_of : Records → Told
@@ -318,7 +318,7 @@ unfolding front front_rows magic_field version_field profile_field plain_u32
 front_notes = seen_notes front_of_row row_of_front front_rows (λ r. nothing) (λ f. nothing) (λ r. refl)
     (chain_none magic_field _ (field_notes u32 _) (λ magic.
     chain_none version_field _ (field_notes u16 _) (λ version.
-    chain_none (profile_field version) (λ profile. plain_u32) (field_notes u16 _) (λ profile. field_notes u32 plain))))
+    chain_none (profile_field version) (λ profile. plain_u32) (field_notes u16 _) (λ profile. field_notes u32 no_fault))))
 
 cond_note : (b : Bool) (at code : ℕ) → told_in (cond b [] (Faulty at code ∷ [])) ≡ nothing
 unfolding told_in nothing
@@ -331,15 +331,15 @@ are_good r = (records true).good r ≡ true
 -- the records that were found without fault
 record FromRecords (p : Program) (notes : List Note) : Type 0 where
   records : Records
-  program : program_of records ≡ p
+  program : program_of_records records ≡ p
   good : are_good records
   told : told_in notes ≡ told_of records
 
 body_from : (cur : Cursor) (p : Program) (end : Cursor) → IsBytes cur.rest → ((body true).read cur).found ≡ Some (p, end) → faults_in ((body true).read cur).notes ≡ [] → FromRecords p ((body true).read cur).notes
 unfolding body
 body_from cur p end are e clean =
-    let a = steps ((records true).read cur) (λ x end. given (program_of x) end) p end e in
-    let made = same_Some (program_of a.first, a.next) (p, end) a.two in
+    let a = steps ((records true).read cur) (λ x end. reading_given (program_of_records x) end) p end e in
+    let made = same_Some (program_of_records a.first, a.next) (p, end) a.two in
     let c = no_faults ((records true).read cur).notes [] (sym (ap faults_in a.are) ∙ clean) in
     let t = (records_laid true).takes cur a.first a.next are (record { found = a.one; clean = c.0 }) in
     record {
@@ -352,32 +352,32 @@ body_from cur p end are e clean =
 abbrev cut_cursor : ℕ → Cursor → Cursor
 cut_cursor total cur = record { at = cur.at; rest = take (total - front_size) cur.rest }
 
-abbrev cut_inner : Stamp → List ℕ → ℕ → Cursor → Read Stamped
+abbrev cut_inner : Stamp → List ℕ → ℕ → Cursor → ReadResult Stamped
 cut_inner stamp text total cur = record {
-  notes = cond (eqb (length text) total) [] (Faulty total 10 ∷ []) ++ (bind ((body true).read (cut_cursor total cur)) (at_end stamp)).notes;
-  found = (bind ((body true).read (cut_cursor total cur)) (at_end stamp)).found;
+  notes = cond (eqb (length text) total) [] (Faulty total 10 ∷ []) ++ (bind ((body true).read (cut_cursor total cur)) (end_layout stamp)).notes;
+  found = (bind ((body true).read (cut_cursor total cur)) (end_layout stamp)).found;
 }
 
 inner_from : (stamp : Stamp) (text : List ℕ) (total : ℕ) (cur : Cursor) (p : Stamped) (end : Cursor) → IsBytes cur.rest → (cut_inner stamp text total cur).found ≡ Some (p, end) → faults_in (cut_inner stamp text total cur).notes ≡ [] → FromRecords p.1 (cut_inner stamp text total cur).notes
 inner_from stamp text total cur p end are e clean =
     let inner = (body true).read (cut_cursor total cur) in
-    let a = steps inner (at_end stamp) p end e in
+    let a = steps inner (end_layout stamp) p end e in
     let made = same_Some ((stamp, a.first), a.next) (p, end) a.two in
-    let c = no_faults (cond (eqb (length text) total) [] (Faulty total 10 ∷ [])) (bind inner (at_end stamp)).notes clean in
-    let d = no_faults inner.notes (at_end stamp a.first a.next).notes (sym (ap faults_in a.are) ∙ c.1) in
+    let c = no_faults (cond (eqb (length text) total) [] (Faulty total 10 ∷ [])) (bind inner (end_layout stamp)).notes clean in
+    let d = no_faults inner.notes (end_layout stamp a.first a.next).notes (sym (ap faults_in a.are) ∙ c.1) in
     let f = body_from (cut_cursor total cur) a.first a.next (bytes_taken (total - front_size) cur.rest are) a.one d.0 in
     record {
       records = f.records;
       program = f.program ∙ ap (λ (z : Stamped × Cursor). z.0.1) made;
       good = f.good;
-      told = told-append (cond (eqb (length text) total) [] (Faulty total 10 ∷ [])) (bind inner (at_end stamp)).notes
-          ∙ ap (λ (z : Told). join z (told_in (bind inner (at_end stamp)).notes)) (cond_note (eqb (length text) total) total 10)
-          ∙ nothing-join (told_in (bind inner (at_end stamp)).notes)
+      told = told-append (cond (eqb (length text) total) [] (Faulty total 10 ∷ [])) (bind inner (end_layout stamp)).notes
+          ∙ ap (λ (z : Told). join z (told_in (bind inner (end_layout stamp)).notes)) (cond_note (eqb (length text) total) total 10)
+          ∙ nothing-join (told_in (bind inner (end_layout stamp)).notes)
           ∙ a.notes ∙ ap (λ (z : Told). join (told_in inner.notes) z) (cond_note (eqb (length a.next.rest) 0) a.next.at 10) ∙ join-nothing (told_in inner.notes)
           ∙ f.told;
     }
 
-cut_from : (stamp : Stamp) (text : List ℕ) (total : ℕ) (cur : Cursor) (p : Stamped) (end : Cursor) (b d : Bool) → IsBytes cur.rest → (cond b (ended 8 3) (cond d (ended 8 4) (cut_inner stamp text total cur))).found ≡ Some (p, end) → faults_in (cond b (ended 8 3) (cond d (ended 8 4) (cut_inner stamp text total cur))).notes ≡ [] → FromRecords p.1 (cond b (ended 8 3) (cond d (ended 8 4) (cut_inner stamp text total cur))).notes
+cut_from : (stamp : Stamp) (text : List ℕ) (total : ℕ) (cur : Cursor) (p : Stamped) (end : Cursor) (b d : Bool) → IsBytes cur.rest → (cond b (reading_ended 8 3) (cond d (reading_ended 8 4) (cut_inner stamp text total cur))).found ≡ Some (p, end) → faults_in (cond b (reading_ended 8 3) (cond d (reading_ended 8 4) (cut_inner stamp text total cur))).notes ≡ [] → FromRecords p.1 (cond b (reading_ended 8 3) (cond d (reading_ended 8 4) (cut_inner stamp text total cur))).notes
 cut_from stamp text total cur p end true d are e clean = absurd cc
 cut_from stamp text total cur p end false true are e clean = absurd cc
 cut_from stamp text total cur p end false false are e clean = inner_from stamp text total cur p end are e clean
@@ -422,7 +422,7 @@ elsewhere : (at other : ℕ) (o : Option ℕ) → at_offset at o ≡ [] → at_o
 elsewhere at other None e = refl
 elsewhere at other (Some code) e = absurd cc
 
-op_moved : (around : Around) (ps : List Spot) (start other : ℕ) (p : Placed) → op_faults around ps start p ≡ [] → op_faults around ps other p ≡ []
+op_moved : (around : Around) (ps : List StatementSpot) (start other : ℕ) (p : Placed) → op_faults around ps start p ≡ [] → op_faults around ps other p ≡ []
 unfolding op_faults
 op_moved around ps start other p e =
     let at = start + p.at in
@@ -438,7 +438,7 @@ op_moved around ps start other p e =
     let l = nil_parts a b m.0 in
     nil_join (nil_join (nil_join (nil_join (elsewhere at to (operand_fault around ps p p.op.operand) l.0) (elsewhere at to (call_fault around around.data_lens p) l.1)) (elsewhere at to (mark_fault p.op) m.1)) (elsewhere at to (bracket_fault p.op.code p.brackets) n.1)) (elsewhere at to (zone_fault p.op.code p.zones) o.1)
 
-over_moved : (around : Around) (ps : List Spot) (start other : ℕ) (rest : List Placed) → faults_over around ps start rest ≡ [] → faults_over around ps other rest ≡ []
+over_moved : (around : Around) (ps : List StatementSpot) (start other : ℕ) (rest : List Placed) → faults_over around ps start rest ≡ [] → faults_over around ps other rest ≡ []
 over_moved around ps start other [] e = refl
 over_moved around ps start other (p ∷ rest) e =
     let n = nil_parts (op_faults around ps start p) (faults_over around ps start rest) e in
@@ -456,29 +456,29 @@ open_zones_moved start other (at ∷ zones) e = absurd cc
 pub moved : (around : Around) (start other : ℕ) (ops : List OpData) → block_faults around start ops ≡ [] → block_faults around other ops ≡ []
 unfolding block_faults
 moved around start other ops e =
-    let m = nil_parts (faults_over around (spots ops) start (places ops) ++ open_faults start (open_behind 0 [] ops)) (open_zone_faults start (zones_left 0 [] ops)) e in
-    let n = nil_parts (faults_over around (spots ops) start (places ops)) (open_faults start (open_behind 0 [] ops)) m.0 in
-    nil_join (nil_join (over_moved around (spots ops) start other (places ops) n.0) (open_moved start other (open_behind 0 [] ops) n.1)) (open_zones_moved start other (zones_left 0 [] ops) m.1)
+    let m = nil_parts (faults_over around (spots ops) start (code_places ops) ++ open_faults start (open_behind 0 [] ops)) (open_zone_faults start (zones_left 0 [] ops)) e in
+    let n = nil_parts (faults_over around (spots ops) start (code_places ops)) (open_faults start (open_behind 0 [] ops)) m.0 in
+    nil_join (nil_join (over_moved around (spots ops) start other (code_places ops) n.0) (open_moved start other (open_behind 0 [] ops) n.1)) (open_zones_moved start other (zones_left 0 [] ops) m.1)
 
-verified : (lens : List (ℕ × ℕ)) (all : List BlockRecord) (bs : List (ℕ × BlockRecord)) → judged_blocks (Some lens) all bs ≡ [] → AreVerified lens all (blocks_of bs)
+verified : (lens : List (ℕ × ℕ)) (all : List BlockRecord) (bs : List (ℕ × BlockRecord)) → op_faults_of_blocks (Some lens) all bs ≡ [] → AreVerified lens all (blocks_of bs)
 verified lens all [] e = tt
 verified lens all (b ∷ bs) e =
-    let n = nil_parts (block_faults (around (Some lens) all b.1) b.0 b.1.code) (judged_blocks (Some lens) all bs) e in
-    (moved (around (Some lens) all b.1) b.0 0 b.1.code n.0, verified lens all bs n.1)
+    let n = nil_parts (block_faults (around_block (Some lens) all b.1) b.0 b.1.code) (op_faults_of_blocks (Some lens) all bs) e in
+    (moved (around_block (Some lens) all b.1) b.0 0 b.1.code n.0, verified lens all bs n.1)
 
-unjudged : (lens : List (ℕ × ℕ)) (all : List BlockRecord) (bs : List (ℕ × BlockRecord)) → AreVerified lens all (blocks_of bs) → judged_blocks (Some lens) all bs ≡ []
-unjudged lens all [] h = refl
-unjudged lens all (b ∷ bs) h = nil_join (moved (around (Some lens) all b.1) 0 b.0 b.1.code h.0) (unjudged lens all bs h.1)
+unchecked : (lens : List (ℕ × ℕ)) (all : List BlockRecord) (bs : List (ℕ × BlockRecord)) → AreVerified lens all (blocks_of bs) → op_faults_of_blocks (Some lens) all bs ≡ []
+unchecked lens all [] h = refl
+unchecked lens all (b ∷ bs) h = nil_join (moved (around_block (Some lens) all b.1) 0 b.0 b.1.code h.0) (unchecked lens all bs h.1)
 
 pub gives_image : (text : List ℕ) (stamp : Stamp) (p : Program) → IsBytes text → Gives text stamp p → IsLoadable text stamp p
 unfolding faults_of
 gives_image text stamp p are g =
     let notes = (read_image text).notes in
-    let n = nil_parts (faults_in notes) (judged_blocks (option_map lens_of (all_blocks notes)) (blocks_of (wholes notes)) (wholes notes)) g.clean in
+    let n = nil_parts (faults_in notes) (op_faults_of_blocks (option_map lens_of (all_blocks notes)) (blocks_of (wholes notes)) (wholes notes)) g.clean in
     let t = image_takes text stamp p g.end are (record { found = g.found; clean = n.0 }) in
     let m = image_noted text stamp p g.end are g.found n.0 in
-    let judged : judged_blocks (Some (lens_of p.data_blocks)) (blocks_of (wholes notes)) (wholes notes) ≡ [] = ap (λ (z : Option (List DataBlock)). judged_blocks (option_map lens_of z) (blocks_of (wholes notes)) (wholes notes)) (sym m.datas) ∙ n.1 in
-    let v = verified (lens_of p.data_blocks) (blocks_of (wholes notes)) (wholes notes) judged in
+    let no_block_faults : op_faults_of_blocks (Some (lens_of p.data_blocks)) (blocks_of (wholes notes)) (wholes notes) ≡ [] = ap (λ (z : Option (List DataBlock)). op_faults_of_blocks (option_map lens_of z) (blocks_of (wholes notes)) (wholes notes)) (sym m.datas) ∙ n.1 in
+    let v = verified (lens_of p.data_blocks) (blocks_of (wholes notes)) (wholes notes) no_block_faults in
     record {
       spelled = t.0;
       program = t.1;
@@ -495,5 +495,5 @@ image_gives text stamp p are h =
     let clean : faults_in notes ≡ [] = ap (λ (z : List ℕ). faults_in (read_image z).notes) h.spelled ∙ is.clean in
     let m = image_noted text stamp p end are found clean in
     let v : AreVerified (lens_of p.data_blocks) (blocks_of (wholes notes)) (blocks_of (wholes notes)) = subst (λ (z : List BlockRecord). AreVerified (lens_of p.data_blocks) z z) (sym m.codes) h.verifies.blocks in
-    let judged : judged_blocks (option_map lens_of (all_blocks notes)) (blocks_of (wholes notes)) (wholes notes) ≡ [] = ap (λ (z : Option (List DataBlock)). judged_blocks (option_map lens_of z) (blocks_of (wholes notes)) (wholes notes)) m.datas ∙ unjudged (lens_of p.data_blocks) (blocks_of (wholes notes)) (wholes notes) v in
-    record { end = end; found = found; clean = nil_join clean judged }
+    let no_block_faults : op_faults_of_blocks (option_map lens_of (all_blocks notes)) (blocks_of (wholes notes)) (wholes notes) ≡ [] = ap (λ (z : Option (List DataBlock)). op_faults_of_blocks (option_map lens_of z) (blocks_of (wholes notes)) (wholes notes)) m.datas ∙ unchecked (lens_of p.data_blocks) (blocks_of (wholes notes)) (wholes notes) v in
+    record { end = end; found = found; clean = nil_join clean no_block_faults }

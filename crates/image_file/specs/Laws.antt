@@ -6,7 +6,7 @@ use Rattle.flat_code.specs.Loading.{Gives, IsLoadable, Verifies}
 use Rattle.flat_code.specs.declared.stamps.Stamp.{Stamp}
 use Rattle.image_file.specs.declared.faults.LoadFault.{LoadFault}
 use Rattle.image_file.specs.declared.faults.VerifyFault.{VerifyFault}
-use Rattle.image_file.specs.Least.{with_faults, IsLeast}
+use Rattle.image_file.specs.Least.{with_faults, IsLeastFault}
 use Rattle.flat_code.specs.Image.{image, IsProgram, IsRight, read_image}
 use Rattle.image_file.specs.Verifying.{IsFaultOf}
 
@@ -38,7 +38,7 @@ GivesExactlyImages =
 
 -- the fault that one pass keeps is the least of all
 abbrev pub KeptIsLeast : Type 0
-KeptIsLeast = (fs : List (ℕ × ℕ)) (f : LoadFault) → with_faults None fs ≡ Some f → IsLeast f fs
+KeptIsLeast = (fs : List (ℕ × ℕ)) (f : LoadFault) → with_faults None fs ≡ Some f → IsLeastFault f fs
 
 -- a program verifies or has a fault, and not both
 abbrev pub VerifiesOrHasFault : Type 0

@@ -7,27 +7,29 @@ abbrev pub IsUpTo : LoadFault → ℕ × ℕ → Type 0
 IsUpTo f g = (f.at < g.0) ⊎ ((f.at ≡ g.0) × (f.code ≤ g.1))
 
 -- a fault stands in the list
-abbrev pub IsAmong : ℕ × ℕ → List (ℕ × ℕ) → Type 0
-IsAmong f [] = ⊥
-IsAmong f (g ∷ gs) = (g ≡ f) ⊎ IsAmong f gs
+abbrev pub IsFaultAmong : ℕ × ℕ → List (ℕ × ℕ) → Type 0
+IsFaultAmong f [] = ⊥
+IsFaultAmong f (g ∷ gs) = (g ≡ f) ⊎ IsFaultAmong f gs
 
 -- a fault of the list, and no other is less
-pub record IsLeast (f : LoadFault) (fs : List (ℕ × ℕ)) : Type 0 where
-  pub one : IsAmong (f.at, f.code) fs
-  pub least : (g : ℕ × ℕ) → IsAmong g fs → IsUpTo f g
+pub record IsLeastFault (f : LoadFault) (fs : List (ℕ × ℕ)) : Type 0 where
+  -- it is one of them
+  pub one : IsFaultAmong (f.at, f.code) fs
+  -- none of them is less
+  pub least : (g : ℕ × ℕ) → IsFaultAmong g fs → IsUpTo f g
 
 -- a fault is less than the least one so far: by its offset, then by its code
-abbrev pub is_less : ℕ × ℕ → LoadFault → Bool
-is_less f g = nat_lt f.0 g.at || f.0 == g.at && nat_lt f.1 g.code
+abbrev pub is_fault_less : ℕ × ℕ → LoadFault → Bool
+is_fault_less f g = nat_lt f.0 g.at || f.0 == g.at && nat_lt f.1 g.code
 
 -- a fault by its offset and its code
-abbrev pub fault : ℕ × ℕ → LoadFault
-fault f = record { at = f.0; code = f.1 }
+abbrev pub fault_of_pair : ℕ × ℕ → LoadFault
+fault_of_pair f = record { at = f.0; code = f.1 }
 
 -- the lesser of the least fault so far, if there is one, and another fault
 abbrev pub with_fault : Option LoadFault → ℕ × ℕ → Option LoadFault
-with_fault None f = Some (fault f)
-with_fault (Some g) f = if is_less f g then Some (fault f) else Some g
+with_fault None f = Some (fault_of_pair f)
+with_fault (Some g) f = if is_fault_less f g then Some (fault_of_pair f) else Some g
 
 -- the least of a fault so far and of those to come, as one pass keeps it
 unfoldable pub with_faults : Option LoadFault → List (ℕ × ℕ) → Option LoadFault

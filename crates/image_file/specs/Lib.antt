@@ -2,7 +2,7 @@ pub mod Laws
 pub mod Walking
 pub mod Least
 pub mod Running
-pub mod Judging
+pub mod OpChecking
 pub mod Loaded
 pub mod Refusing
 pub mod Images

@@ -11,47 +11,52 @@ use Rattle.flat_code.specs.Placed.{op_placed, line_placed}
 use Rattle.flat_code.specs.Programs.{CodeBlock, DataBlock, Program}
 
 -- two blocks of the same kind and number are the same
-abbrev pub same_id : BlockId → BlockId → Bool
-same_id a b = kind_order a.kind == kind_order b.kind && a.number == b.number
+abbrev pub is_same_id : BlockId → BlockId → Bool
+is_same_id a b = kind_order a.kind == kind_order b.kind && a.number == b.number
 
 -- the code block of a kind and number
-abbrev pub block_of : BlockId → List CodeBlock → Option CodeBlock
-block_of id [] = None
-block_of id (b ∷ bs) = if same_id b.id id then Some b else block_of id bs
+abbrev pub block_by_id : BlockId → List CodeBlock → Option CodeBlock
+block_by_id id [] = None
+block_by_id id (b ∷ bs) = if is_same_id b.id id then Some b else block_by_id id bs
 
 -- the op of a block at an offset, and the offset after it
-abbrev pub op_of : BlockId → ℕ → List CodeBlock → Option (OpData × ℕ)
-op_of id at blocks = option_and_then (λ b. op_placed 0 b.code at) (block_of id blocks)
+abbrev pub op_at_offset : BlockId → ℕ → List CodeBlock → Option (OpData × ℕ)
+op_at_offset id at blocks = option_and_then (λ b. op_placed 0 b.code at) (block_by_id id blocks)
 
 -- the source line of the statement of a block at an offset
-abbrev pub line_of : BlockId → ℕ → List CodeBlock → Option ℕ
-line_of id at blocks = option_and_then (λ b. line_placed 0 true b.code b.lines at) (block_of id blocks)
+abbrev pub line_at_offset : BlockId → ℕ → List CodeBlock → Option ℕ
+line_at_offset id at blocks = option_and_then (λ b. line_placed 0 true b.code b.lines at) (block_by_id id blocks)
 
 -- the bytes of the data block of a number
-abbrev pub bytes_of : ℕ → List DataBlock → Option (List ℕ)
-bytes_of number [] = None
-bytes_of number (d ∷ ds) = if d.number == number then Some d.bytes else bytes_of number ds
+abbrev pub data_bytes_of : ℕ → List DataBlock → Option (List ℕ)
+data_bytes_of number [] = None
+data_bytes_of number (d ∷ ds) = if d.number == number then Some d.bytes else data_bytes_of number ds
 
 -- a data block by kind and number
-abbrev pub data_id : DataBlock → BlockId
-data_id d = record { kind = kinds.Db; number = d.number }
+abbrev pub data_block_id : DataBlock → BlockId
+data_block_id d = record { kind = kinds.Db; number = d.number }
 
 -- the blocks: code blocks, then data blocks, in the image's order
-abbrev pub ids_of : Program → List BlockId
-ids_of p = map (λ b. b.id) p.code_blocks ++ map data_id p.data_blocks
+abbrev pub block_ids : Program → List BlockId
+block_ids p = map (λ b. b.id) p.code_blocks ++ map data_block_id p.data_blocks
 
 -- what the head of a code block says: the bytes of its local data and of an instance, how many
 -- statements it has, how many bytes its code takes, its parameters
 pub record HeadData : Type 0 where
+  -- the bytes of its local data
   pub local_len : ℕ
+  -- the bytes of its instance
   pub instance_len : ℕ
+  -- how many statements it has
   pub statements : ℕ
+  -- how many bytes its code takes
   pub code_len : ℕ
+  -- its parameters
   pub params : List Param
 
 -- the head of a code block: a statement for each line, and as many bytes of code as its ops take
-abbrev pub head_of : CodeBlock → HeadData
-head_of b = record {
+abbrev pub code_block_head : CodeBlock → HeadData
+code_block_head b = record {
   local_len = b.local_len;
   instance_len = b.instance_len;
   statements = length b.lines;

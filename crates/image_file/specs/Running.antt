@@ -3,17 +3,17 @@ use Rattle.std.specs.Prelude.{◌≡◌, ℕ, List, [], ◌∷◌, ◌++◌, map
 use Rattle.std.specs.Option.{option_map}
 use Rattle.std.specs.Borrow.{Bor}
 use Rattle.flat_code.specs.declared.image_fields.Field.{Field}
-use Rattle.flat_code.specs.Faults.{fault_of}
-use Rattle.flat_code.specs.Layout.{Note, Faulty, Whole, AllBlocks, Cursor, Read, Layout, noted, faults_in}
+use Rattle.flat_code.specs.Faults.{field_fault}
+use Rattle.flat_code.specs.Layout.{Note, Faulty, Whole, AllBlocks, Cursor, ReadResult, Layout, fault_note, faults_in}
 use Rattle.flat_code.specs.Records.{BlockRecord, NameRecord, Records}
 use Rattle.flat_code.specs.Programs.{DataBlock, Program}
-use Rattle.flat_code.specs.Image.{Head, Counts, Front, program_of, read_image}
+use Rattle.flat_code.specs.Image.{Head, Counts, Front, program_of_records, read_image}
 use Rattle.flat_code.specs.declared.stamps.Stamp.{Stamp}
-use Rattle.flat_code.specs.Loading.{lens_of, wholes, all_blocks, blocks_of, judged_blocks, faults_of}
+use Rattle.flat_code.specs.Loading.{lens_of, wholes, all_blocks, blocks_of, op_faults_of_blocks, faults_of}
 use Rattle.image_file.specs.declared.faults.LoadFault.{LoadFault}
 use Rattle.image_file.specs.declared.loading.ImageRead.{ImageRead}
-use Rattle.image_file.specs.declared.loading.Judged.{Judged}
-use Rattle.image_file.specs.declared.loading.Judged.TheVariants as outcome
+use Rattle.image_file.specs.declared.loading.CheckResult.{CheckResult}
+use Rattle.image_file.specs.declared.loading.CheckResult.TheVariants as outcome
 use Rattle.image_file.specs.declared.reader.Reader.{Reader}
 use Rattle.image_file.specs.declared.records.HeadRead.{HeadRead}
 use Rattle.image_file.specs.declared.records.CountsRead.{CountsRead}
@@ -27,13 +27,16 @@ use Rattle.image_file.specs.Least.{with_faults}
 use Rattle.image_file.specs.Typing.{program_from}
 
 -- the faults of a field that begins at an offset: one, or none
-abbrev pub judged : ℕ → Field → List (ℕ × ℕ)
-judged at field = faults_in (noted at (fault_of field))
+abbrev pub field_faults : ℕ → Field → List (ℕ × ℕ)
+field_faults at field = faults_in (fault_note at (field_fault field))
 
 -- what one pass keeps: the least fault, the code blocks that were read whole, and the data blocks once all were read
 pub record Log : Type 0 where
+  -- the least fault so far
   pub least : Option LoadFault
+  -- the code blocks that were read whole, each with the offset of its code
   pub blocks : List (ℕ × BlockRecord)
+  -- the data blocks, once all were read
   pub datas : Option (List DataBlock)
 
 -- the code blocks so far, and those that notes say were read whole, in their order
@@ -51,22 +54,24 @@ with_all datas (Whole start block ∷ notes) = with_all datas notes
 with_all datas (AllBlocks found ∷ notes) = with_all (Some found) notes
 
 -- what is kept once notes have come: the lesser fault, more code blocks, the data blocks
-unfoldable pub logged : Log → List Note → Log
-logged log notes = record { least = with_faults log.least (faults_in notes); blocks = with_wholes log.blocks notes; datas = with_all log.datas notes }
+unfoldable pub log_after : Log → List Note → Log
+log_after log notes = record { least = with_faults log.least (faults_in notes); blocks = with_wholes log.blocks notes; datas = with_all log.datas notes }
 
 -- what one pass has in the end: a value and what follows, or that it ended, with what it kept
 pub data Ran (A : Type 0) : Type 0 where
+  -- a value, what follows, and what was kept
   Goes : (x : A) (cur : Cursor) (log : Log) → Ran A
+  -- reading ended at a fault, with what was kept
   Stops : (log : Log) → Ran A
 
 -- what one pass has, by what was found: nothing found means that reading ended at a fault
-abbrev pub ran : {A : Type 0} → Option (A × Cursor) → Log → Ran A
-ran None log = Stops log
-ran (Some x) log = Goes x.0 x.1 log
+abbrev pub run_result : {A : Type 0} → Option (A × Cursor) → Log → Ran A
+run_result None log = Stops log
+run_result (Some x) log = Goes x.0 x.1 log
 
 -- reading by a layout from a place on, behind a log
-unfoldable pub run : {A : Type 0} → Layout A → Cursor → Log → Ran A
-run l cur log = ran (l.read cur).found (logged log (l.read cur).notes)
+unfoldable pub run_layout : {A : Type 0} → Layout A → Cursor → Log → Ran A
+run_layout l cur log = run_result (l.read cur).found (log_after log (l.read cur).notes)
 
 -- one reading behind another; where the first one ended, nothing more is read
 abbrev pub then_run : {A B : Type 0} → Ran A → (A → Cursor → Log → Ran B) → Ran B
@@ -74,21 +79,21 @@ then_run (Goes x cur log) f = f x cur log
 then_run (Stops log) f = Stops log
 
 -- a code block that was read whole, with the offset at which its code begins
-abbrev pub started : Started → ℕ × BlockRecord
-started s = (s.start, s.block)
+abbrev pub started_block : Started → ℕ × BlockRecord
+started_block s = (s.start, s.block)
 
 -- what the reader has kept so far
 abbrev pub log_of : Reader → Log
-log_of r = record { least = r.least; blocks = map started r.blocks.items; datas = option_map (λ v. v.items) r.datas }
+log_of r = record { least = r.least; blocks = map started_block r.blocks.items; datas = option_map (λ v. v.items) r.datas }
 
 -- where the reader stands: the offset, and the bytes that are left
-abbrev pub place_of : Reader → Cursor
-place_of r = record { at = r.at; rest = r.rest.now }
+abbrev pub reader_cursor : Reader → Cursor
+reader_cursor r = record { at = r.at; rest = r.rest.now }
 
 -- what a call of the reader says: a value and where it stands then, or that reading ended
-abbrev pub seen : {X A : Type 0} → (X → A) → Result X Ended → Reader → Ran A
-seen view (Ok x) r = Goes (view x) (place_of r) (log_of r)
-seen view (Err e) r = Stops (log_of r)
+abbrev pub reader_run : {X A : Type 0} → (X → A) → Result X Ended → Reader → Ran A
+reader_run view (Ok x) r = Goes (view x) (reader_cursor r) (log_of r)
+reader_run view (Err e) r = Stops (log_of r)
 
 -- the head of a code block
 abbrev pub head_values : HeadRead → Head
@@ -105,7 +110,7 @@ head_values h = record {
 
 -- the same where memory may be wanting
 abbrev pub Sees : {X A : Type 0} → (X → A) → Result X Stop → Reader → Ran A → Type 0
-Sees view (Ok x) r all = Goes (view x) (place_of r) (log_of r) ≡ all
+Sees view (Ok x) r all = Goes (view x) (reader_cursor r) (log_of r) ≡ all
 Sees view (Err stop.AtFault) r all = Stops (log_of r) ≡ all
 Sees view (Err stop.NoMemory) r all = Unit {0}
 
@@ -116,13 +121,13 @@ with_front xs (Stops log) = Stops log
 
 -- a code block that was read and kept: its kind and number are answered
 abbrev pub SeesBlock : Result (ℕ × ℕ) Stop → Reader → Ran BlockRecord → Type 0
-SeesBlock (Ok key) r all = (b : BlockRecord) × (Goes b (place_of r) (log_of r) ≡ all) × (key.0 ≡ b.kind) × (key.1 ≡ b.number)
+SeesBlock (Ok key) r all = (b : BlockRecord) × (Goes b (reader_cursor r) (log_of r) ≡ all) × (key.0 ≡ b.kind) × (key.1 ≡ b.number)
 SeesBlock (Err stop.AtFault) r all = Stops (log_of r) ≡ all
 SeesBlock (Err stop.NoMemory) r all = Unit {0}
 
 -- all code blocks were read and kept
 abbrev pub SeesBlocks : Result (Unit {0}) Stop → Reader → Ran (List BlockRecord) → Type 0
-SeesBlocks (Ok u) r all = (bs : List BlockRecord) × (Goes bs (place_of r) (log_of r) ≡ all)
+SeesBlocks (Ok u) r all = (bs : List BlockRecord) × (Goes bs (reader_cursor r) (log_of r) ≡ all)
 SeesBlocks (Err stop.AtFault) r all = Stops (log_of r) ≡ all
 SeesBlocks (Err stop.NoMemory) r all = Unit {0}
 
@@ -132,7 +137,7 @@ name_values r = record { name = r.0.now; area = r.1; width = r.2; byte = r.3; bi
 
 -- all data blocks were read and kept
 abbrev pub SeesDatas : Result (Unit {0}) Stop → Reader → Ran (List DataBlock) → Type 0
-SeesDatas (Ok u) r all = (ds : List DataBlock) × (Goes ds (place_of r) (log_of r) ≡ all)
+SeesDatas (Ok u) r all = (ds : List DataBlock) × (Goes ds (reader_cursor r) (log_of r) ≡ all)
 SeesDatas (Err stop.AtFault) r all = Stops (log_of r) ≡ all
 SeesDatas (Err stop.NoMemory) r all = Unit {0}
 
@@ -142,7 +147,7 @@ counts_values c = record { code_blocks = c.code_blocks; data_blocks = c.data_blo
 
 -- all records were read; the names are answered, the blocks are kept
 abbrev pub SeesRecords : {X : Type 0} → (X → List NameRecord) → Result X Stop → Reader → Ran Records → Type 0
-SeesRecords view (Ok names) r all = (x : Records) × (Goes x (place_of r) (log_of r) ≡ all) × (x.names ≡ view names)
+SeesRecords view (Ok names) r all = (x : Records) × (Goes x (reader_cursor r) (log_of r) ≡ all) × (x.names ≡ view names)
 SeesRecords view (Err stop.AtFault) r all = Stops (log_of r) ≡ all
 SeesRecords view (Err stop.NoMemory) r all = Unit {0}
 
@@ -155,12 +160,12 @@ abbrev pub found_values : FoundRead → Stamp × List NameRecord
 found_values f = (f.stamp, f.names.items)
 
 -- what reading as a whole comes to, behind a log
-unfoldable pub ran_read : {A : Type 0} → Read A → Log → Ran A
-ran_read r log = ran r.found (logged log r.notes)
+unfoldable pub run_of_read : {A : Type 0} → ReadResult A → Log → Ran A
+run_of_read r log = run_result r.found (log_after log r.notes)
 
 -- an image was read whole, or reading ended at a fault
 abbrev pub SeesFound : Option (Stamp × List NameRecord) → Reader → Ran (Stamp × Program) → Type 0
-SeesFound (Some found) r all = (x : Records) × (end : Cursor) × (Goes (found.0, program_of x) end (log_of r) ≡ all) × (x.names ≡ found.1)
+SeesFound (Some found) r all = (x : Records) × (end : Cursor) × (Goes (found.0, program_of_records x) end (log_of r) ≡ all) × (x.names ≡ found.1)
 SeesFound None r all = Stops (log_of r) ≡ all
 
 -- an image was read whole, and its version and profile and its names are answered, or reading ended at a
@@ -173,26 +178,26 @@ SeesImage (Err stop.NoMemory) r all = Unit {0}
 -- what was kept is what bytes hold, as far as they could be read
 abbrev pub HasFound : List ℕ → List (ℕ × BlockRecord) → Option (List DataBlock) → Option (Stamp × List NameRecord) → Type 0
 HasFound text blocks datas None = (read_image text).found ≡ None
-HasFound text blocks datas (Some found) = (x : Records) × (end : Cursor) × ((read_image text).found ≡ Some ((found.0, program_of x), end)) × (x.names ≡ found.1) × (blocks ≡ wholes (read_image text).notes) × (datas ≡ all_blocks (read_image text).notes)
+HasFound text blocks datas (Some found) = (x : Records) × (end : Cursor) × ((read_image text).found ≡ Some ((found.0, program_of_records x), end)) × (x.names ≡ found.1) × (blocks ≡ wholes (read_image text).notes) × (datas ≡ all_blocks (read_image text).notes)
 
 -- the faults of the ops of the blocks that were read, by what one pass keeps
-abbrev pub judged_read : Log → List (ℕ × ℕ)
-judged_read log = judged_blocks (option_map lens_of log.datas) (blocks_of log.blocks) log.blocks
+abbrev pub checked_faults : Log → List (ℕ × ℕ)
+checked_faults log = op_faults_of_blocks (option_map lens_of log.datas) (blocks_of log.blocks) log.blocks
 
 -- the program of an image that was read whole
 abbrev pub program_read : ImageRead → Program
-program_read image = program_from (map started image.blocks.items) image.data_blocks.items image.names.items
+program_read image = program_from (map started_block image.blocks.items) image.data_blocks.items image.names.items
 
 -- the least fault, or all that was read where there is none
-abbrev pub HoldsAll : Option LoadFault → List Started → Option (List DataBlock) → Option FoundRead → Judged → Type 0
+abbrev pub HoldsAll : Option LoadFault → List Started → Option (List DataBlock) → Option FoundRead → CheckResult → Type 0
 HoldsAll least blocks datas found (outcome.Faulty f) = least ≡ Some f
 HoldsAll least blocks datas found (outcome.Clean image) =
     (least ≡ None) × (image.blocks.items ≡ blocks) × (datas ≡ Some image.data_blocks.items)
     × (option_map found_values found ≡ Some (image.stamp, image.names.items))
 
 -- what bytes come to that were read and checked: the least of their faults, or all that they hold
-abbrev pub IsJudged : List ℕ → Judged → Type 0
-IsJudged text (outcome.Faulty f) = with_faults None (faults_of text) ≡ Some f
-IsJudged text (outcome.Clean image) =
+abbrev pub IsCheckResult : List ℕ → CheckResult → Type 0
+IsCheckResult text (outcome.Faulty f) = with_faults None (faults_of text) ≡ Some f
+IsCheckResult text (outcome.Clean image) =
     (with_faults None (faults_of text) ≡ None)
-    × HasFound text (map started image.blocks.items) (Some image.data_blocks.items) (Some (image.stamp, image.names.items))
+    × HasFound text (map started_block image.blocks.items) (Some image.data_blocks.items) (Some (image.stamp, image.names.items))

@@ -5,26 +5,26 @@ use Rattle.plc_base.specs.declared.blocks.BlockId.{BlockId}
 use Rattle.flat_code.specs.declared.image_fields.Field.TheVariants as field_of
 use Rattle.flat_code.specs.Codes.{code_fault, is_nowhere}
 use Rattle.flat_code.specs.Blocks.{Around, at_offset, block_faults}
-use Rattle.flat_code.specs.Faults.{fault_of}
+use Rattle.flat_code.specs.Faults.{field_fault}
 use Rattle.flat_code.specs.Image.{end_marks, record_of_block}
-use Rattle.flat_code.specs.Loading.{lens_of, around}
+use Rattle.flat_code.specs.Loading.{lens_of, around_block}
 use Rattle.flat_code.specs.Programs.{CodeBlock, DataBlock, Program}
 use Rattle.flat_code.specs.Records.{BlockRecord}
 use Rattle.image_file.specs.declared.refusing.VerifyError.{VerifyError}
 use Rattle.image_file.specs.declared.refusing.VerifyError.TheVariants as error
 use Rattle.image_file.specs.declared.faults.VerifyFault.{VerifyFault}
-use Rattle.image_file.specs.Least.{IsLeast}
+use Rattle.image_file.specs.Least.{IsLeastFault}
 
 -- 9, at 0: a line that is 0 or falls, behind another line (0 for none)
 abbrev pub line_faults : ℕ → List ℕ → List (ℕ × ℕ)
 line_faults before [] = []
 line_faults before (line ∷ lines) =
-    at_offset 0 (fault_of (field_of.Line before line)) ++ line_faults line lines
+    at_offset 0 (field_fault (field_of.Line before line)) ++ line_faults line lines
 
 -- 9, at 0: another number of statements than end marks
 abbrev pub count_faults : BlockRecord → List (ℕ × ℕ)
 count_faults b =
-    at_offset 0 (fault_of (field_of.StatementCount (end_marks b.code) (length b.lines)))
+    at_offset 0 (field_fault (field_of.StatementCount (end_marks b.code) (length b.lines)))
 
 -- 5 alone, where the code has one; else 9, and those of the ops
 abbrev pub faults_unless : Option ℕ → Around → BlockRecord → List (ℕ × ℕ)
@@ -47,20 +47,20 @@ lens_where true datas = Some (lens_of datas)
 lens_where false datas = None
 
 -- the same for a program: its calls are checked where no code of it has a fault 5
-abbrev pub lens_judged : Program → Option (List (ℕ × ℕ))
-lens_judged p = lens_where (are_whole (map record_of_block p.code_blocks)) p.data_blocks
+abbrev pub lens_checked : Program → Option (List (ℕ × ℕ))
+lens_checked p = lens_where (are_whole (map record_of_block p.code_blocks)) p.data_blocks
 
 -- the faults of a block among all blocks
 abbrev pub faults_among :
     Option (List (ℕ × ℕ)) → List BlockRecord → CodeBlock → List (ℕ × ℕ)
 faults_among lens all b =
-    faults_of_block (around lens all (record_of_block b)) (record_of_block b)
+    faults_of_block (around_block lens all (record_of_block b)) (record_of_block b)
 
 -- the first block with a fault, and the least of its faults
 abbrev pub DecidesFor : BlockId → VerifyFault → List (ℕ × ℕ) → Type 0 → Type 0
 DecidesFor id f [] Later = Later
 DecidesFor id f (g ∷ gs) Later =
-    (f.block ≡ id) × IsLeast (record { at = f.at; code = f.code }) (g ∷ gs)
+    (f.block ≡ id) × IsLeastFault (record { at = f.at; code = f.code }) (g ∷ gs)
 
 -- a fault is that of the first of these blocks that has one; where none has one, no fault is
 abbrev pub IsFirstOf :
@@ -70,7 +70,7 @@ IsFirstOf lens all (b ∷ bs) f = DecidesFor b.id f (faults_among lens all b) (I
 
 -- the fault of a program: that of the first block that has one
 unfoldable pub IsFaultOf : Program → VerifyFault → Type 0
-IsFaultOf p f = IsFirstOf (lens_judged p) (map record_of_block p.code_blocks) p.code_blocks f
+IsFaultOf p f = IsFirstOf (lens_checked p) (map record_of_block p.code_blocks) p.code_blocks f
 
 -- no block of a program has a fault
 abbrev pub AreClean : Option (List (ℕ × ℕ)) → List BlockRecord → List CodeBlock → Type 0
@@ -79,7 +79,7 @@ AreClean lens all (b ∷ bs) = (faults_among lens all b ≡ []) × AreClean lens
 
 -- a program of which no block has a fault
 abbrev pub IsClean : Program → Type 0
-IsClean p = AreClean (lens_judged p) (map record_of_block p.code_blocks) p.code_blocks
+IsClean p = AreClean (lens_checked p) (map record_of_block p.code_blocks) p.code_blocks
 
 -- why a program is refused; nothing is said where memory is wanting
 abbrev pub IsUnverified : VerifyError → Program → Type 0

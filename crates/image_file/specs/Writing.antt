@@ -5,25 +5,36 @@ use Rattle.flat_code.specs.Image.{body, front_size, number_of_instance}
 use Rattle.flat_code.specs.Programs.{CodeBlock, DataBlock, NameEntry, Program}
 
 -- the statement count and the code length of a code block fit their fields
-pub record BlockFits (b : CodeBlock) : Type 0 where
+pub record BlockFitsFields (b : CodeBlock) : Type 0 where
+  -- the statement count fits 16 bits
   pub lines : length b.lines < 65536
+  -- the code length fits 32 bits
   pub code : length (code_bytes b.code) < 4294967296
 
 -- the length of a data block fits its field, and so does the number of its instance plus 1
-pub record DataFits (d : DataBlock) : Type 0 where
+pub record DataFitsFields (d : DataBlock) : Type 0 where
+  -- the length fits 16 bits
   pub bytes : length d.bytes < 65536
+  -- the number of its function block plus 1 fits 16 bits
   pub instance : number_of_instance d.instance_of < 65536
 
 -- the length of a name fits its field
-abbrev pub NameFits : NameEntry → Type 0
-NameFits e = length e.name < 256
+abbrev pub NameFitsField : NameEntry → Type 0
+NameFitsField e = length e.name < 256
 
 -- all counts and lengths of a program fit their fields
-pub record ProgramFits (p : Program) : Type 0 where
+pub record ProgramFitsFields (p : Program) : Type 0 where
+  -- the count of code blocks fits 16 bits
   pub code_count : length p.code_blocks < 65536
+  -- the count of data blocks fits 16 bits
   pub data_count : length p.data_blocks < 65536
+  -- the count of names fits 16 bits
   pub name_count : length p.names < 65536
-  pub code_blocks : All BlockFits p.code_blocks
-  pub data_blocks : All DataFits p.data_blocks
-  pub names : All NameFits p.names
+  -- so do counts and lengths of each code block
+  pub code_blocks : All BlockFitsFields p.code_blocks
+  -- and those of each data block
+  pub data_blocks : All DataFitsFields p.data_blocks
+  -- and the length of each name
+  pub names : All NameFitsField p.names
+  -- the image has at most 8,388,608 bytes
   pub total : front_size + length ((body false).spell p) ≤ 8388608

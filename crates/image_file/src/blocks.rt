@@ -1,9 +1,9 @@
 //! The code blocks of an image.
 ghost use Rattle.std.specs.Prelude.{true, ◌≡◌, ◌+◌, ◌*◌, ◌<◌, ◌≤◌, ◌^◌, length, OnOk, IfOk, vec_len};
-ghost use Rattle.flat_code.specs.Codes.{code_of, code_bytes};
-ghost use Rattle.flat_code.specs.Image.{Head, head, parameter, parameters, end_marks, lines_of, line_field, line_after, code_and_lines, plain_block, code_block, code_blocks};
+ghost use Rattle.flat_code.specs.Codes.{code_layout, code_bytes};
+ghost use Rattle.flat_code.specs.Image.{Head, head_layout, parameter_layout, parameters, end_marks, lines_layout, line_field, line_after, code_and_lines, plain_block, code_block_layout, code_blocks};
 ghost use Rattle.flat_code.specs.Layout.{many, chain};
-ghost use Rattle.image_file.specs.Running.{seen, run, place_of, log_of, head_values, Sees, SeesBlock, SeesBlocks};
+ghost use Rattle.image_file.specs.Running.{reader_run, run_layout, reader_cursor, log_of, head_values, Sees, SeesBlock, SeesBlocks};
 
 use crate::codes::ops_in;
 use crate::reader::Reader;
@@ -43,11 +43,11 @@ fn code_start(at: u32, block: &BlockRead) -> u32
 }
 
 impl Reader<'_> {
-    #[tactic(auto, unfolding(flat_code::specs::Image::head, flat_code::specs::Image::head_rows), using(crate::proofs::RunLemmas::run_seen, crate::proofs::RunLemmas::run_chain))]
+    #[tactic(auto, unfolding(flat_code::specs::Image::head_layout, flat_code::specs::Image::head_rows), using(crate::proofs::RunLemmas::run_seen, crate::proofs::RunLemmas::run_chain))]
     fn head(&mut self, kind_before: u8, before: u16) -> Result<HeadRead, Ended>
         requires { self.old.at + length self.old.rest.now < 2 ^ 32 }
-        ensures read { seen head_values result self.new
-            ≡ run (head (kind_before, before)) (place_of self.old) (log_of self.old) }
+        ensures read { reader_run head_values result self.new
+            ≡ run_layout (head_layout (kind_before, before)) (reader_cursor self.old) (log_of self.old) }
         ensures all { self.new.at + length self.new.rest.now
             ≡ self.old.at + length self.old.rest.now }
         ensures step { OnOk result (self.new.at ≡ self.old.at + 16) }
@@ -72,11 +72,11 @@ impl Reader<'_> {
         })
     }
 
-    #[tactic(auto, unfolding(flat_code::specs::Image::parameter, flat_code::specs::Image::parameter_rows), using(crate::proofs::RunLemmas::run_seen, crate::proofs::RunLemmas::run_chain))]
+    #[tactic(auto, unfolding(flat_code::specs::Image::parameter_layout, flat_code::specs::Image::parameter_rows), using(crate::proofs::RunLemmas::run_seen, crate::proofs::RunLemmas::run_chain))]
     fn parameter(&mut self, kind: u8, instance: u16) -> Result<ParameterRecord, Ended>
         requires { self.old.at + length self.old.rest.now < 2 ^ 32 }
-        ensures read { seen (λ p. p) result self.new
-            ≡ run (parameter kind instance) (place_of self.old) (log_of self.old) }
+        ensures read { reader_run (λ p. p) result self.new
+            ≡ run_layout (parameter_layout kind instance) (reader_cursor self.old) (log_of self.old) }
         ensures all { self.new.at + length self.new.rest.now
             ≡ self.old.at + length self.old.rest.now }
         ensures step { OnOk result (self.new.at ≡ self.old.at + 6) }
@@ -97,8 +97,8 @@ impl Reader<'_> {
     #[tactic(auto, unfolding(flat_code::specs::Image::parameters))]
     fn parameters(&mut self, alloc: Global, head: HeadRead) -> Result<Vec<ParameterRecord>, Stop>
         requires { self.old.at + length self.old.rest.now < 2 ^ 32 }
-        ensures read { Sees (λ v. v.items) result self.new (run (parameters (head_values head))
-            (place_of self.old) (log_of self.old)) }
+        ensures read { Sees (λ v. v.items) result self.new (run_layout (parameters (head_values head))
+            (reader_cursor self.old) (log_of self.old)) }
         ensures all { OnOk result (self.new.at + length self.new.rest.now
             ≡ self.old.at + length self.old.rest.now) }
         ensures step { IfOk result (λ v. self.new.at ≡ self.old.at + 6 * vec_len v) }
@@ -114,11 +114,11 @@ impl Reader<'_> {
     }
 
     /// The code of a block.
-    #[tactic(auto, unfolding(crate::specs::Running::run, crate::specs::Running::logged, crate::specs::Least::with_faults, flat_code::specs::Codes::code_of))]
+    #[tactic(auto, unfolding(crate::specs::Running::run_layout, crate::specs::Running::log_after, crate::specs::Least::with_faults, flat_code::specs::Codes::code_layout))]
     fn code(&mut self, alloc: Global, size: u32) -> Result<Vec<Op>, Stop>
         requires { self.old.at + length self.old.rest.now < 2 ^ 32 }
-        ensures read { Sees (λ v. v.items) result self.new (run (code_of true size)
-            (place_of self.old) (log_of self.old)) }
+        ensures read { Sees (λ v. v.items) result self.new (run_layout (code_layout true size)
+            (reader_cursor self.old) (log_of self.old)) }
         ensures all { OnOk result (self.new.at + length self.new.rest.now
             ≡ self.old.at + length self.old.rest.now) }
         ensures room { IfOk result (λ v. length (code_bytes v.items)
@@ -145,8 +145,8 @@ impl Reader<'_> {
 
     fn lines(&mut self, alloc: Global, count: u16) -> Result<Vec<u32>, Stop>
         requires { self.old.at + length self.old.rest.now < 2 ^ 32 }
-        ensures read { Sees (λ v. v.items) result self.new (run (many
-            (line_field true) line_after 0 count) (place_of self.old) (log_of self.old)) }
+        ensures read { Sees (λ v. v.items) result self.new (run_layout (many
+            (line_field true) line_after 0 count) (reader_cursor self.old) (log_of self.old)) }
         ensures all { OnOk result (self.new.at + length self.new.rest.now
             ≡ self.old.at + length self.old.rest.now) }
     {
@@ -161,7 +161,7 @@ impl Reader<'_> {
     }
 
     /// The statement count, which is checked now, and the lines.
-    #[tactic(auto, unfolding(flat_code::specs::Image::lines_of), using(crate::proofs::RunLemmas::run_checked))]
+    #[tactic(auto, unfolding(flat_code::specs::Image::lines_layout), using(crate::proofs::RunLemmas::run_checked))]
     fn counted_lines(
         &mut self,
         alloc: Global,
@@ -171,13 +171,13 @@ impl Reader<'_> {
     ) -> Result<Vec<u32>, Stop>
         requires fits { self.old.at + length self.old.rest.now < 2 ^ 32 }
         requires room { start + 8 < 2 ^ 32 }
-        ensures read { Sees (λ v. v.items) result self.new (run (lines_of true start
-            (head_values head) ops.now) (place_of self.old) (log_of self.old)) }
+        ensures read { Sees (λ v. v.items) result self.new (run_layout (lines_layout true start
+            (head_values head) ops.now) (reader_cursor self.old) (log_of self.old)) }
         ensures all { OnOk result (self.new.at + length self.new.rest.now
             ≡ self.old.at + length self.old.rest.now) }
     {
         let end_marks = end_mark_count(ops);
-        self.judge(
+        self.check(
             start + 8,
             Field::StatementCount {
                 end_marks,
@@ -198,8 +198,8 @@ impl Reader<'_> {
     ) -> Result<(Vec<Op>, Vec<u32>), Stop>
         requires fits { self.old.at + length self.old.rest.now < 2 ^ 32 }
         requires room { start + 8 < 2 ^ 32 }
-        ensures read { Sees (λ r. (r.0.items, r.1.items)) result self.new (run
-            (code_and_lines true start (head_values head)) (place_of self.old) (log_of self.old)) }
+        ensures read { Sees (λ r. (r.0.items, r.1.items)) result self.new (run_layout
+            (code_and_lines true start (head_values head)) (reader_cursor self.old) (log_of self.old)) }
         ensures all { OnOk result (self.new.at + length self.new.rest.now
             ≡ self.old.at + length self.old.rest.now) }
         ensures room { IfOk result (λ r. length (code_bytes r.0.items)
@@ -219,8 +219,8 @@ impl Reader<'_> {
         before: u16,
     ) -> Result<BlockRead, Stop>
         requires { self.old.at + length self.old.rest.now + 8 < 2 ^ 32 }
-        ensures read { Sees (λ b. b) result self.new (run (plain_block true
-            (kind_before, before) self.old.at) (place_of self.old) (log_of self.old)) }
+        ensures read { Sees (λ b. b) result self.new (run_layout (plain_block true
+            (kind_before, before) self.old.at) (reader_cursor self.old) (log_of self.old)) }
         ensures all { OnOk result (self.new.at + length self.new.rest.now
             ≡ self.old.at + length self.old.rest.now) }
         ensures room { IfOk result
@@ -244,11 +244,11 @@ impl Reader<'_> {
     }
 
     /// A code block, which is kept. Its kind and number are answered.
-    #[tactic(auto, unfolding(flat_code::specs::Image::code_block, crate::specs::Running::logged, crate::specs::Least::with_faults), using(crate::proofs::RunLemmas::run_located, crate::proofs::RunLemmas::run_remembered))]
+    #[tactic(auto, unfolding(flat_code::specs::Image::code_block_layout, crate::specs::Running::log_after, crate::specs::Least::with_faults), using(crate::proofs::RunLemmas::run_located, crate::proofs::RunLemmas::run_remembered))]
     fn code_block(&mut self, alloc: Global, kind_before: u8, before: u16) -> Result<(u8, u16), Stop>
         requires { self.old.at + length self.old.rest.now + 2000 < 2 ^ 32 }
-        ensures read { SeesBlock result self.new (run (code_block true (kind_before, before))
-            (place_of self.old) (log_of self.old)) }
+        ensures read { SeesBlock result self.new (run_layout (code_block_layout true (kind_before, before))
+            (reader_cursor self.old) (log_of self.old)) }
         ensures all { OnOk result (self.new.at + length self.new.rest.now
             ≡ self.old.at + length self.old.rest.now) }
     {
@@ -264,8 +264,8 @@ impl Reader<'_> {
     #[tactic(auto, unfolding(flat_code::specs::Image::code_blocks))]
     pub(crate) fn code_blocks(&mut self, alloc: Global, count: u16) -> Result<(), Stop>
         requires { self.old.at + length self.old.rest.now + 2000 < 2 ^ 32 }
-        ensures read { SeesBlocks result self.new (run (code_blocks true count)
-            (place_of self.old) (log_of self.old)) }
+        ensures read { SeesBlocks result self.new (run_layout (code_blocks true count)
+            (reader_cursor self.old) (log_of self.old)) }
         ensures all { OnOk result (self.new.at + length self.new.rest.now
             ≡ self.old.at + length self.old.rest.now) }
     {

@@ -1,8 +1,8 @@
 //! Calls: what a CALL, UC or CC may not do, and what its PASS ops may not pass.
 ghost use Rattle.std.specs.Prelude.{◌≡◌, None};
-ghost use Rattle.flat_code.specs.Placed.{is_empty, Placed, last_op};
-ghost use Rattle.flat_code.specs.Blocks.{Callee, is_short, is_bad_instance, is_bad_call, are_passed, misfits_index, misfits_callee, misfits_call, callee};
-ghost use Rattle.image_file.specs.Judging.{around_of};
+ghost use Rattle.flat_code.specs.Placed.{is_empty_list, Placed, last_op};
+ghost use Rattle.flat_code.specs.Blocks.{CalleeSeen, is_short, is_bad_instance, is_bad_call, are_passed, misfits_index, misfits_callee, misfits_call, callee};
+ghost use Rattle.image_file.specs.OpChecking.{around_of};
 
 use crate::numbers::FUNCTION_BLOCK;
 use crate::operands::{is_passed, misfits_parameter};

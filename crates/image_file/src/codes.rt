@@ -1,7 +1,7 @@
 //! The ops of a block's code.
 ghost use Rattle.std.specs.Prelude.{◌≡◌, ◌==◌, ◌&&◌, ◌+◌, ◌<◌, ◌≤◌, ◌^◌, length, None, IfOk, IfSome, true, suc, if◌then◌else◌};
 ghost use Rattle.flat_code.specs.Codes.{ops_from, stop_at, code_bytes};
-ghost use Rattle.flat_code.specs.OpCodes.{code_of};
+ghost use Rattle.flat_code.specs.OpCodes.{op_code_of};
 ghost use Rattle.flat_code.specs.declared.operations.EndOperation.TheVariants as ends;
 ghost use Rattle.flat_code.specs.declared.operations.Operation.TheVariants as operation;
 
@@ -19,7 +19,7 @@ pub(crate) struct OpsFound {
 
 /// Whether an op is BE with the end mark.
 pub(crate) fn is_end(op: &Op) -> bool
-    ensures { result ≡ (op.now.code == code_of (operation.End ends.Be) && op.now.last) }
+    ensures { result ≡ (op.now.code == op_code_of (operation.End ends.Be) && op.now.last) }
 {
     op.code == BLOCK_END && op.last
 }

@@ -1,9 +1,9 @@
 //! The data blocks and the names of an image.
 ghost use Rattle.std.specs.Prelude.{true, ◌≡◌, ◌+◌, ◌≤◌, ◌<◌, ◌^◌, length, [], OnOk, IfOk, vec_len};
 ghost use Rattle.flat_code.specs.Faults.{name_fault};
-ghost use Rattle.flat_code.specs.Image.{instance_of_number, contents, data_block, plain_data_blocks, name_bytes, name_record, after_name};
+ghost use Rattle.flat_code.specs.Image.{instance_of_number, contents, data_block_layout, plain_data_blocks, name_bytes, name_record, after_name};
 ghost use Rattle.flat_code.specs.Layout.{many};
-ghost use Rattle.image_file.specs.Running.{seen, run, place_of, log_of, name_values, Sees};
+ghost use Rattle.image_file.specs.Running.{reader_run, run_layout, reader_cursor, log_of, name_values, Sees};
 
 use crate::reader::Reader;
 use crate::records::NameRead;
@@ -46,8 +46,8 @@ impl<'a> Reader<'a> {
     #[tactic(auto, unfolding(flat_code::specs::Image::contents))]
     fn contents(&mut self, alloc: Global, count: u16) -> Result<Vec<u8>, Stop>
         requires { self.old.at + length self.old.rest.now < 2 ^ 32 }
-        ensures read { Sees (λ v. v.items) result self.new (run (contents count)
-            (place_of self.old) (log_of self.old)) }
+        ensures read { Sees (λ v. v.items) result self.new (run_layout (contents count)
+            (reader_cursor self.old) (log_of self.old)) }
         ensures all { OnOk result (self.new.at + length self.new.rest.now
             ≡ self.old.at + length self.old.rest.now) }
         ensures small { IfOk result (λ v. vec_len v ≡ count) }
@@ -58,11 +58,11 @@ impl<'a> Reader<'a> {
     }
 
     /// A data block behind another one and so many bytes of data blocks together.
-    #[tactic(auto, unfolding(flat_code::specs::Image::data_block, flat_code::specs::Image::data_rows), using(crate::proofs::RunLemmas::run_seen, crate::proofs::RunLemmas::run_chain))]
+    #[tactic(auto, unfolding(flat_code::specs::Image::data_block_layout, flat_code::specs::Image::data_rows), using(crate::proofs::RunLemmas::run_seen, crate::proofs::RunLemmas::run_chain))]
     fn data_block(&mut self, alloc: Global, before: u16, sum: u32) -> Result<DataBlock, Stop>
         requires { self.old.at + length self.old.rest.now < 2 ^ 32 }
-        ensures read { Sees (λ d. d) result self.new (run (data_block (before, sum))
-            (place_of self.old) (log_of self.old)) }
+        ensures read { Sees (λ d. d) result self.new (run_layout (data_block_layout (before, sum))
+            (reader_cursor self.old) (log_of self.old)) }
         ensures all { OnOk result (self.new.at + length self.new.rest.now
             ≡ self.old.at + length self.old.rest.now) }
         ensures small { IfOk result (λ d. length d.bytes ≤ 65535) }
@@ -85,8 +85,8 @@ impl<'a> Reader<'a> {
         count: u16,
     ) -> Result<Vec<DataBlock>, Stop>
         requires { self.old.at + length self.old.rest.now < 2 ^ 32 }
-        ensures read { Sees (λ v. v.items) result self.new (run (plain_data_blocks count)
-            (place_of self.old) (log_of self.old)) }
+        ensures read { Sees (λ v. v.items) result self.new (run_layout (plain_data_blocks count)
+            (reader_cursor self.old) (log_of self.old)) }
         ensures all { OnOk result (self.new.at + length self.new.rest.now
             ≡ self.old.at + length self.old.rest.now) }
     {
@@ -104,11 +104,11 @@ impl<'a> Reader<'a> {
     }
 
     /// The bytes of a name behind another name.
-    #[tactic(auto, unfolding(crate::specs::Running::run, crate::specs::Running::logged, crate::specs::Least::with_faults, flat_code::specs::Image::name_bytes))]
+    #[tactic(auto, unfolding(crate::specs::Running::run_layout, crate::specs::Running::log_after, crate::specs::Least::with_faults, flat_code::specs::Image::name_bytes))]
     fn name_text(&mut self, before: &[u8], count: u8) -> Result<&'a [u8], Ended>
         requires { self.old.at + length self.old.rest.now < 2 ^ 32 }
-        ensures read { seen (λ s. s.now) result self.new
-            ≡ run (name_bytes before.now count) (place_of self.old) (log_of self.old) }
+        ensures read { reader_run (λ s. s.now) result self.new
+            ≡ run_layout (name_bytes before.now count) (reader_cursor self.old) (log_of self.old) }
         ensures all { self.new.at + length self.new.rest.now
             ≡ self.old.at + length self.old.rest.now }
     {
@@ -124,8 +124,8 @@ impl<'a> Reader<'a> {
     #[tactic(auto, unfolding(flat_code::specs::Image::name_record, flat_code::specs::Image::name_rows), using(crate::proofs::RunLemmas::run_seen, crate::proofs::RunLemmas::run_chain))]
     fn name(&mut self, before: &[u8]) -> Result<(&'a [u8], u8, u8, u16, u8), Ended>
         requires { self.old.at + length self.old.rest.now < 2 ^ 32 }
-        ensures read { seen name_values result self.new
-            ≡ run (name_record before.now) (place_of self.old) (log_of self.old) }
+        ensures read { reader_run name_values result self.new
+            ≡ run_layout (name_record before.now) (reader_cursor self.old) (log_of self.old) }
         ensures all { self.new.at + length self.new.rest.now
             ≡ self.old.at + length self.old.rest.now }
     {
@@ -140,8 +140,8 @@ impl<'a> Reader<'a> {
 
     pub(crate) fn names(&mut self, alloc: Global, count: u16) -> Result<Vec<NameRead>, Stop>
         requires { self.old.at + length self.old.rest.now < 2 ^ 32 }
-        ensures read { Sees (λ v. v.items) result self.new (run
-            (many name_record after_name [] count) (place_of self.old) (log_of self.old)) }
+        ensures read { Sees (λ v. v.items) result self.new (run_layout
+            (many name_record after_name [] count) (reader_cursor self.old) (log_of self.old)) }
         ensures all { OnOk result (self.new.at + length self.new.rest.now
             ≡ self.old.at + length self.old.rest.now) }
     {

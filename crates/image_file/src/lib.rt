@@ -4,13 +4,13 @@
 mod block_table;
 mod blocks;
 mod calls;
+mod checking;
 mod codes;
 mod copies;
 mod data;
 mod faults;
 mod fields;
 mod heads;
-mod judging;
 pub mod laws;
 mod loaded;
 mod loaded_blocks;

@@ -1,6 +1,6 @@
 ghost use Rattle.std.specs.Prelude.{◌≡◌, ◌++◌, map, slice_get, IfOk};
 ghost use Rattle.std.specs.Option.{option_map};
-ghost use Rattle.image_file.specs.Readers.{block_of, data_id, bytes_of};
+ghost use Rattle.image_file.specs.Readers.{block_by_id, data_block_id, data_bytes_of};
 ghost use Rattle.image_file.specs.Tables.{AreSmall, FindsBlocks, HaveSlots};
 
 use crate::block_table::{block_table, id_of, place_in};
@@ -66,7 +66,7 @@ fn ids_of(
     data_blocks: &[DataBlock],
 ) -> Result<Vec<BlockId>, NoMemory>
     ensures { IfOk result (λ v. v.items
-        ≡ map (λ b. b.id) code_blocks.now ++ map data_id data_blocks.now) }
+        ≡ map (λ b. b.id) code_blocks.now ++ map data_block_id data_blocks.now) }
 {
     let mut ids = Vec::new(alloc);
     for block in code_blocks {
@@ -79,7 +79,7 @@ fn ids_of(
 }
 
 fn data_id(block: &DataBlock) -> BlockId
-    ensures { result ≡ data_id block.now }
+    ensures { result ≡ data_block_id block.now }
 {
     BlockId {
         kind: BlockKind::Db,
@@ -98,7 +98,7 @@ fn block_at(blocks: &[LoadedBlock], place: usize) -> Option<&LoadedBlock>
 fn block_of<'a>(blocks: &'a [LoadedBlock], table: &[u16], block: BlockId) -> Option<&'a LoadedBlock>
     requires finds { FindsBlocks blocks.now table.now }
     requires slots { HaveSlots blocks.now }
-    ensures { option_map (λ b. b.now) result ≡ block_of block blocks.now }
+    ensures { option_map (λ b. b.now) result ≡ block_by_id block blocks.now }
 {
     let place = place_in(table, block)?;
     block_at(blocks, place)
@@ -106,7 +106,7 @@ fn block_of<'a>(blocks: &'a [LoadedBlock], table: &[u16], block: BlockId) -> Opt
 
 /// The bytes of the data block of a number.
 fn bytes_of(number: u16, blocks: &[DataBlock]) -> Option<&[u8]>
-    ensures { option_map (λ d. d.now) result ≡ bytes_of number blocks.now }
+    ensures { option_map (λ d. d.now) result ≡ data_bytes_of number blocks.now }
 {
     for block in blocks {
         if block.number == number {
@@ -121,7 +121,7 @@ impl Loaded {
     ghost use Rattle.std.specs.Option.{option_map};
     ghost use Rattle.flat_code.specs.Codes.{code_bytes};
     ghost use Rattle.flat_code.specs.Loading.{Verifies};
-    ghost use Rattle.image_file.specs.Readers.{block_of, op_of, line_of, bytes_of, ids_of, head_of};
+    ghost use Rattle.image_file.specs.Readers.{block_by_id, op_at_offset, line_at_offset, data_bytes_of, block_ids, code_block_head};
 
     /// Takes a program over that verifies.
     pub(crate) fn new(alloc: Global, program: Program, profile: Profile) -> Result<Self, NoMemory>
@@ -178,14 +178,14 @@ impl Loaded {
 
     /// The blocks: code blocks, then data blocks, in the image's order.
     pub fn blocks(&self) -> &[BlockId]
-        ensures { result.now ≡ ids_of self.now.program }
+        ensures { result.now ≡ block_ids self.now.program }
     {
         self.ids.as_slice()
     }
 
     /// A code block. `None` exactly where it isn't a loaded code block.
     pub fn block(&self, block: BlockId) -> Option<LoadedCode<'_>>
-        ensures { result ≡ block_of block self.now.program.code_blocks }
+        ensures { result ≡ block_by_id block self.now.program.code_blocks }
     {
         let block = block_of(self.blocks.as_slice(), self.table.as_slice(), block)?;
         Some(LoadedCode::new(block))
@@ -195,7 +195,7 @@ impl Loaded {
     /// block.
     pub fn code(&self, block: BlockId) -> Option<&[u8]>
         ensures { option_map (λ s. s.now) result
-            ≡ option_map (λ b. code_bytes b.code) (block_of block self.now.program.code_blocks) }
+            ≡ option_map (λ b. code_bytes b.code) (block_by_id block self.now.program.code_blocks) }
     {
         let block = block_of(self.blocks.as_slice(), self.table.as_slice(), block)?;
         Some(block.code())
@@ -203,7 +203,7 @@ impl Loaded {
 
     /// The head of a block. `None` exactly where it isn't a loaded code block.
     pub fn head(&self, block: BlockId) -> Option<Head>
-        ensures { result ≡ option_map head_of (block_of block self.now.program.code_blocks) }
+        ensures { result ≡ option_map code_block_head (block_by_id block self.now.program.code_blocks) }
     {
         Some(self.block(block)?.head())
     }
@@ -211,7 +211,7 @@ impl Loaded {
     /// The op of a block that begins at an offset in bytes, and the offset after it. `None` exactly
     /// where no op of the block begins there.
     pub fn op(&self, block: BlockId, at: u32) -> Option<(Op, u32)>
-        ensures { result ≡ op_of block at self.now.program.code_blocks }
+        ensures { result ≡ op_at_offset block at self.now.program.code_blocks }
     {
         self.block(block)?.op(at)
     }
@@ -219,14 +219,14 @@ impl Loaded {
     /// The source line of the statement of a block that begins at an offset in bytes. `None` exactly
     /// where no statement of the block begins there.
     pub fn line(&self, block: BlockId, at: u32) -> Option<u32>
-        ensures { result ≡ line_of block at self.now.program.code_blocks }
+        ensures { result ≡ line_at_offset block at self.now.program.code_blocks }
     {
         self.block(block)?.line(at)
     }
 
     /// The bytes with which a data block begins. `None` exactly where there is none of the number.
     pub fn data_block(&self, number: u16) -> Option<&[u8]>
-        ensures { option_map (λ d. d.now) result ≡ bytes_of number self.now.program.data_blocks }
+        ensures { option_map (λ d. d.now) result ≡ data_bytes_of number self.now.program.data_blocks }
     {
         bytes_of(number, self.data_blocks.as_slice())
     }

@@ -1,7 +1,7 @@
 ghost use Rattle.std.specs.Prelude.{◌≡◌, ◌<◌, ◌≤◌, length, IfOk};
 ghost use Rattle.flat_code.specs.Codes.{code_bytes};
 ghost use Rattle.image_file.specs.Marks.{IsInPlace};
-ghost use Rattle.image_file.specs.Tables.{IsSmall};
+ghost use Rattle.image_file.specs.Tables.{HasSmallCode};
 
 use crate::marks::encoded;
 use arrayvec::ArrayVec;
@@ -25,7 +25,7 @@ pub(crate) struct LoadedBlock {
 
 impl Model for LoadedBlock {
     ghost use Rattle.flat_code.specs.Programs.{CodeBlock as CodeBlockData};
-    ghost use Rattle.image_file.specs.Marks.{ops_in, IsInPlace};
+    ghost use Rattle.image_file.specs.Marks.{ops_of_bytes, IsInPlace};
 
     ghost Value = { CodeBlockData };
 
@@ -34,7 +34,7 @@ impl Model for LoadedBlock {
       local_len = b.local_len;
       instance_len = b.instance_len;
       params = b.params.items;
-      code = ops_in b.bytes.items;
+      code = ops_of_bytes b.bytes.items;
       lines = b.lines.items;
     } };
 
@@ -43,7 +43,7 @@ impl Model for LoadedBlock {
       local_len = b.local_len;
       instance_len = b.instance_len;
       params = b.params.items;
-      code = ops_in b.bytes.items;
+      code = ops_of_bytes b.bytes.items;
       lines = b.lines.items;
     }) b.bytes.items b.marks.items b.lines.items };
 }
@@ -51,7 +51,7 @@ impl Model for LoadedBlock {
 impl LoadedBlock {
     /// Puts the code of a block in place.
     pub(crate) fn new(alloc: Global, block: CodeBlock) -> Result<Self, NoMemory>
-        requires { IsSmall block }
+        requires { HasSmallCode block }
         ensures { IfOk result (λ b. b ≡ block) }
     {
         let (bytes, marks) = encoded(alloc, block.code.as_slice())?;

@@ -45,7 +45,7 @@ fn line_of(lines: &[u32], mark: u32) -> Option<u32>
 impl<'a> LoadedCode<'a> {
     ghost use Rattle.std.specs.Prelude.{◌≡◌, ◌≤◌, length, true};
     ghost use Rattle.flat_code.specs.Placed.{op_placed, line_placed};
-    ghost use Rattle.image_file.specs.Readers.{head_of};
+    ghost use Rattle.image_file.specs.Readers.{code_block_head};
 
     /// The code of a block.
     pub(crate) fn new(block: &'a LoadedBlock) -> Self
@@ -61,7 +61,7 @@ impl<'a> LoadedCode<'a> {
 
     /// What the block's head says.
     pub fn head(&self) -> Head
-        ensures { result ≡ head_of self.now }
+        ensures { result ≡ code_block_head self.now }
     {
         let block = self.block;
         Head {

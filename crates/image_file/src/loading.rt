@@ -3,14 +3,14 @@ ghost use Rattle.std.specs.Prelude.{ℕ, ◌≡◌, ◌++◌, ◌∷◌, [], ◌
 ghost use Rattle.std.specs.Option.{option_map};
 ghost use Rattle.flat_code.specs.Blocks.{signature_of, block_faults};
 ghost use Rattle.flat_code.specs.Image.{IsProgram, read_image};
-ghost use Rattle.flat_code.specs.Loading.{lens_of, blocks_of, judged_blocks, faults_of, Verifies};
+ghost use Rattle.flat_code.specs.Loading.{lens_of, blocks_of, op_faults_of_blocks, faults_of, Verifies};
 ghost use Rattle.flat_code.specs.Stamps.{profile_of};
 ghost use Rattle.flat_code.specs.declared.stamps.Stamp.TheVariants as stamps;
 ghost use Rattle.image_file.specs.Images.{GivesBack, IsImageOf};
-ghost use Rattle.image_file.specs.Judging.{around_of};
+ghost use Rattle.image_file.specs.OpChecking.{around_of};
 ghost use Rattle.image_file.specs.Least.{with_faults};
-ghost use Rattle.image_file.specs.Refusing.{IsRefusedBy};
-ghost use Rattle.image_file.specs.Running.{started, found_values, judged_read, ran_read, log_of, program_read, HoldsAll, IsJudged, SeesFound};
+ghost use Rattle.image_file.specs.Refusing.{IsLoadError};
+ghost use Rattle.image_file.specs.Running.{started_block, found_values, checked_faults, run_of_read, log_of, program_read, HoldsAll, IsCheckResult, SeesFound};
 ghost use Rattle.image_file.specs.Typing.{AreFew};
 
 use crate::faults::LoadFault;
@@ -21,7 +21,7 @@ use crate::refusing::LoadError;
 use crate::stops::Stop;
 use crate::surroundings::{DataLens, SignatureRead, Signatures, Surroundings};
 use crate::typing::program;
-use crate::verifying::judge_block;
+use crate::verifying::check_block;
 use crate::writing::write_stamped;
 use flat_code::{DataBlock, Program, Stamp};
 use plc_base::{NoMemory, Profile};
@@ -41,7 +41,7 @@ fn signature(alloc: Global, block: &BlockRead) -> Result<SignatureRead, NoMemory
 }
 
 fn signatures(alloc: Global, blocks: &[Started]) -> Result<Signatures, NoMemory>
-    ensures { IfOk result (λ s. s ≡ map signature_of (blocks_of (map started blocks.now))) }
+    ensures { IfOk result (λ s. s ≡ map signature_of (blocks_of (map started_block blocks.now))) }
 {
     let mut signatures = Vec::new(alloc);
     for started in blocks {
@@ -94,27 +94,27 @@ fn ref_of(lens: &Option<DataLens>) -> Option<&DataLens>
 }
 
 /// The lesser of the fault so far and those of the ops of blocks.
-fn judge_blocks(
+fn check_blocks(
     alloc: Global,
     signatures: &Signatures,
     lens: &Option<DataLens>,
     blocks: &[Started],
     least: Option<LoadFault>,
 ) -> Result<Option<LoadFault>, NoMemory>
-    requires { signatures.now ≡ map signature_of (blocks_of (map started blocks.now)) }
+    requires { signatures.now ≡ map signature_of (blocks_of (map started_block blocks.now)) }
     ensures { IfOk result (λ l. l
-        ≡ with_faults least (judged_blocks lens.now (blocks_of
-        (map started blocks.now)) (map started blocks.now))) }
+        ≡ with_faults least (op_faults_of_blocks lens.now (blocks_of
+        (map started_block blocks.now)) (map started_block blocks.now))) }
 {
     let mut least = least;
     for started in blocks {
-        least = judge_started(alloc, signatures, lens, started, least)?;
+        least = check_started(alloc, signatures, lens, started, least)?;
     }
     Ok(least)
 }
 
 /// The lesser of the fault so far and those of the ops of a block.
-fn judge_started(
+fn check_started(
     alloc: Global,
     signatures: &Signatures,
     lens: &Option<DataLens>,
@@ -137,7 +137,7 @@ fn judge_started(
         blocks: signatures,
         data_lens: ref_of(lens),
     };
-    judge_block(alloc, &around, started.start, block.code.as_slice(), least)
+    check_block(alloc, &around, started.start, block.code.as_slice(), least)
 }
 
 /// The records of an image that was read whole, with its version and profile.
@@ -151,7 +151,7 @@ pub(crate) struct ImageRead {
 
 /// Bytes that were read and checked: the least of their faults, or all that they hold.
 #[derive(Drop)]
-pub(crate) enum Judged {
+pub(crate) enum CheckResult {
     Faulty { fault: LoadFault },
     Clean { image: ImageRead },
 }
@@ -159,7 +159,7 @@ pub(crate) enum Judged {
 /// The version and profile and the names, or none where reading ended at a fault.
 fn found_by(alloc: Global, reader: &mut Reader) -> Result<Option<FoundRead>, NoMemory>
     requires { reader.old.at ≡ 0 }
-    ensures { IfOk result (λ f. SeesFound (option_map found_values f) reader.new (ran_read
+    ensures { IfOk result (λ f. SeesFound (option_map found_values f) reader.new (run_of_read
         (read_image reader.old.rest.now) (log_of reader.old))) }
 {
     match reader.image(alloc) {
@@ -172,12 +172,12 @@ fn found_by(alloc: Global, reader: &mut Reader) -> Result<Option<FoundRead>, NoM
 /// The least of the faults so far and those of the ops of the blocks that were read.
 fn least_fault(alloc: Global, reader: &Reader) -> Result<Option<LoadFault>, NoMemory>
     ensures { IfOk result
-        (λ l. l ≡ with_faults reader.now.least (judged_read (log_of reader.now))) }
+        (λ l. l ≡ with_faults reader.now.least (checked_faults (log_of reader.now))) }
 {
     let blocks = reader.blocks.as_slice();
     let signatures = signatures(alloc, blocks)?;
     let lens = data_lens(alloc, &reader.datas)?;
-    judge_blocks(alloc, &signatures, &lens, blocks, reader.least)
+    check_blocks(alloc, &signatures, &lens, blocks, reader.least)
 }
 
 /// What was read, whose least fault is known. Where there is none, all was read.
@@ -186,18 +186,18 @@ fn outcome_of(
     blocks: Vec<Started>,
     datas: Option<Vec<DataBlock>>,
     found: Option<FoundRead>,
-) -> Judged
+) -> CheckResult
     requires found { least ≡ None → IsSome found }
     requires datas { least ≡ None → IsSome datas }
     ensures { HoldsAll least blocks.items (option_map (λ v. v.items) datas) found result }
 {
     match least {
-        Some(fault) => Judged::Faulty { fault },
+        Some(fault) => CheckResult::Faulty { fault },
         None => match found {
             None => unreachable!(),
             Some(found) => match datas {
                 None => unreachable!(),
-                Some(data_blocks) => Judged::Clean {
+                Some(data_blocks) => CheckResult::Clean {
                     image: ImageRead {
                         stamp: found.stamp,
                         blocks,
@@ -211,8 +211,8 @@ fn outcome_of(
 }
 
 /// Reads bytes as an image and checks them.
-fn judge(alloc: Global, bytes: &[u8]) -> Result<Judged, NoMemory>
-    ensures { IfOk result (λ j. IsJudged bytes.now j) }
+fn check(alloc: Global, bytes: &[u8]) -> Result<CheckResult, NoMemory>
+    ensures { IfOk result (λ j. IsCheckResult bytes.now j) }
 {
     let mut reader = Reader {
         rest: bytes,
@@ -229,7 +229,7 @@ fn judge(alloc: Global, bytes: &[u8]) -> Result<Judged, NoMemory>
 /// The program of an image without fault.
 fn loaded(alloc: Global, image: ImageRead) -> Result<Loaded, NoMemory>
     requires program { IsProgram (program_read image) }
-    requires few { AreFew (blocks_of (map started image.blocks.items)) }
+    requires few { AreFew (blocks_of (map started_block image.blocks.items)) }
     requires verifies { Verifies (program_read image) }
     ensures program { IfOk result (λ l. l.program ≡ program_read image) }
     ensures profile { IfOk result (λ l. l.profile ≡ profile_of image.stamp) }
@@ -248,11 +248,11 @@ fn loaded(alloc: Global, image: ImageRead) -> Result<Loaded, NoMemory>
 /// code; `NoMemory`.
 pub fn load(alloc: Global, bytes: &[u8]) -> Result<Loaded, LoadError>
     ensures gives { IfOk result (λ l. IsImageOf bytes.now l) }
-    ensures refused { IfErr result (λ e. IsRefusedBy e (faults_of bytes.now)) }
+    ensures refused { IfErr result (λ e. IsLoadError e (faults_of bytes.now)) }
 {
-    match judge(alloc, bytes)? {
-        Judged::Faulty { fault } => Err(LoadError::Fault { fault }),
-        Judged::Clean { image } => {
+    match check(alloc, bytes)? {
+        CheckResult::Faulty { fault } => Err(LoadError::Fault { fault }),
+        CheckResult::Clean { image } => {
             let loaded = loaded(alloc, image)?;
             Ok(loaded)
         }

@@ -2,12 +2,12 @@
 ghost use Rattle.std.specs.Prelude.{◌≡◌, ◌+◌, ◌<◌, ◌^◌, ◌||◌, ◌==◌, not, length, None};
 ghost use Rattle.std.specs.Option.{option_map};
 ghost use Rattle.flat_code.specs.Codes.{code_bytes};
-ghost use Rattle.flat_code.specs.OpCodes.{code_of};
+ghost use Rattle.flat_code.specs.OpCodes.{op_code_of};
 ghost use Rattle.flat_code.specs.declared.operations.CallOperation.TheVariants as calls;
 ghost use Rattle.flat_code.specs.declared.operations.Operation.TheVariants as operation;
-ghost use Rattle.flat_code.specs.Placed.{is_empty, ending};
-ghost use Rattle.flat_code.specs.Blocks.{is_odd_bit, is_past_locals, is_bad_place, lacks_width, writes, own_parameter, lacks_own, is_input, is_in_db, pass_index, pass_before, is_above, is_bad_actual, literal_fits, misfits_parameter, is_index, is_passed, is_ju, leads};
-ghost use Rattle.image_file.specs.Judging.{around_of};
+ghost use Rattle.flat_code.specs.Placed.{is_empty_list, ending_op};
+ghost use Rattle.flat_code.specs.Blocks.{is_odd_bit, is_past_locals, is_bad_place, lacks_width, writes_operand, parameter_meant, lacks_own, is_in_parameter, is_in_db, pass_index, pass_before, is_above, is_bad_actual, literal_fits, misfits_parameter, is_index, is_passed, is_ju_operand, leads};
+ghost use Rattle.image_file.specs.OpChecking.{around_of};
 
 use crate::numbers::{CALL, EDGE_NEGATIVE, FUNCTION, JUMP, TRANSFER};
 use crate::surroundings::Surroundings;
@@ -56,14 +56,14 @@ pub(crate) fn lacks_width(op: &Op, width: Width) -> bool
 
 /// Whether an instruction writes its operand.
 pub(crate) fn writes(code: u8) -> bool
-    ensures { result ≡ writes code }
+    ensures { result ≡ writes_operand code }
 {
     TRANSFER <= code && code <= EDGE_NEGATIVE
 }
 
 /// The parameter of the function that runs.
 pub(crate) fn own_parameter(around: &Surroundings, index: u8) -> Option<ParameterRecord>
-    ensures { result ≡ own_parameter (around_of around.now) index }
+    ensures { result ≡ parameter_meant (around_of around.now) index }
 {
     if around.kind == FUNCTION {
         around.params.get(usize::from(index)).copied()
@@ -82,7 +82,7 @@ pub(crate) fn lacks_own(parameter: Option<ParameterRecord>, width: Width) -> boo
 }
 
 pub(crate) fn is_input(parameter: Option<ParameterRecord>) -> bool
-    ensures { result ≡ is_input parameter }
+    ensures { result ≡ is_in_parameter parameter }
 {
     match parameter {
         None => false,
@@ -102,7 +102,7 @@ fn is_in_db(operand: Operand) -> bool
 
 /// The op that ends the statement of an op.
 pub(crate) fn ending(op: &Op, rest: &[Op]) -> Op
-    ensures { result ≡ ending op.now rest.now }
+    ensures { result ≡ ending_op op.now rest.now }
 {
     let mut last = *op;
     for next in rest {
@@ -116,13 +116,13 @@ pub(crate) fn ending(op: &Op, rest: &[Op]) -> Op
 
 /// Whether a USEDB isn't the first op, or the statement's last op has no place in DB.
 pub(crate) fn is_stray_use_db(before: &[Op], last: &Op) -> bool
-    ensures { result ≡ (not (is_empty before.now) || not (is_in_db last.now.operand)) }
+    ensures { result ≡ (not (is_empty_list before.now) || not (is_in_db last.now.operand)) }
 {
     !is_none_before(before) || !is_in_db(last.operand)
 }
 
 fn is_none_before(before: &[Op]) -> bool
-    ensures { result ≡ is_empty before.now }
+    ensures { result ≡ is_empty_list before.now }
 {
     match before {
         [] => true,
@@ -164,7 +164,7 @@ fn is_above(index: u8, other: Option<u8>) -> bool
 
 /// Whether a PASS has no CALL, or an index that doesn't rise.
 pub(crate) fn is_stray_pass(before: &[Op], last: &Op, index: u8) -> bool
-    ensures { result ≡ (not (last.now.code == code_of (operation.Call calls.Call))
+    ensures { result ≡ (not (last.now.code == op_code_of (operation.Call calls.Call))
         || not (is_above index (pass_before None before.now))) }
 {
     last.code != CALL || !is_above(index, pass_before(before))
@@ -246,7 +246,7 @@ fn is_index(index: usize, other: Option<u8>) -> bool
 }
 
 fn is_ju(op: &Op) -> bool
-    ensures { result ≡ is_ju op.now.operand }
+    ensures { result ≡ is_ju_operand op.now.operand }
 {
     match op.operand {
         Operand::Jump { kind, .. } => kind == JUMP,

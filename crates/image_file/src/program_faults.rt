@@ -3,23 +3,23 @@ ghost use Rattle.std.specs.Prelude.{◌≡◌, ◌<◌, length, map, All, IfOk, 
 ghost use Rattle.std.specs.Option.{option_map};
 ghost use Rattle.plc_base.specs.declared.profiles.Profile.TheVariants as profiles;
 ghost use Rattle.flat_code.specs.Blocks.{signature_of};
-ghost use Rattle.flat_code.specs.Codes.{code_bytes, code_fault, ends, last_place, overlong};
+ghost use Rattle.flat_code.specs.Codes.{code_bytes, code_fault, ends_by_be, last_place, overlong};
 ghost use Rattle.flat_code.specs.Image.{record_of_block, record_of_param};
-ghost use Rattle.flat_code.specs.Loading.{around, Verifies};
-ghost use Rattle.image_file.specs.Judging.{around_of};
+ghost use Rattle.flat_code.specs.Loading.{around_block, Verifies};
+ghost use Rattle.image_file.specs.OpChecking.{around_of};
 ghost use Rattle.image_file.specs.Least.{with_faults};
-ghost use Rattle.image_file.specs.Verifying.{are_whole, count_faults, faults_of_block, lens_judged, lens_where, line_faults, AreClean, IsFaultOf, IsFirstOf, IsUnverified};
-ghost use Rattle.image_file.specs.Writing.{BlockFits};
+ghost use Rattle.image_file.specs.Verifying.{are_whole, count_faults, faults_of_block, lens_checked, lens_where, line_faults, AreClean, IsFaultOf, IsFirstOf, IsUnverified};
+ghost use Rattle.image_file.specs.Writing.{BlockFitsFields};
 
 use crate::blocks::end_mark_count;
+use crate::checking::lesser_if;
 use crate::codes::{count_behind, is_end};
 use crate::faults::{LoadFault, VerifyFault};
-use crate::judging::lesser_if;
 use crate::loaded::Loaded;
 use crate::loading::lens_of;
 use crate::refusing::VerifyError;
 use crate::surroundings::{DataLens, SignatureRead, Signatures, Surroundings};
-use crate::verifying::judge_block;
+use crate::verifying::check_block;
 use crate::writing::code_len;
 use flat_code::{CodeBlock, DataBlock, Field, Op, Param, ParameterRecord, Program};
 use plc_base::{NoMemory, Profile};
@@ -45,7 +45,7 @@ fn overlong(ops: &[Op]) -> Option<u32>
 /// The offset of the last op, where it isn't BE with the end mark.
 fn without_end(ops: &[Op]) -> Option<u32>
     requires { length (code_bytes ops.now) < 4294967296 }
-    ensures { result ≡ (if ends ops.now then None else Some (last_place 0 ops.now)) }
+    ensures { result ≡ (if ends_by_be ops.now then None else Some (last_place 0 ops.now)) }
 {
     match ops {
         [] => Some(0),
@@ -72,7 +72,7 @@ fn code_fault(ops: &[Op]) -> Option<u32>
 
 /// Whether no code has a fault 5.
 fn are_whole(blocks: &[CodeBlock]) -> bool
-    requires { All BlockFits blocks.now }
+    requires { All BlockFitsFields blocks.now }
     ensures { result ≡ are_whole (map record_of_block blocks.now) }
 {
     for block in blocks {
@@ -129,7 +129,7 @@ fn signatures(alloc: Global, blocks: &[CodeBlock]) -> Result<Signatures, NoMemor
 }
 
 /// The lesser of the fault so far and those of lines.
-fn judge_lines(lines: &[u32], least: Option<LoadFault>) -> Option<LoadFault>
+fn check_lines(lines: &[u32], least: Option<LoadFault>) -> Option<LoadFault>
     ensures { result ≡ with_faults least (line_faults 0 lines.now) }
 {
     let mut least = least;
@@ -146,8 +146,8 @@ fn judge_lines(lines: &[u32], least: Option<LoadFault>) -> Option<LoadFault>
 }
 
 /// The fault 9 of the statement count, if it has one.
-fn judge_count(block: &CodeBlock) -> Option<LoadFault>
-    requires { BlockFits block.now }
+fn check_count(block: &CodeBlock) -> Option<LoadFault>
+    requires { BlockFitsFields block.now }
     ensures { result ≡ with_faults None (count_faults (record_of_block block.now)) }
 {
     let field = Field::StatementCount {
@@ -159,12 +159,12 @@ fn judge_count(block: &CodeBlock) -> Option<LoadFault>
 
 /// The least fault of a block.
 #[tactic(auto, using(crate::proofs::ProgramFaultLemmas::coded, crate::proofs::ProgramFaultLemmas::uncoded))]
-fn judge_code_block(
+fn check_code_block(
     alloc: Global,
     around: &Surroundings,
     block: &CodeBlock,
 ) -> Result<Option<LoadFault>, NoMemory>
-    requires { BlockFits block.now }
+    requires { BlockFitsFields block.now }
     ensures { IfOk result (λ l. l
         ≡ with_faults None (faults_of_block (around_of around.now) (record_of_block block.now))) }
 {
@@ -172,9 +172,9 @@ fn judge_code_block(
     if let Some(at) = code_fault(code) {
         return Ok(Some(LoadFault { at, code: 5 }));
     }
-    let least = judge_count(block);
-    let least = judge_lines(block.lines.as_slice(), least);
-    judge_block(alloc, around, 0, code, least)
+    let least = check_count(block);
+    let least = check_lines(block.lines.as_slice(), least);
+    check_block(alloc, around, 0, code, least)
 }
 
 /// The fault of a block among others, if it has one.
@@ -184,7 +184,7 @@ fn block_fault(
     lens: Option<&DataLens>,
     block: &CodeBlock,
 ) -> Result<Option<LoadFault>, NoMemory>
-    requires { BlockFits block.now }
+    requires { BlockFitsFields block.now }
     ensures { IfOk result (λ l. l ≡ with_faults None (faults_of_block (record {
       kind = (record_of_block block.now).kind;
       local_len = block.now.local_len;
@@ -201,7 +201,7 @@ fn block_fault(
         blocks: signatures,
         data_lens: lens,
     };
-    judge_code_block(alloc, &around, block)
+    check_code_block(alloc, &around, block)
 }
 
 /// A fault of a block as one of its program.
@@ -222,7 +222,7 @@ fn first_among(
     lens: Option<&DataLens>,
     blocks: &[CodeBlock],
 ) -> Result<Option<VerifyFault>, NoMemory>
-    requires fit { All BlockFits blocks.now }
+    requires fit { All BlockFitsFields blocks.now }
     requires all { signatures.now ≡ map signature_of (map record_of_block blocks.now) }
     ensures fault { IfOk result (λ f. IfSome f
         (IsFirstOf (option_map (λ d. d.now) lens.entry)
@@ -242,12 +242,12 @@ fn first_among(
 /// The numbers and lengths of the data blocks, where calls are checked.
 fn lens_where(
     alloc: Global,
-    judged: bool,
+    checked: bool,
     blocks: &[DataBlock],
 ) -> Result<Option<DataLens>, NoMemory>
-    ensures { IfOk result (λ l. l ≡ lens_where judged blocks.now) }
+    ensures { IfOk result (λ l. l ≡ lens_where checked blocks.now) }
 {
-    if !judged {
+    if !checked {
         return Ok(None);
     }
     let lens = lens_of(alloc, blocks)?;

@@ -1,11 +1,11 @@
 //! The bytes of an image, read from left to right: numbers and runs of bytes.
 ghost use Rattle.std.specs.Prelude.{◌≡◌, ◌+◌, ◌<◌, ◌^◌, length, min, IfOk, OnOk};
 ghost use Rattle.flat_code.specs.Coding.{u8 as a_byte, u16 as a_word, u32 as a_dword};
-ghost use Rattle.flat_code.specs.Faults.{fault_of};
-ghost use Rattle.flat_code.specs.Image.{plain, contents, bytes};
-ghost use Rattle.flat_code.specs.Layout.{field, noted};
+ghost use Rattle.flat_code.specs.Faults.{field_fault};
+ghost use Rattle.flat_code.specs.Image.{no_fault, contents, bytes};
+ghost use Rattle.flat_code.specs.Layout.{field, fault_note};
 ghost use Rattle.image_file.specs.Least.{with_fault, with_faults};
-ghost use Rattle.image_file.specs.Running.{seen, run, place_of, log_of, logged};
+ghost use Rattle.image_file.specs.Running.{reader_run, run_layout, reader_cursor, log_of, log_after};
 
 use crate::faults::LoadFault;
 use crate::records::Started;
@@ -51,9 +51,9 @@ impl<'a> Reader<'a> {
     }
 
     /// Notes the fault of a field at an offset, if it has one.
-    #[tactic(auto, unfolding(crate::specs::Least::with_faults, crate::specs::Running::logged))]
-    pub(crate) fn judge(&mut self, at: u32, field: Field)
-        ensures log { log_of self.new ≡ logged (log_of self.old) (noted at (fault_of field)) }
+    #[tactic(auto, unfolding(crate::specs::Least::with_faults, crate::specs::Running::log_after))]
+    pub(crate) fn check(&mut self, at: u32, field: Field)
+        ensures log { log_of self.new ≡ log_after (log_of self.old) (fault_note at (field_fault field)) }
         ensures at { self.new.at ≡ self.old.at }
         ensures rest { self.new.rest.now ≡ self.old.rest.now }
     {
@@ -63,11 +63,11 @@ impl<'a> Reader<'a> {
         }
     }
 
-    #[tactic(auto, unfolding(crate::specs::Running::run, crate::specs::Running::logged, crate::specs::Least::with_faults))]
+    #[tactic(auto, unfolding(crate::specs::Running::run_layout, crate::specs::Running::log_after, crate::specs::Least::with_faults))]
     pub(crate) fn u8(&mut self) -> Result<u8, Ended>
         requires { self.old.at + length self.old.rest.now < 2 ^ 32 }
-        ensures read { seen (λ n. n) result self.new
-            ≡ run (field a_byte plain) (place_of self.old) (log_of self.old) }
+        ensures read { reader_run (λ n. n) result self.new
+            ≡ run_layout (field a_byte no_fault) (reader_cursor self.old) (log_of self.old) }
         ensures all { self.new.at + length self.new.rest.now
             ≡ self.old.at + length self.old.rest.now }
         ensures step { OnOk result (self.new.at ≡ self.old.at + 1) }
@@ -85,11 +85,11 @@ impl<'a> Reader<'a> {
         }
     }
 
-    #[tactic(auto, unfolding(crate::specs::Running::run, crate::specs::Running::logged, crate::specs::Least::with_faults))]
+    #[tactic(auto, unfolding(crate::specs::Running::run_layout, crate::specs::Running::log_after, crate::specs::Least::with_faults))]
     pub(crate) fn u16(&mut self) -> Result<u16, Ended>
         requires { self.old.at + min 4 (length self.old.rest.now) < 2 ^ 32 }
-        ensures read { seen (λ n. n) result self.new
-            ≡ run (field a_word plain) (place_of self.old) (log_of self.old) }
+        ensures read { reader_run (λ n. n) result self.new
+            ≡ run_layout (field a_word no_fault) (reader_cursor self.old) (log_of self.old) }
         ensures all { self.new.at + length self.new.rest.now
             ≡ self.old.at + length self.old.rest.now }
         ensures step { OnOk result (self.new.at ≡ self.old.at + 2) }
@@ -108,11 +108,11 @@ impl<'a> Reader<'a> {
         }
     }
 
-    #[tactic(auto, unfolding(crate::specs::Running::run, crate::specs::Running::logged, crate::specs::Least::with_faults))]
+    #[tactic(auto, unfolding(crate::specs::Running::run_layout, crate::specs::Running::log_after, crate::specs::Least::with_faults))]
     pub(crate) fn u32(&mut self) -> Result<u32, Ended>
         requires { self.old.at + min 4 (length self.old.rest.now) < 2 ^ 32 }
-        ensures read { seen (λ n. n) result self.new
-            ≡ run (field a_dword plain) (place_of self.old) (log_of self.old) }
+        ensures read { reader_run (λ n. n) result self.new
+            ≡ run_layout (field a_dword no_fault) (reader_cursor self.old) (log_of self.old) }
         ensures all { self.new.at + length self.new.rest.now
             ≡ self.old.at + length self.old.rest.now }
         ensures step { OnOk result (self.new.at ≡ self.old.at + 4) }
@@ -132,11 +132,11 @@ impl<'a> Reader<'a> {
     }
 
     /// The next bytes, as many as are wanted.
-    #[tactic(auto, unfolding(crate::specs::Running::run, crate::specs::Running::logged, crate::specs::Least::with_faults))]
+    #[tactic(auto, unfolding(crate::specs::Running::run_layout, crate::specs::Running::log_after, crate::specs::Least::with_faults))]
     pub(crate) fn bytes(&mut self, count: u16) -> Result<&'a [u8], Ended>
         requires { self.old.at + length self.old.rest.now < 2 ^ 32 }
-        ensures read { seen (λ s. s.now) result self.new
-            ≡ run (field (bytes count) (λ bs. None)) (place_of self.old) (log_of self.old) }
+        ensures read { reader_run (λ s. s.now) result self.new
+            ≡ run_layout (field (bytes count) (λ bs. None)) (reader_cursor self.old) (log_of self.old) }
         ensures all { self.new.at + length self.new.rest.now
             ≡ self.old.at + length self.old.rest.now }
         ensures len { IfOk result (λ s. length s.now ≡ count) }

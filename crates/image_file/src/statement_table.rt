@@ -4,7 +4,7 @@ ghost use Rattle.std.specs.Option.{option_map};
 ghost use Rattle.flat_code.specs.Codes.{code_bytes};
 ghost use Rattle.flat_code.specs.Placed.{few, spots, spot_at};
 
-use crate::judging::{Nesting, Statement, few, is_last};
+use crate::checking::{Nesting, Statement, few, is_last};
 use crate::tables::{place_at, table_of};
 use flat_code::Op;
 use plc_base::NoMemory;
@@ -20,10 +20,10 @@ pub(crate) struct Statements {
 
 impl Model for Statements {
     ghost use Rattle.std.specs.Prelude.{List};
-    ghost use Rattle.flat_code.specs.Placed.{Spot};
+    ghost use Rattle.flat_code.specs.Placed.{StatementSpot};
     ghost use Rattle.image_file.specs.Tables.{FindsStatements};
 
-    ghost Value = { List Spot };
+    ghost Value = { List StatementSpot };
 
     ghost view = { λ s. s.list.items };
 

@@ -1,9 +1,9 @@
-//! What surrounds a block whose ops are judged: its own head, and the blocks that it may call.
+//! What surrounds a block whose ops are checked: its own head, and the blocks that it may call.
 ghost use Rattle.std.specs.Prelude.{◌≡◌, map, slice_get, IfOk};
 ghost use Rattle.std.specs.Option.{option_map};
 ghost use Rattle.flat_code.specs.Blocks.{block_with, callee};
-ghost use Rattle.image_file.specs.Judging.{callee_values};
-ghost use Rattle.image_file.specs.Tables.{call_key, callee_of, found_callee};
+ghost use Rattle.image_file.specs.OpChecking.{callee_values};
+ghost use Rattle.image_file.specs.Tables.{call_key, signature_callee, found_callee};
 
 use crate::numbers::{FUNCTION, FUNCTION_BLOCK, SYSTEM_FUNCTION};
 use crate::tables::{place_at, table_of};
@@ -22,9 +22,9 @@ pub(crate) struct SignatureRead {
 }
 
 impl Model for SignatureRead {
-    ghost use Rattle.flat_code.specs.Blocks.{Signature};
+    ghost use Rattle.flat_code.specs.Blocks.{BlockSignature};
 
-    ghost Value = { Signature };
+    ghost Value = { BlockSignature };
 
     ghost view = { λ s. record {
       kind = s.kind;
@@ -54,10 +54,10 @@ pub(crate) struct Signatures {
 
 impl Model for Signatures {
     ghost use Rattle.std.specs.Prelude.{List};
-    ghost use Rattle.flat_code.specs.Blocks.{Signature};
+    ghost use Rattle.flat_code.specs.Blocks.{BlockSignature};
     ghost use Rattle.image_file.specs.Tables.{FindsCallees};
 
-    ghost Value = { List Signature };
+    ghost Value = { List BlockSignature };
 
     ghost view = { λ s. s.list.items };
 
@@ -162,7 +162,7 @@ pub(crate) fn callee(
 impl Signatures {
     ghost use Rattle.std.specs.Option.{option_map};
     ghost use Rattle.flat_code.specs.Blocks.{block_with};
-    ghost use Rattle.image_file.specs.Judging.{callee_values};
+    ghost use Rattle.image_file.specs.OpChecking.{callee_values};
 
     /// The first block of a kind and number. Only functions and function blocks are called, so
     /// others may take a search.
@@ -197,7 +197,7 @@ fn found_callee<'a>(
 /// The block at a place of a list.
 fn callee_at(blocks: &[SignatureRead], place: usize) -> Option<(u8, u16, &[ParameterRecord])>
     ensures { option_map callee_values result
-        ≡ option_map callee_of (slice_get blocks.now place) }
+        ≡ option_map signature_callee (slice_get blocks.now place) }
 {
     let block = blocks.get(place)?;
     Some((block.kind, block.instance_len, block.params.as_slice()))
@@ -228,11 +228,11 @@ fn len_at(lens: &[(u16, usize)], place: usize) -> Option<usize>
 }
 
 impl DataLens {
-    ghost use Rattle.flat_code.specs.Blocks.{data_len};
+    ghost use Rattle.flat_code.specs.Blocks.{length_of_data};
 
     /// The length of the first data block of a number.
     pub(crate) fn of(&self, number: u16) -> Option<usize>
-        ensures { result ≡ data_len number self.now }
+        ensures { result ≡ length_of_data number self.now }
     {
         let place = place_at(self.table.as_slice(), u32::from(number))?;
         len_at(self.list.as_slice(), place)

@@ -1,8 +1,8 @@
 //! A program made of the records that were read.
 ghost use Rattle.std.specs.Prelude.{◌≡◌, ◌≤◌, length, map, IfOk};
-ghost use Rattle.flat_code.specs.Image.{param_of, block_of_record, entry_of_name, IsProgram};
+ghost use Rattle.flat_code.specs.Image.{param_of_record, block_of_record, entry_of_name, IsProgram};
 ghost use Rattle.flat_code.specs.Loading.{blocks_of};
-ghost use Rattle.image_file.specs.Running.{started};
+ghost use Rattle.image_file.specs.Running.{started_block};
 ghost use Rattle.image_file.specs.Typing.{AreFew, program_from};
 
 use crate::records::{BlockRead, NameRead, Started};
@@ -16,7 +16,7 @@ use std::alloc::Global;
 
 /// Parameters, if they are at most 60.
 fn params_of(parameters: &[ParameterRecord]) -> ArrayVec<Param, 60>
-    ensures { length parameters.now ≤ 60 → result.items ≡ map param_of parameters.now }
+    ensures { length parameters.now ≤ 60 → result.items ≡ map param_of_record parameters.now }
 {
     let mut params = ArrayVec::new();
     for parameter in parameters {
@@ -43,8 +43,8 @@ fn block_of(block: BlockRead) -> CodeBlock
 
 /// The code blocks of a program, if none has more than 60 parameters.
 pub(crate) fn code_blocks(alloc: Global, blocks: Vec<Started>) -> Result<Vec<CodeBlock>, NoMemory>
-    ensures { IfOk result (λ v. AreFew (blocks_of (map started blocks.items)) → v.items
-        ≡ map block_of_record (blocks_of (map started blocks.items))) }
+    ensures { IfOk result (λ v. AreFew (blocks_of (map started_block blocks.items)) → v.items
+        ≡ map block_of_record (blocks_of (map started_block blocks.items))) }
 {
     let mut typed = Vec::new(alloc);
     for started in blocks {
@@ -84,10 +84,10 @@ pub(crate) fn program(
     names: Vec<NameRead>,
 ) -> Result<Program, NoMemory>
     requires program { IsProgram (program_from
-        (map started blocks.items) data_blocks.items names.items) }
-    requires few { AreFew (blocks_of (map started blocks.items)) }
+        (map started_block blocks.items) data_blocks.items names.items) }
+    requires few { AreFew (blocks_of (map started_block blocks.items)) }
     ensures { IfOk result (λ p. p
-        ≡ program_from (map started blocks.items) data_blocks.items names.items) }
+        ≡ program_from (map started_block blocks.items) data_blocks.items names.items) }
 {
     let code_blocks = code_blocks(alloc, blocks)?;
     let names = Names::new(entries(alloc, names)?);

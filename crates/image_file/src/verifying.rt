@@ -4,15 +4,15 @@ ghost use Rattle.std.specs.Option.{option_map};
 ghost use Rattle.flat_code.specs.Codes.{size, code_bytes};
 ghost use Rattle.flat_code.specs.Placed.{few, spots, spot_at};
 ghost use Rattle.flat_code.specs.Blocks.{are_other, call_fault_among, differing, target_fault, jump_fault, operand_fault, call_fault, op_faults, open_faults, open_zone_faults, block_faults};
-ghost use Rattle.image_file.specs.Judging.{AllUpTo, ZonesUpTo, around_of, placed_of};
+ghost use Rattle.image_file.specs.OpChecking.{AllUpTo, ZonesUpTo, around_of, placed_of};
 ghost use Rattle.image_file.specs.Least.{with_faults};
 
 use crate::calls::{is_bad_call, misfits_call};
-use crate::faults::LoadFault;
-use crate::judging::{
+use crate::checking::{
     Nesting, Statement, bracket_fault, few, lesser_if, mark_fault, prepare, same_codes, seven_if,
     zone_fault,
 };
+use crate::faults::LoadFault;
 use crate::numbers::{CALL, JUMP_LIST};
 use crate::operands::{
     ending, is_bad_actual, is_bad_place, is_input, is_stray_pass, is_stray_use_db, lacks_own,
@@ -171,8 +171,8 @@ fn call_fault(around: &Surroundings, op: &Op, place: &Place) -> Option<u16>
 }
 
 /// The lesser of the fault so far and those of an op.
-#[tactic(auto, unfolding(flat_code::specs::Blocks::op_faults), using(crate::proofs::JudgeLemmas::five))]
-fn judge_op(
+#[tactic(auto, unfolding(flat_code::specs::Blocks::op_faults), using(crate::proofs::CheckLemmas::five))]
+fn check_op(
     around: &Surroundings,
     statements: &Statements,
     start: u32,
@@ -194,7 +194,7 @@ fn judge_op(
 }
 
 /// The lesser of the fault so far and those of brackets that are open at the end.
-fn judge_open(
+fn check_open(
     start: u32,
     brackets: &[OpenBracket],
     limit: u32,
@@ -212,7 +212,7 @@ fn judge_open(
 }
 
 /// The lesser of the fault so far and those of zones that are open at the end.
-fn judge_open_zones(
+fn check_open_zones(
     start: u32,
     zones: &[u32],
     limit: u32,
@@ -230,7 +230,7 @@ fn judge_open_zones(
 }
 
 /// The same of all that stands open at the end.
-fn judge_nesting(
+fn check_nesting(
     start: u32,
     nesting: &Nesting,
     limit: u32,
@@ -243,12 +243,12 @@ fn judge_nesting(
         (open_faults start nesting.now.brackets.items))
         (open_zone_faults start nesting.now.zones.items) }
 {
-    let least = judge_open(start, nesting.brackets.as_slice(), limit, least);
-    judge_open_zones(start, nesting.zones.as_slice(), limit, least)
+    let least = check_open(start, nesting.brackets.as_slice(), limit, least);
+    check_open_zones(start, nesting.zones.as_slice(), limit, least)
 }
 
 /// The lesser of the fault so far and those of the ops of a block with these statements.
-fn judge_ops(
+fn check_ops(
     alloc: Global,
     around: &Surroundings,
     statements: &Statements,
@@ -273,16 +273,16 @@ fn judge_ops(
             before: before.as_slice(),
             rest: ops_from(ops, i + 1),
         };
-        least = judge_op(around, statements, start, op, &place, least);
+        least = check_op(around, statements, start, op, &place, least);
         nesting.pass(at, op)?;
         prepare(&mut before, op)?;
         at += op.size();
     }
-    Ok(judge_nesting(start, &nesting, at, least))
+    Ok(check_nesting(start, &nesting, at, least))
 }
 
 /// The lesser of the fault so far and those of the ops of a block whose code begins at an offset.
-pub(crate) fn judge_block(
+pub(crate) fn check_block(
     alloc: Global,
     around: &Surroundings,
     start: u32,
@@ -294,5 +294,5 @@ pub(crate) fn judge_block(
         ≡ with_faults least (block_faults (around_of around.now) start ops.now)) }
 {
     let statements = Statements::of(alloc, ops)?;
-    judge_ops(alloc, around, &statements, start, ops, least)
+    check_ops(alloc, around, &statements, start, ops, least)
 }

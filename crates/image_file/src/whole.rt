@@ -1,8 +1,8 @@
 //! An image as a whole.
 ghost use Rattle.std.specs.Prelude.{true, ◌≡◌, ◌+◌, ◌<◌, ◌≤◌, ◌^◌, length, take, [], ◌∷◌, if◌then◌else◌, OnOk, IfOk};
-ghost use Rattle.flat_code.specs.Image.{counts, data_blocks, names, records, front, cut, read_image};
+ghost use Rattle.flat_code.specs.Image.{counts_layout, data_blocks_layout, names, records, front, cut, read_image};
 ghost use Rattle.flat_code.specs.Layout.{Faulty};
-ghost use Rattle.image_file.specs.Running.{seen, run, ran_read, logged, place_of, log_of, counts_values, front_values, Sees, SeesDatas, SeesRecords, SeesImage};
+ghost use Rattle.image_file.specs.Running.{reader_run, run_layout, run_of_read, log_after, reader_cursor, log_of, counts_values, front_values, Sees, SeesDatas, SeesRecords, SeesImage};
 
 use crate::reader::Reader;
 use crate::records::{CountsRead, FoundRead, FrontRead, NameRead};
@@ -19,11 +19,11 @@ fn up_to(bytes: &[u8], count: usize) -> &[u8]
 }
 
 impl Reader<'_> {
-    #[tactic(auto, unfolding(flat_code::specs::Image::counts, flat_code::specs::Image::count_rows), using(crate::proofs::RunLemmas::run_seen, crate::proofs::RunLemmas::run_chain))]
+    #[tactic(auto, unfolding(flat_code::specs::Image::counts_layout, flat_code::specs::Image::count_rows), using(crate::proofs::RunLemmas::run_seen, crate::proofs::RunLemmas::run_chain))]
     fn counts(&mut self) -> Result<CountsRead, Ended>
         requires { self.old.at + length self.old.rest.now < 2 ^ 32 }
-        ensures read { seen counts_values result self.new
-            ≡ run counts (place_of self.old) (log_of self.old) }
+        ensures read { reader_run counts_values result self.new
+            ≡ run_layout counts_layout (reader_cursor self.old) (log_of self.old) }
         ensures all { self.new.at + length self.new.rest.now
             ≡ self.old.at + length self.old.rest.now }
     {
@@ -40,10 +40,10 @@ impl Reader<'_> {
     }
 
     /// All data blocks, which are kept.
-    #[tactic(auto, unfolding(flat_code::specs::Image::data_blocks, crate::specs::Running::logged, crate::specs::Least::with_faults), using(crate::proofs::RunLemmas::run_remembered))]
+    #[tactic(auto, unfolding(flat_code::specs::Image::data_blocks_layout, crate::specs::Running::log_after, crate::specs::Least::with_faults), using(crate::proofs::RunLemmas::run_remembered))]
     fn data_blocks(&mut self, alloc: Global, count: u16) -> Result<(), Stop>
         requires { self.old.at + length self.old.rest.now < 2 ^ 32 }
-        ensures read { SeesDatas result self.new (run (data_blocks count) (place_of self.old)
+        ensures read { SeesDatas result self.new (run_layout (data_blocks_layout count) (reader_cursor self.old)
             (log_of self.old)) }
         ensures all { OnOk result (self.new.at + length self.new.rest.now
             ≡ self.old.at + length self.old.rest.now) }
@@ -57,7 +57,7 @@ impl Reader<'_> {
     fn records(&mut self, alloc: Global) -> Result<Vec<NameRead>, Stop>
         requires { self.old.at + length self.old.rest.now + 2000 < 2 ^ 32 }
         ensures read { SeesRecords
-            (λ v. v.items) result self.new (run (records true) (place_of self.old)
+            (λ v. v.items) result self.new (run_layout (records true) (reader_cursor self.old)
             (log_of self.old)) }
         ensures all { OnOk result (self.new.at + length self.new.rest.now
             ≡ self.old.at + length self.old.rest.now) }
@@ -72,8 +72,8 @@ impl Reader<'_> {
     #[tactic(auto, unfolding(flat_code::specs::Image::front, flat_code::specs::Image::front_rows), using(crate::proofs::RunLemmas::run_seen, crate::proofs::RunLemmas::run_chain))]
     fn front(&mut self) -> Result<FrontRead, Ended>
         requires { self.old.at ≡ 0 }
-        ensures read { seen front_values result self.new
-            ≡ run front (place_of self.old) (log_of self.old) }
+        ensures read { reader_run front_values result self.new
+            ≡ run_layout front (reader_cursor self.old) (log_of self.old) }
         ensures all { self.new.at + length self.new.rest.now
             ≡ self.old.at + length self.old.rest.now }
         ensures at { IfOk result (λ f. self.new.at ≡ 12) }
@@ -103,8 +103,8 @@ impl Reader<'_> {
         requires low { 20 ≤ total }
         requires there { total ≤ size }
         requires high { total ≤ 8388608 }
-        ensures { SeesImage result self.new (ran_read (cut true stamp size total
-            (place_of self.old)) (log_of self.old)) }
+        ensures { SeesImage result self.new (run_of_read (cut true stamp size total
+            (reader_cursor self.old)) (log_of self.old)) }
     {
         self.note_if(size != total as usize, total, 10);
         self.rest = up_to(self.rest, total as usize - 12);
@@ -116,7 +116,7 @@ impl Reader<'_> {
     /// An image. Its stamp and its names are answered, the blocks are kept.
     pub(crate) fn image(&mut self, alloc: Global) -> Result<FoundRead, Stop>
         requires { self.old.at ≡ 0 }
-        ensures { SeesImage result self.new (ran_read
+        ensures { SeesImage result self.new (run_of_read
             (read_image self.old.rest.now) (log_of self.old)) }
     {
         let size = self.rest.len();
@@ -138,10 +138,10 @@ impl Reader<'_> {
     }
 
     /// Notes a fault where there is one.
-    #[tactic(auto, unfolding(crate::specs::Least::with_faults, crate::specs::Running::logged))]
+    #[tactic(auto, unfolding(crate::specs::Least::with_faults, crate::specs::Running::log_after))]
     fn note_if(&mut self, faulty: bool, at: u32, code: u16)
         ensures log { log_of self.new
-            ≡ logged (log_of self.old) (if faulty then Faulty at code ∷ [] else []) }
+            ≡ log_after (log_of self.old) (if faulty then Faulty at code ∷ [] else []) }
         ensures at { self.new.at ≡ self.old.at }
         ensures rest { self.new.rest.now ≡ self.old.rest.now }
     {

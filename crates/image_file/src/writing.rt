@@ -1,11 +1,11 @@
 //! The image of a program: its records one behind the other, and the header in front of them.
 ghost use Rattle.std.specs.Prelude.{◌≡◌, ◌++◌, ◌+◌, ◌≤◌, ◌<◌, false, [], map, length, All, IfOk, OnOk};
 ghost use Rattle.flat_code.specs.Codes.{code_bytes};
-ghost use Rattle.flat_code.specs.Image.{head_of_block, head as head_layout, counts, counts_of, front, front_of, records_of, record_of_block, record_of_param, name_of_entry, number_of_instance, front_size, parameter, same_state, line_field, line_after, code_block, after_block, data_block, after_data, name_record, after_name, body, image};
+ghost use Rattle.flat_code.specs.Image.{head_of_block, head_layout, counts_layout, counts_of, front, front_of, records_of, record_of_block, record_of_param, name_of_entry, number_of_instance, front_size, parameter_layout, same_state, line_field, line_after, code_block_layout, after_block, data_block_layout, after_data, name_record, after_name, body, image};
 ghost use Rattle.flat_code.specs.Layout.{spell_many};
 ghost use Rattle.flat_code.specs.declared.stamps.Stamp.TheVariants as stamps;
 ghost use Rattle.image_file.specs.Running.{head_values};
-ghost use Rattle.image_file.specs.Writing.{BlockFits, DataFits, NameFits, ProgramFits};
+ghost use Rattle.image_file.specs.Writing.{BlockFitsFields, DataFitsFields, NameFitsField, ProgramFitsFields};
 
 use crate::records::HeadRead;
 use flat_code::{
@@ -37,10 +37,10 @@ pub(crate) fn code_len(ops: &[Op]) -> u32
     len
 }
 
-#[tactic(auto, unfolding(flat_code::specs::Image::parameter, flat_code::specs::Image::parameter_rows, flat_code::specs::Image::section_field, flat_code::specs::Image::width_field, flat_code::specs::Image::parameter_byte, flat_code::specs::Image::parameter_bit, flat_code::specs::Image::zero_u8))]
+#[tactic(auto, unfolding(flat_code::specs::Image::parameter_layout, flat_code::specs::Image::parameter_rows, flat_code::specs::Image::section_field, flat_code::specs::Image::width_field, flat_code::specs::Image::parameter_byte, flat_code::specs::Image::parameter_bit, flat_code::specs::Image::zero_u8))]
 fn put_parameter(out: &mut Vec<u8>, param: &Param) -> Result<(), NoMemory>
     ensures { OnOk result (out.new.items
-        ≡ out.old.items ++ (parameter 0 0).spell (record_of_param param.now)) }
+        ≡ out.old.items ++ (parameter_layout 0 0).spell (record_of_param param.now)) }
 {
     let [a, b] = param.byte.to_be_bytes();
     out.extend_from_slice(&[param.section, param.width.number(), a, b, param.bit, 0])
@@ -49,7 +49,7 @@ fn put_parameter(out: &mut Vec<u8>, param: &Param) -> Result<(), NoMemory>
 fn put_parameters(out: &mut Vec<u8>, params: &[Param]) -> Result<(), NoMemory>
     ensures { OnOk result (out.new.items
         ≡ out.old.items ++ spell_many
-        (λ s. parameter 0 0) same_state 0 (map record_of_param params.now)) }
+        (λ s. parameter_layout 0 0) same_state 0 (map record_of_param params.now)) }
 {
     for param in params {
         put_parameter(out, param)?;
@@ -78,7 +78,7 @@ fn put_lines(out: &mut Vec<u8>, lines: &[u32]) -> Result<(), NoMemory>
 
 /// The head of a code block.
 fn head_of(block: &CodeBlock) -> HeadRead
-    requires { BlockFits block.now }
+    requires { BlockFitsFields block.now }
     ensures { head_values result ≡ head_of_block (record_of_block block.now) }
 {
     HeadRead {
@@ -93,7 +93,7 @@ fn head_of(block: &CodeBlock) -> HeadRead
     }
 }
 
-#[tactic(auto, unfolding(flat_code::specs::Image::head, flat_code::specs::Image::head_rows, flat_code::specs::Image::kind_field, flat_code::specs::Image::parameter_count, flat_code::specs::Image::block_number, flat_code::specs::Image::local_bytes, flat_code::specs::Image::instance_bytes, flat_code::specs::Image::plain_u16, flat_code::specs::Image::zero_u16, flat_code::specs::Image::plain_u32))]
+#[tactic(auto, unfolding(flat_code::specs::Image::head_layout, flat_code::specs::Image::head_rows, flat_code::specs::Image::kind_field, flat_code::specs::Image::parameter_count_layout, flat_code::specs::Image::block_number_layout, flat_code::specs::Image::local_length_layout, flat_code::specs::Image::instance_bytes, flat_code::specs::Image::plain_u16, flat_code::specs::Image::zero_u16, flat_code::specs::Image::plain_u32))]
 fn put_head(out: &mut Vec<u8>, head: &HeadRead) -> Result<(), NoMemory>
     ensures { OnOk result (out.new.items
         ≡ out.old.items ++ (head_layout (0, 0)).spell (head_values head.now)) }
@@ -125,9 +125,9 @@ fn put_head(out: &mut Vec<u8>, head: &HeadRead) -> Result<(), NoMemory>
 }
 
 fn put_code_block(out: &mut Vec<u8>, block: &CodeBlock) -> Result<(), NoMemory>
-    requires { BlockFits block.now }
+    requires { BlockFitsFields block.now }
     ensures { OnOk result (out.new.items
-        ≡ out.old.items ++ (code_block false (0, 0)).spell (record_of_block block.now)) }
+        ≡ out.old.items ++ (code_block_layout false (0, 0)).spell (record_of_block block.now)) }
 {
     put_head(out, &head_of(block))?;
     put_parameters(out, block.params.as_slice())?;
@@ -137,10 +137,10 @@ fn put_code_block(out: &mut Vec<u8>, block: &CodeBlock) -> Result<(), NoMemory>
 }
 
 fn put_code_blocks(out: &mut Vec<u8>, blocks: &[CodeBlock]) -> Result<(), NoMemory>
-    requires { All BlockFits blocks.now }
+    requires { All BlockFitsFields blocks.now }
     ensures { OnOk result (out.new.items
         ≡ out.old.items ++ spell_many
-        (code_block false) after_block (0, 0) (map record_of_block blocks.now)) }
+        (code_block_layout false) after_block (0, 0) (map record_of_block blocks.now)) }
 {
     for block in blocks {
         put_code_block(out, block)?;
@@ -148,11 +148,11 @@ fn put_code_blocks(out: &mut Vec<u8>, blocks: &[CodeBlock]) -> Result<(), NoMemo
     Ok(())
 }
 
-#[tactic(auto, unfolding(flat_code::specs::Image::data_block, flat_code::specs::Image::data_rows, flat_code::specs::Image::data_number, flat_code::specs::Image::instance_field, flat_code::specs::Image::data_len, flat_code::specs::Image::zero_u16, flat_code::specs::Image::contents))]
+#[tactic(auto, unfolding(flat_code::specs::Image::data_block_layout, flat_code::specs::Image::data_rows, flat_code::specs::Image::data_number_layout, flat_code::specs::Image::instance_field, flat_code::specs::Image::data_length_layout, flat_code::specs::Image::zero_u16, flat_code::specs::Image::contents))]
 fn put_data_block(out: &mut Vec<u8>, block: &DataBlock) -> Result<(), NoMemory>
-    requires { DataFits block.now }
+    requires { DataFitsFields block.now }
     ensures { OnOk result (out.new.items
-        ≡ out.old.items ++ (data_block (0, 0)).spell block.now) }
+        ≡ out.old.items ++ (data_block_layout (0, 0)).spell block.now) }
 {
     let [a, b] = block.number.to_be_bytes();
     let [c, d] = instance_number(block.instance_of).to_be_bytes();
@@ -162,9 +162,9 @@ fn put_data_block(out: &mut Vec<u8>, block: &DataBlock) -> Result<(), NoMemory>
 }
 
 fn put_data_blocks(out: &mut Vec<u8>, blocks: &[DataBlock]) -> Result<(), NoMemory>
-    requires { All DataFits blocks.now }
+    requires { All DataFitsFields blocks.now }
     ensures { OnOk result (out.new.items
-        ≡ out.old.items ++ spell_many data_block after_data (0, 0) blocks.now) }
+        ≡ out.old.items ++ spell_many data_block_layout after_data (0, 0) blocks.now) }
 {
     for block in blocks {
         put_data_block(out, block)?;
@@ -174,7 +174,7 @@ fn put_data_blocks(out: &mut Vec<u8>, blocks: &[DataBlock]) -> Result<(), NoMemo
 
 #[tactic(auto, unfolding(flat_code::specs::Image::name_record, flat_code::specs::Image::name_rows, flat_code::specs::Image::name_len, flat_code::specs::Image::name_bytes, flat_code::specs::Image::name_area, flat_code::specs::Image::width_field, flat_code::specs::Image::plain_u16, flat_code::specs::Image::name_bit))]
 fn put_name(out: &mut Vec<u8>, entry: &NameEntry) -> Result<(), NoMemory>
-    requires { NameFits entry.now }
+    requires { NameFitsField entry.now }
     ensures { OnOk result (out.new.items
         ≡ out.old.items ++ (name_record []).spell (name_of_entry entry.now)) }
 {
@@ -191,7 +191,7 @@ fn put_name(out: &mut Vec<u8>, entry: &NameEntry) -> Result<(), NoMemory>
 }
 
 fn put_names(out: &mut Vec<u8>, entries: &[NameEntry]) -> Result<(), NoMemory>
-    requires { All NameFits entries.now }
+    requires { All NameFitsField entries.now }
     ensures { OnOk result (out.new.items
         ≡ out.old.items ++ spell_many
         name_record after_name [] (map name_of_entry entries.now)) }
@@ -203,11 +203,11 @@ fn put_names(out: &mut Vec<u8>, entries: &[NameEntry]) -> Result<(), NoMemory>
 }
 
 /// How many records of each kind there are.
-#[tactic(auto, unfolding(flat_code::specs::Image::counts, flat_code::specs::Image::count_rows, flat_code::specs::Image::plain_u16, flat_code::specs::Image::data_count, flat_code::specs::Image::zero_u16))]
+#[tactic(auto, unfolding(flat_code::specs::Image::counts_layout, flat_code::specs::Image::count_rows, flat_code::specs::Image::plain_u16, flat_code::specs::Image::data_count, flat_code::specs::Image::zero_u16))]
 fn put_counts(out: &mut Vec<u8>, program: &Program) -> Result<(), NoMemory>
-    requires { ProgramFits program.now }
+    requires { ProgramFitsFields program.now }
     ensures { OnOk result (out.new.items
-        ≡ out.old.items ++ counts.spell (counts_of (records_of program.now))) }
+        ≡ out.old.items ++ counts_layout.spell (counts_of (records_of program.now))) }
 {
     let [a, b] = (program.code_blocks.len() as u16).to_be_bytes();
     let [c, d] = (program.data_blocks.len() as u16).to_be_bytes();

@@ -10,10 +10,10 @@ use Rattle.plc_base.specs.declared.places.Area.TheVariants as area
 use Rattle.plc_base.specs.declared.places.Area.{Area}
 use Rattle.plc_base.specs.declared.places.Width.TheVariants as width
 use Rattle.plc_base.specs.declared.places.Width.{Width}
-use Rattle.flat_code.specs.Forms.{actual, actual_fits, crosses, direct, holds_pointers, in_memory, payload_fits}
+use Rattle.flat_code.specs.Forms.{passed_coding, actual_fits, is_crossing_area, direct_coding, holds_pointers, is_memory_area, payload_fits}
 use Rattle.flat_code.specs.Operations.{operation_of}
 use Rattle.flat_code.specs.Ops.{IsOp, OpData, is_op}
-use Rattle.flat_code.specs.Table.{admits, is_call, is_open, is_pass, is_use_db, takes_condition, takes_direct, takes_indirect, takes_kind, takes_literal, takes_nothing, takes_of}
+use Rattle.flat_code.specs.Table.{admits, is_call_form, is_open, is_pass, is_use_db, takes_condition, takes_direct, takes_indirect, takes_kind, takes_literal, takes_nothing, takes_of}
 use Rattle.flat_code.specs.declared.table.Takes.{Takes}
 use Rattle.flat_code.specs.declared.table.Takes.TheVariants as takes
 use Rattle.flat_code.specs.declared.operations.Adding.TheVariants as adding
@@ -73,7 +73,7 @@ area_is false area.P width.Byte h = tt
 area_is false area.P width.Word h = tt
 area_is false area.P width.Dword h = tt
 
-memory_is : (a : Area) (w : Width) → in_memory a ≡ true → IsArea (read_letters a) w
+memory_is : (a : Area) (w : Width) → is_memory_area a ≡ true → IsArea (read_letters a) w
 memory_is area.I w h = tt
 memory_is area.Q w h = tt
 memory_is area.M w h = tt
@@ -82,7 +82,7 @@ memory_is area.Di w h = tt
 memory_is area.L w h = tt
 memory_is area.P w h = absurd (false≢true h)
 
-crossing_is : (a : Option Area) (w : Width) → crosses a ≡ true → IsAreaOf (option_map read_letters a) w
+crossing_is : (a : Option Area) (w : Width) → is_crossing_area a ≡ true → IsAreaOf (option_map read_letters a) w
 crossing_is None w h = tt
 crossing_is (Some a) w h = memory_is a w h
 
@@ -101,8 +101,8 @@ pointer_is area.P h = absurd (false≢true h)
 number_is : (n : ℕ) → nat_lt n 65536 ≡ true → n ≤ 65535
 number_is n e = omega (arith, ltb-true n 65536 e)
 
-byte_place : (a : Area) (w : Width) (byte bit : ℕ) → direct.fits (a, (w, (byte, bit))) ≡ true → byte ≤ 65535
-unfolding direct
+byte_place : (a : Area) (w : Width) (byte bit : ℕ) → direct_coding.fits (a, (w, (byte, bit))) ≡ true → byte ≤ 65535
+unfolding direct_coding
 byte_place a w byte bit e = number_is byte (and_parts (nat_lt byte 65536) _ e).0
 
 -- ---- names of parameters
@@ -149,7 +149,7 @@ passed_printed formals f (passed.Parameter index w) named e place =
     let few = ltb-true index 256 (and_parts (nat_lt index 256) _ e).0 in
     own_passed formals index (omega (arith, few)) named
 passed_printed formals f (passed.InBlock number a w byte bit) named e place =
-    let parts = and_parts (nat_lt number 65536) (direct.fits (a, (w, (byte, bit)))) e in
+    let parts = and_parts (nat_lt number 65536) (direct_coding.fits (a, (w, (byte, bit)))) e in
     place_printed (Some number) (is_written f.section) a w byte bit (number_is number parts.0) place.0 place.1 (byte_place a w byte bit parts.1)
 
 -- ---- constants and registers
@@ -245,9 +245,9 @@ nothing_word : (c : ℕ) → c < 128 → takes_nothing (takes_of c) ≡ true →
 unfolding takes_of operation_of word_of
 nothing_word c h e = follows _ _ (agree_below_at (λ c. not (takes_nothing (takes_of c)) || (is_plain (syntax_of (word_of c)) || is_bracket (syntax_of (word_of c)) && is_nothing (implied_operand (operation_of c)))) (λ c. true) 128 c refl h) e
 
-call_word : (c : ℕ) → c < 128 → is_call (takes_of c) ≡ true → is_calling (syntax_of (word_of c)) ≡ true
+call_word : (c : ℕ) → c < 128 → is_call_form (takes_of c) ≡ true → is_calling (syntax_of (word_of c)) ≡ true
 unfolding takes_of operation_of word_of
-call_word c h e = follows _ _ (agree_below_at (λ c. not (is_call (takes_of c)) || is_calling (syntax_of (word_of c))) (λ c. true) 128 c refl h) e
+call_word c h e = follows _ _ (agree_below_at (λ c. not (is_call_form (takes_of c)) || is_calling (syntax_of (word_of c))) (λ c. true) 128 c refl h) e
 
 open_word : (c : ℕ) → c < 128 → is_open (takes_of c) ≡ true → is_opens (syntax_of (word_of c)) ≡ true
 unfolding takes_of operation_of word_of
@@ -391,7 +391,7 @@ for_printed line formals None p named f e place = tt
 for_printed line formals (Some f) p named name e place = (record { line_is = refl; word = name; value = passed_printed formals f p named e place }, tt)
 
 here_printed : (line : ℕ) (formals called : List Formal) (o : FlatOperand) → AreWords formals → AreWords called → payload_fits o ≡ true → Prepares o → AllByRecursion (IsPrintedActual line) (actual_here line formals called o)
-unfolding actual
+unfolding passed_coding
 here_printed line formals called (flat.Pass index p) named others e place = for_printed line formals (slice_get called index) p named (named_word called index others) (and_parts _ (actual_fits p) e).1 place
 here_printed line formals called _ named others e place = tt
 
@@ -411,7 +411,7 @@ instance_called kind number instance n i (inr fb) = subst (λ (k : ℕ). IsCalle
     (either_way (λ o. IsCalled (operand.Called (block.Number (called_id 3 number)) o)) (instance == 0) None (Some (data_block_name instance)) n ((refl, n), (refl, i)))
 
 -- CALL with its actual parameters, or UC and CC
-called_fits : (line code kind number instance : ℕ) (formals called : List Formal) (before : List OpData) → code < 128 → is_call (takes_of code) ≡ true → IsNumber number → IsNumber instance
+called_fits : (line code kind number instance : ℕ) (formals called : List Formal) (before : List OpData) → code < 128 → is_call_form (takes_of code) ≡ true → IsNumber number → IsNumber instance
     → IsCallBy before code kind instance → AllByRecursion (IsPrintedActual line) (actuals_before line formals called before)
     → FitsSyntax line (syntax_of (word_of code)) (operand.Called (block.Number (called_id kind number)) (instance_name instance)) (actuals_before line formals called before)
 unfolding word_of
@@ -448,11 +448,11 @@ fits ss line formals starts before code (flat.Direct ar w byte bit) known named 
     plain_fits line (syntax_of (word_of code)) _ (plain_word code h (direct_plain (takes_of code) a))
     (place_printed (opened_by before) (writes (operation_of code)) ar w byte bit (opened_number before ops) shown.0 shown.1 (byte_place ar w byte bit e))
 fits ss line formals starts before code (flat.ByMemory ar w from byte) known named ops prepares h a e shown word =
-    let parts = and_parts (in_memory ar) (holds_pointers from && nat_lt byte 65536) e in
+    let parts = and_parts (is_memory_area ar) (holds_pointers from && nat_lt byte 65536) e in
     let more = and_parts (holds_pointers from) (nat_lt byte 65536) parts.1 in
     plain_fits line (syntax_of (word_of code)) _ (plain_word code h (indirect_plain (takes_of code) a)) (memory_is ar w parts.0, pointer_is from more.0, number_is byte more.1)
 fits ss line formals starts before code (flat.ByRegister ar w register bits) known named ops prepares h a e shown word =
-    let parts = and_parts (crosses ar) ((nat_lt register 256 && (nat_le 1 register && nat_le register 2)) && nat_lt bits 4294967296) e in
+    let parts = and_parts (is_crossing_area ar) ((nat_lt register 256 && (nat_le 1 register && nat_le register 2)) && nat_lt bits 4294967296) e in
     let within_ = (and_parts (nat_lt register 256) (nat_le 1 register && nat_le register 2) (and_parts (nat_lt register 256 && (nat_le 1 register && nat_le register 2)) (nat_lt bits 4294967296) parts.1).0).1 in
     let bounds = and_parts (nat_le 1 register) (nat_le register 2) within_ in
     plain_fits line (syntax_of (word_of code)) _ (plain_word code h (indirect_plain (takes_of code) a)) (crossing_is ar w parts.0, one_or_two register bounds.0 bounds.1, shown)

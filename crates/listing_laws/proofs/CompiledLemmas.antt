@@ -3,7 +3,7 @@ use Rattle.std.proofs.Common.{ℕ, suc, ◌*◌, ◌/◌, ◌<◌, Bool, true, f
 use Rattle.std.specs.Prelude.{MatchOption, slice_get, if◌then◌else◌}
 use Rattle.std.specs.List.{AllByRecursion}
 use Rattle.plc_base.proofs.ListLemmas.{all_append}
-use Rattle.plc_base.specs.Folding.{folded}
+use Rattle.plc_base.specs.Folding.{upper_case_name}
 use Rattle.plc_base.specs.Kinds.{is_code}
 use Rattle.plc_base.specs.declared.blocks.BlockId.{BlockId}
 use Rattle.plc_base.specs.declared.places.Area.{Area}
@@ -134,7 +134,7 @@ target_short (target.Counter n) = tt
 target_short (target.Block id) = tt
 
 path_short : (c : Context) (p : PathHead) (steps : List PathStep) → SeenShort (path_seen c p steps)
-path_short c (head.Local name) steps = own_short c (folded name) (folded_path steps)
+path_short c (head.Local name) steps = own_short c (upper_case_name name) (folded_path steps)
 path_short c (head.InBlock name) steps = data_short c name (folded_path steps)
 path_short c (head.Symbol name) steps = by (symbol_named name c.symbols) where
   by : (found : Option Symbol) → SeenShort (symbol_seen found)

@@ -11,8 +11,8 @@ use Rattle.plc_base.specs.declared.blocks.BlockKind.{BlockKind}
 use Rattle.plc_base.specs.declared.blocks.BlockKind.TheVariants as kinds
 use Rattle.flat_code.proofs.PartLemmas.{all_of_blocks, chain_parts, good_block, good_head, unless_fine}
 use Rattle.flat_code.specs.Codes.{are_ops}
-use Rattle.flat_code.specs.Faults.{fault_of, unless}
-use Rattle.flat_code.specs.Image.{IsProgram, body, body_rows, code_block, code_blocks, counts, counts_of, data_blocks, kind_field, names, parameter_count, parts_of_block, parts_of_records, plain_block, record_of_block, record_of_param, records, records_of, row_of_body_parts}
+use Rattle.flat_code.specs.Faults.{field_fault, unless}
+use Rattle.flat_code.specs.Image.{IsProgram, body, body_rows, code_block_layout, code_blocks, counts_layout, counts_of, data_blocks_layout, kind_field, names, parameter_count_layout, parts_of_block, parts_of_records, plain_block, record_of_block, record_of_param, records, records_of, row_of_body_parts}
 use Rattle.flat_code.specs.Layout.{chain, is_fine}
 use Rattle.flat_code.specs.Programs.{CodeBlock, DataBlock, Program}
 use Rattle.flat_code.specs.declared.programs.Param.{Param}
@@ -90,7 +90,7 @@ pub record IsHead (b : CodeBlock) : Type 0 where
   pub code : are_ops b.code ≡ true
 
 kind_is : (before : ℕ) (k : BlockKind) → (kind_field before).good (kind_number k) ≡ true → is_code k ≡ true
-unfolding kind_field fault_of
+unfolding kind_field field_fault
 kind_is before kinds.Ob good = refl
 kind_is before kinds.Fc good = refl
 kind_is before kinds.Fb good = refl
@@ -98,8 +98,8 @@ kind_is before kinds.Db good = absurd (false≢true good)
 kind_is before kinds.Sfc good = absurd (false≢true good)
 kind_is before kinds.Udt good = absurd (false≢true good)
 
-count_is : (k : BlockKind) (count : ℕ) → (parameter_count (kind_number k)).good count ≡ true → is_organization_block k ≡ true → count ≡ 0
-unfolding parameter_count fault_of
+count_is : (k : BlockKind) (count : ℕ) → (parameter_count_layout (kind_number k)).good count ≡ true → is_organization_block k ≡ true → count ≡ 0
+unfolding parameter_count_layout field_fault
 count_is kinds.Ob count good is =
     let few = leb count 60 in
     let none = eqb count 0 in
@@ -111,8 +111,8 @@ count_is kinds.Db count good is = absurd (false≢true is)
 count_is kinds.Sfc count good is = absurd (false≢true is)
 count_is kinds.Udt count good is = absurd (false≢true is)
 
-head_is : (before : ℕ × ℕ) (b : CodeBlock) → (code_block false before).good (record_of_block b) ≡ true → IsHead b
-unfolding code_block plain_block
+head_is : (before : ℕ × ℕ) (b : CodeBlock) → (code_block_layout false before).good (record_of_block b) ≡ true → IsHead b
+unfolding code_block_layout plain_block
 head_is before b good =
     let parts = parts_of_block (record_of_block b) in
     let whole = good_block false before 0 parts good in
@@ -127,8 +127,8 @@ pub program_heads : (p : Program) → IsProgram p → AllByRecursion IsHead p.co
 unfolding body records body_rows
 program_heads p is =
     let row = row_of_body_parts (parts_of_records (records_of p)) in
-    let a = chain_parts counts (λ c. chain (code_blocks false c.code_blocks) (λ blocks. chain (data_blocks c.data_blocks) (λ datas. names c.names))) row is.good in
-    let b = chain_parts (code_blocks false (counts_of (records_of p)).code_blocks) (λ blocks. chain (data_blocks (counts_of (records_of p)).data_blocks) (λ datas. names (counts_of (records_of p)).names)) row.1 a.1 in
+    let a = chain_parts counts_layout (λ c. chain (code_blocks false c.code_blocks) (λ blocks. chain (data_blocks_layout c.data_blocks) (λ datas. names c.names))) row is.good in
+    let b = chain_parts (code_blocks false (counts_of (records_of p)).code_blocks) (λ blocks. chain (data_blocks_layout (counts_of (records_of p)).data_blocks) (λ datas. names (counts_of (records_of p)).names)) row.1 a.1 in
     all_of_blocks false IsHead head_is (counts_of (records_of p)).code_blocks p.code_blocks b.0
 
 -- ---- parameters

@@ -4,7 +4,7 @@ use Rattle.std.specs.Prelude.{nat_lt}
 use Rattle.std.specs.List.{AllByRecursion}
 use Rattle.std.specs.Option.{option_and_then}
 use Rattle.std.proofs.lemmas.Bool.Decides.{nat_tests}
-use Rattle.plc_base.specs.Gathered.{gathered}
+use Rattle.plc_base.specs.Gathered.{refusals_along}
 use Rattle.plc_base.specs.Least.{broken_if}
 use Rattle.plc_base.specs.declared.blocks.BlockId.{BlockId}
 use Rattle.stl_ast.specs.declared.blocks.Block.{Block}
@@ -33,7 +33,7 @@ not_earlier n = grind (arith, nat_tests)
 -- none stands twice, of blocks that have these kinds and numbers
 once_from : (y : Types) (front ids : List BlockId) (before bs : List Block) → y.ids ≡ map (λ i. Some i) (front ++ ids) → map (λ b. id_of y.symbols b) bs ≡ map (λ i. Some i) ids
     → length before ≡ length front → Pairs NotSame (front ++ ids)
-    → gathered (λ b. false) (λ before b. broken_if (is_block_twice y before b) b.line 22) (λ before b. b ∷ before) before bs ≡ []
+    → refusals_along (λ b. false) (λ before b. broken_if (is_block_twice y before b) b.line 22) (λ before b. b ∷ before) before bs ≡ []
 once_from y front ids before [] whole same size apart = refl
 once_from y front [] before (b ∷ bs) whole same size apart = absurd cc
 once_from y front (id ∷ ids) before (b ∷ bs) whole same size apart =
@@ -45,7 +45,7 @@ once_from y front (id ∷ ids) before (b ∷ bs) whole same size apart =
     let group : (front ++ id ∷ []) ++ ids ≡ front ++ id ∷ ids = append_assoc front (id ∷ []) ids in
     let longer = length-append front (id ∷ []) in
     let more = once_from y (front ++ id ∷ []) ids (b ∷ before) bs (whole ∙ ap (map (λ i. Some i)) (sym group)) parts.1 (omega (arith, size, longer)) (subst (Pairs NotSame) (sym group) apart) in
-    ap (λ (t : Bool). broken_if t b.line 22 ++ gathered (λ b. false) (λ before b. broken_if (is_block_twice y before b) b.line 22) (λ before b. b ∷ before) (b ∷ before) bs) once ∙ more
+    ap (λ (t : Bool). broken_if t b.line 22 ++ refusals_along (λ b. false) (λ before b. broken_if (is_block_twice y before b) b.line 22) (λ before b. b ∷ before) (b ∷ before) bs) once ∙ more
 
 pub blocks_once : AreBlocksOnce
 unfolding rule_22
@@ -58,13 +58,13 @@ blocks_once t symbols listed h =
 
 -- none has a number beyond the limits
 right_from : (symbols : List Symbol) (ids : List BlockId) (before bs : List Block) → map (λ b. id_of symbols b) bs ≡ map (λ i. Some i) ids → AllByRecursion IsRight ids
-    → gathered (λ b. false) (λ before b. broken_if (has_wrong_number symbols b) b.line 44) (λ before b. b ∷ before) before bs ≡ []
+    → refusals_along (λ b. false) (λ before b. broken_if (has_wrong_number symbols b) b.line 44) (λ before b. b ∷ before) before bs ≡ []
 right_from symbols ids before [] same right = refl
 right_from symbols [] before (b ∷ bs) same right = absurd cc
 right_from symbols (id ∷ ids) before (b ∷ bs) same right =
     let parts = heads (id_of symbols b) (Some id) (map (λ b. id_of symbols b) bs) (map (λ i. Some i) ids) same in
     let within : has_wrong_number symbols b ≡ false = ap is_beyond parts.0 ∙ ap (λ (t : Bool). not t) right.0 in
-    ap (λ (t : Bool). broken_if t b.line 44 ++ gathered (λ b. false) (λ before b. broken_if (has_wrong_number symbols b) b.line 44) (λ before b. b ∷ before) (b ∷ before) bs) within
+    ap (λ (t : Bool). broken_if t b.line 44 ++ refusals_along (λ b. false) (λ before b. broken_if (has_wrong_number symbols b) b.line 44) (λ before b. b ∷ before) (b ∷ before) bs) within
     ∙ right_from symbols ids (b ∷ before) bs parts.1 right.1
 
 pub numbers_right : AreNumbersRight

@@ -6,7 +6,7 @@ use Rattle.std.specs.Option.{option_and_then, option_map}
 use Rattle.std.proofs.lemmas.Bool.{eq-eqb}
 use Rattle.std.proofs.lemmas.Bool.Decides.{nat_tests}
 use Rattle.plc_base.proofs.ListLemmas.{all_append, all_back, all_front, nil_parts}
-use Rattle.plc_base.specs.Gathered.{gathered}
+use Rattle.plc_base.specs.Gathered.{refusals_along}
 use Rattle.plc_base.specs.Kinds.{is_code, is_data_block, is_data_type, is_same_block, is_same_kind, is_system_function, kind_order}
 use Rattle.plc_base.specs.Least.{broken_if}
 use Rattle.plc_base.specs.declared.blocks.BlockId.{BlockId}
@@ -413,7 +413,7 @@ abbrev ids_by : Types → List Block → List (Option BlockId)
 ids_by y bs = map (λ b. id_of y.symbols b) bs
 
 none_twice : (y : Types) (front : List (Option BlockId)) (before bs : List Block) → y.ids ≡ front ++ ids_by y bs → length before ≡ length front
-    → gathered (λ b. false) (λ before b. broken_if (is_block_twice y before b) b.line 22) (λ before b. b ∷ before) before bs ≡ []
+    → refusals_along (λ b. false) (λ before b. broken_if (is_block_twice y before b) b.line 22) (λ before b. b ∷ before) before bs ≡ []
     → AllByRecursion (λ j. AllByRecursion (Far j) front) (ids_by y bs) × Pairs Far (ids_by y bs)
 none_twice y front before [] whole size h = (tt, tt)
 none_twice y front before (b ∷ bs) whole size h =
@@ -429,7 +429,7 @@ none_twice y front before (b ∷ bs) whole size h =
     ((far_front i front (ids_by y (b ∷ bs)) here, fronts.0), (fronts.1, more.1))
 
 none_beyond : (symbols : List Symbol) (before bs : List Block)
-    → gathered (λ b. false) (λ before b. broken_if (has_wrong_number symbols b) b.line 44) (λ before b. b ∷ before) before bs ≡ []
+    → refusals_along (λ b. false) (λ before b. broken_if (has_wrong_number symbols b) b.line 44) (λ before b. b ∷ before) before bs ≡ []
     → AllByRecursion (λ i. is_beyond i ≡ false) (ids_of symbols bs)
 none_beyond symbols before [] h = tt
 none_beyond symbols before (b ∷ bs) h =

@@ -6,7 +6,7 @@ use Rattle.std.proofs.lemmas.Bool.{false_from_ne_true, ltb-true, ne_eqb}
 use Rattle.std.proofs.lemmas.Bool.Decides.{nat_tests}
 use Rattle.std.proofs.lemmas.Slice.Eq.{bytes_eq-Decides}
 use Rattle.flat_code.specs.Instr.{Instr, Does, Jumps, JumpsByList, Calls, Returns}
-use Rattle.flat_code.specs.OpCodes.{code_of}
+use Rattle.flat_code.specs.OpCodes.{op_code_of}
 use Rattle.flat_code.specs.declared.operands.Operand.{Operand}
 use Rattle.flat_code.specs.declared.operands.Operand.TheVariants as operand
 use Rattle.stl_ast.specs.Statements.{is_empty}
@@ -146,7 +146,7 @@ operand_words f op_code (operand.Jump kind target) = refl
 operand_words f op_code _ = refl
 
 pub same_word : (f : ℕ → ℕ) (i : Instr) → mnemonic_of (run_of f i).op ≡ mnemonic_of (run_of (λ n. n) i).op
-same_word f (Does use_db w o) = operand_words f (code_of w) o
+same_word f (Does use_db w o) = operand_words f (op_code_of w) o
 same_word f (Jumps how target) = refl
 same_word f (JumpsByList targets otherwise) = refl
 same_word f (Calls how block instance passings) = refl

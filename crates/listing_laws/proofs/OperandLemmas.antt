@@ -3,7 +3,7 @@ use Rattle.std.proofs.Common.{◌≡◌, ℕ, zero, suc, ◌≤◌, ◌<◌, ◌
 use Rattle.std.specs.Prelude.{MatchOption, option_map, nat_lt, ◌==◌, slice_get}
 use Rattle.std.specs.List.{AllByRecursion}
 use Rattle.std.proofs.lemmas.Bool.{and_parts, ltb-true}
-use Rattle.flat_code.specs.Forms.{actual_fits, direct, payload_fits}
+use Rattle.flat_code.specs.Forms.{actual_fits, direct_coding, payload_fits}
 use Rattle.flat_code.specs.Ops.{OpData}
 use Rattle.flat_code.specs.declared.operands.Operand.TheVariants as flat
 use Rattle.flat_code.specs.declared.operands.Operand.{Operand as FlatOperand}
@@ -35,8 +35,8 @@ byte_is : (n : ℕ) → nat_lt n 256 ≡ true → n ≤ 65535
 byte_is n e = omega (arith, ltb-true n 256 e)
 
 -- a place that fits form 02
-direct_is : (a : Area) (w : Width) (byte bit : ℕ) → direct.fits (a, (w, (byte, bit))) ≡ true → (byte ≤ 65535) × (bit ≤ 65535)
-unfolding direct
+direct_is : (a : Area) (w : Width) (byte bit : ℕ) → direct_coding.fits (a, (w, (byte, bit))) ≡ true → (byte ≤ 65535) × (bit ≤ 65535)
+unfolding direct_coding
 direct_is a w byte bit e =
     let parts = and_parts (nat_lt byte 65536) _ e in
     (number_is byte parts.0, byte_is bit (and_parts (nat_lt bit 256) _ parts.1).0)
@@ -109,6 +109,6 @@ passed_is formals f (passed.Literal value) named e = typed_printable f.kind valu
 passed_is formals f (passed.Direct a width byte bit) named e = let is = direct_is a width byte bit e in (tt, is.0, is.1)
 passed_is formals f (passed.Parameter index width) named e = own_is formals index (omega (arith, byte_is index (and_parts (nat_lt index 256) _ e).0)) named
 passed_is formals f (passed.InBlock number a width byte bit) named e =
-    let parts = and_parts (nat_lt number 65536) (direct.fits (a, (width, (byte, bit)))) e in
+    let parts = and_parts (nat_lt number 65536) (direct_coding.fits (a, (width, (byte, bit)))) e in
     let is = direct_is a width byte bit parts.1 in
     (number_is number parts.0, is.0, is.1)

@@ -5,9 +5,9 @@ use Rattle.std.specs.List.{AllByRecursion}
 use Rattle.std.proofs.lemmas.Bool.{and_parts, ltb-true, false≢true}
 use Rattle.std.proofs.lemmas.List.{length-map}
 use Rattle.flat_code.proofs.PartLemmas.{all_of_blocks, chain_parts, good_block, good_head, head_params}
-use Rattle.flat_code.specs.Codes.{are_ops, code_of, is_nowhere, stop_at}
+use Rattle.flat_code.specs.Codes.{are_ops, code_layout, is_nowhere, stop_at}
 use Rattle.flat_code.specs.Forms.{payload_fits}
-use Rattle.flat_code.specs.Image.{IsProgram, after_data, block_number, body, body_rows, bytes_fit, code_block, code_blocks, contents, counts, counts_of, data_block, data_blocks, data_len, data_number, data_row, data_rows, fields_of_data, instance_bytes, instance_field, local_bytes, names, number_of_instance, parts_of_block, parts_of_records, plain_block, record_of_block, record_of_param, records, records_of, row_of_body_parts, zero_u16}
+use Rattle.flat_code.specs.Image.{IsProgram, after_data, block_number_layout, body, body_rows, bytes_fit, code_block_layout, code_blocks, contents, counts_layout, counts_of, data_block_layout, data_blocks_layout, data_length_layout, data_number_layout, data_row, data_rows, fields_of_data, instance_bytes, instance_field, local_length_layout, names, number_of_instance, parts_of_block, parts_of_records, plain_block, record_of_block, record_of_param, records, records_of, row_of_body_parts, zero_u16}
 use Rattle.flat_code.specs.Layout.{chain, good_many}
 use Rattle.flat_code.specs.Ops.{OpData, is_op}
 use Rattle.flat_code.specs.Programs.{CodeBlock, DataBlock, Program}
@@ -53,24 +53,24 @@ record IsGoodCode (b : CodeBlock) : Type 0 where
   params : length b.params ≤ 60
   code : are_ops b.code ≡ true
 
-block_number_fits : (kind_before before kind n : ℕ) → (block_number kind_before before kind).good n ≡ true → n < 65536
-unfolding block_number
+block_number_fits : (kind_before before kind n : ℕ) → (block_number_layout kind_before before kind).good n ≡ true → n < 65536
+unfolding block_number_layout
 block_number_fits kind_before before kind n good = ltb-true n 65536 (and_parts (nat_lt n 65536) _ good).0
 
-local_fits : (kind n : ℕ) → (local_bytes kind).good n ≡ true → n < 65536
-unfolding local_bytes
+local_fits : (kind n : ℕ) → (local_length_layout kind).good n ≡ true → n < 65536
+unfolding local_length_layout
 local_fits kind n good = ltb-true n 65536 (and_parts (nat_lt n 65536) _ good).0
 
 instance_fits : (kind n : ℕ) → (instance_bytes kind).good n ≡ true → n < 65536
 unfolding instance_bytes
 instance_fits kind n good = ltb-true n 65536 (and_parts (nat_lt n 65536) _ good).0
 
-pub ops_fit : (judged : Bool) (n : ℕ) (ops : List OpData) → (code_of judged n).good ops ≡ true → are_ops ops ≡ true
-unfolding code_of
+pub ops_fit : (judged : Bool) (n : ℕ) (ops : List OpData) → (code_layout judged n).good ops ≡ true → are_ops ops ≡ true
+unfolding code_layout
 ops_fit judged n ops good = (and_parts (are_ops ops) (is_nowhere (stop_at judged ops [])) (and_parts _ _ good).0).0
 
-good_code : (before : ℕ × ℕ) (b : CodeBlock) → (code_block false before).good (record_of_block b) ≡ true → IsGoodCode b
-unfolding code_block plain_block
+good_code : (before : ℕ × ℕ) (b : CodeBlock) → (code_block_layout false before).good (record_of_block b) ≡ true → IsGoodCode b
+unfolding code_block_layout plain_block
 good_code before b good =
     let parts = parts_of_block (record_of_block b) in
     let whole = good_block false before 0 parts good in
@@ -108,12 +108,12 @@ code_listed (b ∷ bs) (g, gs) (one, more) = (
 
 -- ---- data blocks
 
-number_fits : (before n : ℕ) → (data_number before).good n ≡ true → n < 65536
-unfolding data_number
+number_fits : (before n : ℕ) → (data_number_layout before).good n ≡ true → n < 65536
+unfolding data_number_layout
 number_fits before n good = ltb-true n 65536 (and_parts (nat_lt n 65536) _ good).0
 
-size_fits : (before n : ℕ) → (data_len before).good n ≡ true → n < 65536
-unfolding data_len
+size_fits : (before n : ℕ) → (data_length_layout before).good n ≡ true → n < 65536
+unfolding data_length_layout
 size_fits before n good = ltb-true n 65536 (and_parts (nat_lt n 65536) _ good).0
 
 instance_of_fits : (of_ : Option ℕ) → instance_field.good (number_of_instance of_) ≡ true → IsInstanceOf of_
@@ -131,12 +131,12 @@ contents_are : (n : ℕ) (bs : List ℕ) → (contents n).good bs ≡ true → A
 unfolding contents
 contents_are n bs good = bytes_are bs (and_parts (length bs == n) (bytes_fit bs) (and_parts (length bs == n && bytes_fit bs) _ good).0).1
 
-data_listed : (before : ℕ × ℕ) (d : DataBlock) → (data_block before).good d ≡ true → IsListedData d
-unfolding data_block data_rows
+data_listed : (before : ℕ × ℕ) (d : DataBlock) → (data_block_layout before).good d ≡ true → IsListedData d
+unfolding data_block_layout data_rows
 data_listed before d good =
-    let a = chain_parts (data_number before.0) (λ number. chain instance_field (λ instance. chain (data_len before.1) (λ n. chain zero_u16 (λ zero. contents n)))) (data_row (fields_of_data d)) good in
-    let b = chain_parts instance_field (λ instance. chain (data_len before.1) (λ n. chain zero_u16 (λ zero. contents n))) (data_row (fields_of_data d)).1 a.1 in
-    let c = chain_parts (data_len before.1) (λ n. chain zero_u16 (λ zero. contents n)) (data_row (fields_of_data d)).1.1 b.1 in
+    let a = chain_parts (data_number_layout before.0) (λ number. chain instance_field (λ instance. chain (data_length_layout before.1) (λ n. chain zero_u16 (λ zero. contents n)))) (data_row (fields_of_data d)) good in
+    let b = chain_parts instance_field (λ instance. chain (data_length_layout before.1) (λ n. chain zero_u16 (λ zero. contents n))) (data_row (fields_of_data d)).1 a.1 in
+    let c = chain_parts (data_length_layout before.1) (λ n. chain zero_u16 (λ zero. contents n)) (data_row (fields_of_data d)).1.1 b.1 in
     let f = chain_parts zero_u16 (λ zero. contents (length d.bytes)) (data_row (fields_of_data d)).1.1.1 c.1 in
     record {
       number = omega (arith, number_fits before.0 d.number a.0);
@@ -145,22 +145,22 @@ data_listed before d good =
       bytes = contents_are (length d.bytes) d.bytes f.1;
     }
 
-datas_listed : (s : ℕ × ℕ) (n : ℕ) (ds : List DataBlock) → good_many data_block after_data s n ds ≡ true → AllByRecursion IsListedData ds
+datas_listed : (s : ℕ × ℕ) (n : ℕ) (ds : List DataBlock) → good_many data_block_layout after_data s n ds ≡ true → AllByRecursion IsListedData ds
 datas_listed s n [] h = tt
 datas_listed s zero (d ∷ ds) h = absurd (false≢true h)
 datas_listed s (suc n) (d ∷ ds) h =
-    let g = and_parts ((data_block s).good d) (good_many data_block after_data (after_data s d) n ds) h in
+    let g = and_parts ((data_block_layout s).good d) (good_many data_block_layout after_data (after_data s d) n ds) h in
     (data_listed s d g.0, datas_listed (after_data s d) n ds g.1)
 
 -- ---- programs
 
 pub program_listed : (p : Program) → IsProgram p → IsWrittenProgram p → IsListed p
-unfolding body records body_rows data_blocks
+unfolding body records body_rows data_blocks_layout
 program_listed p is w =
     let row = row_of_body_parts (parts_of_records (records_of p)) in
-    let a = chain_parts counts (λ c. chain (code_blocks false c.code_blocks) (λ blocks. chain (data_blocks c.data_blocks) (λ datas. names c.names))) row is.good in
-    let b = chain_parts (code_blocks false (counts_of (records_of p)).code_blocks) (λ blocks. chain (data_blocks (counts_of (records_of p)).data_blocks) (λ datas. names (counts_of (records_of p)).names)) row.1 a.1 in
-    let c = chain_parts (data_blocks (counts_of (records_of p)).data_blocks) (λ datas. names (counts_of (records_of p)).names) row.1.1 b.1 in
+    let a = chain_parts counts_layout (λ c. chain (code_blocks false c.code_blocks) (λ blocks. chain (data_blocks_layout c.data_blocks) (λ datas. names c.names))) row is.good in
+    let b = chain_parts (code_blocks false (counts_of (records_of p)).code_blocks) (λ blocks. chain (data_blocks_layout (counts_of (records_of p)).data_blocks) (λ datas. names (counts_of (records_of p)).names)) row.1 a.1 in
+    let c = chain_parts (data_blocks_layout (counts_of (records_of p)).data_blocks) (λ datas. names (counts_of (records_of p)).names) row.1.1 b.1 in
     record {
       code_blocks = code_listed p.code_blocks (all_of_blocks false IsGoodCode good_code (counts_of (records_of p)).code_blocks p.code_blocks b.0) w;
       data_blocks = datas_listed (0, 0) (counts_of (records_of p)).data_blocks p.data_blocks c.0;

@@ -9,7 +9,7 @@ use Rattle.plc_base.specs.Kinds.{is_code}
 use Rattle.plc_base.specs.declared.blocks.BlockId.{BlockId}
 use Rattle.flat_code.specs.Codes.{are_ops}
 use Rattle.flat_code.specs.Instr.{Calls, Does, Instr, Jumps, JumpsByList, Returns}
-use Rattle.flat_code.specs.OpCodes.{code_of}
+use Rattle.flat_code.specs.OpCodes.{op_code_of}
 use Rattle.flat_code.specs.Ops.{IsOp, OpData, is_op}
 use Rattle.flat_code.specs.declared.operands.Operand.TheVariants as flat
 use Rattle.flat_code.specs.declared.operands.Operand.{Operand as FlatOperand}
@@ -132,7 +132,7 @@ word_aimed f code (flat.Jump kind target) = refl
 word_aimed f code _ = refl
 
 word_same : (f : ℕ → ℕ) (i : Instr) → mnemonic_of (run_of f i).op ≡ mnemonic_of (run_of (λ n. n) i).op
-word_same f (Does use_db w o) = word_aimed f (code_of w) o
+word_same f (Does use_db w o) = word_aimed f (op_code_of w) o
 word_same f (Jumps how target) = refl
 word_same f (JumpsByList targets otherwise) = refl
 word_same f (Calls how id instance passings) = refl

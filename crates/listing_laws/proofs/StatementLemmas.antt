@@ -4,7 +4,7 @@ use Rattle.std.specs.Prelude.{MatchOption, ◌==◌, slice_get, unwrap_or}
 use Rattle.std.specs.List.{AllByRecursion}
 use Rattle.std.proofs.lemmas.Bool.{and_parts}
 use Rattle.plc_base.proofs.ListLemmas.{all_append}
-use Rattle.flat_code.specs.Forms.{actual, actual_fits, payload_fits}
+use Rattle.flat_code.specs.Forms.{passed_coding, actual_fits, payload_fits}
 use Rattle.flat_code.specs.Operations.{operation_of}
 use Rattle.flat_code.specs.Ops.{OpData}
 use Rattle.flat_code.specs.Programs.{CodeBlock}
@@ -44,7 +44,7 @@ for_is line formals None p named f e = tt
 for_is line formals (Some f) p named name e = ((name, passed_is formals f p named e), tt)
 
 here_is : (line : ℕ) (formals called : List Formal) (o : FlatOperand) → AreFormals formals → AreFormals called → payload_fits o ≡ true → AllByRecursion IsPrintableActual (actual_here line formals called o)
-unfolding actual
+unfolding passed_coding
 here_is line formals called (flat.Pass index p) named others e = for_is line formals (slice_get called index) p named (named_at called index others) (and_parts _ (actual_fits p) e).1
 here_is line formals called _ named others e = tt
 

@@ -16,7 +16,7 @@ use Rattle.csv.specs.Writing.{default_writer, escaped, fields_text, is_blank as 
 use Rattle.csv.specs.declared.parser.State.TheVariants as st
 use Rattle.csv.proofs.RoundTrip.{quoted-run}
 use Rattle.plc_base.specs.Decimal.{decimal_up_to, is_decimal}
-use Rattle.plc_base.specs.Folding.{folded}
+use Rattle.plc_base.specs.Folding.{upper_case_name}
 use Rattle.plc_base.specs.Texts.{is_blank}
 use Rattle.plc_base.specs.declared.places.Area.{Area}
 use Rattle.plc_base.specs.declared.places.Area.TheVariants as area
@@ -47,7 +47,7 @@ pub record IsNamed (e : NameEntry) : Type 0 where
   pub number : e.place.number ≡ 0
   pub byte : e.place.byte ≤ 65535
   pub bit : IsFirstBit e.width e.place.bit
-  pub upper : folded e.name ≡ e.name
+  pub upper : upper_case_name e.name ≡ e.name
   pub some : 1 ≤ length e.name
   pub short : length e.name ≤ 24
   pub ends : is_blank (get_or e.name (length e.name - 1) 0) ≡ false

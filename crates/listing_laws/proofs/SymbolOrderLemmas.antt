@@ -9,7 +9,7 @@ use Rattle.std.proofs.lemmas.Bool.Decides.{nat_tests}
 use Rattle.std.proofs.lemmas.Cmp.{nat_list_eq_equiv}
 use Rattle.std.proofs.lemmas.List.{get_or-map, length-map}
 use Rattle.plc_base.proofs.ListLemmas.{all_append}
-use Rattle.plc_base.specs.Folding.{folded, is_same_name}
+use Rattle.plc_base.specs.Folding.{upper_case_name, is_same_name}
 use Rattle.plc_base.specs.Texts.{is_blank}
 use Rattle.plc_base.specs.declared.refusals.Refusal.{Refusal}
 use Rattle.flat_code.specs.Programs.{NameEntry}
@@ -164,14 +164,14 @@ names_lines language file symbols are =
 
 -- ---- an entry of a symbol
 
-upper_twice : (name : List ℕ) → folded (folded name) ≡ folded name
+upper_twice : (name : List ℕ) → upper_case_name (upper_case_name name) ≡ upper_case_name name
 upper_twice [] = refl
 upper_twice (b ∷ name) = rw (byte_twice b, upper_twice name) refl
   where
     byte_twice : (b : ℕ) → to_ascii_uppercase (to_ascii_uppercase b) ≡ to_ascii_uppercase b
     byte_twice b = grind (arith, nat_tests)
 
-upper_line : (name : List ℕ) → IsLine name → IsLine (folded name)
+upper_line : (name : List ℕ) → IsLine name → IsLine (upper_case_name name)
 upper_line [] h = refl
 upper_line (b ∷ name) h =
     let parts = and_parts (ends_no_line b) (list_all ends_no_line name) h in
@@ -180,10 +180,10 @@ upper_line (b ∷ name) h =
     byte_line : (b : ℕ) → ends_no_line b ≡ true → ends_no_line (to_ascii_uppercase b) ≡ true
     byte_line b e = grind (arith, nat_tests)
 
-upper_ends : (name : List ℕ) → 1 ≤ length name → is_blank (get_or name (length name - 1) 0) ≡ false → is_blank (get_or (folded name) (length (folded name) - 1) 0) ≡ false
+upper_ends : (name : List ℕ) → 1 ≤ length name → is_blank (get_or name (length name - 1) 0) ≡ false → is_blank (get_or (upper_case_name name) (length (upper_case_name name) - 1) 0) ≡ false
 upper_ends name some h =
     let size = length-map name to_ascii_uppercase in
-    ap (λ k. is_blank (get_or (folded name) (k - 1) 0)) size
+    ap (λ k. is_blank (get_or (upper_case_name name) (k - 1) 0)) size
     ∙ ap is_blank (get_or-map to_ascii_uppercase name (length name - 1) 0 0 (omega (arith, some)))
     ∙ still (get_or name (length name - 1) 0) h
   where
@@ -194,7 +194,7 @@ entry_named : (name : List ℕ) (t : Target) → 1 ≤ length name → length na
     → AllByRecursion IsNamed (name_entry name t)
 entry_named name (Variable place w) some short ends line is = by (has_name place.area) refl
   where
-    by : (b : Bool) → has_name place.area ≡ b → AllByRecursion IsNamed (cond b (record { name = folded name; place = place; width = w } ∷ []) [])
+    by : (b : Bool) → has_name place.area ≡ b → AllByRecursion IsNamed (cond b (record { name = upper_case_name name; place = place; width = w } ∷ []) [])
     by true e =
         let size = length-map name to_ascii_uppercase in (
           record {
@@ -226,16 +226,16 @@ all_named (s ∷ symbols) h k =
 
 -- ---- no two of one name
 
-same_upper : (a b : List ℕ) → is_same_name (folded a) (folded b) ≡ is_same_name a b
+same_upper : (a b : List ℕ) → is_same_name (upper_case_name a) (upper_case_name b) ≡ is_same_name a b
 same_upper a b = rw (upper_twice a, upper_twice b) refl
 
 abbrev Far : List ℕ → NameEntry → Type 0
-Far name f = is_same_name f.name (folded name) ≡ false
+Far name f = is_same_name f.name (upper_case_name name) ≡ false
 
 entry_far : (name own : List ℕ) (t : Target) → is_same_name own name ≡ false → AllByRecursion (Far name) (name_entry own t)
 entry_far name own (Variable place w) h = by (has_name place.area)
   where
-    by : (b : Bool) → AllByRecursion (Far name) (cond b (record { name = folded own; place = place; width = w } ∷ []) [])
+    by : (b : Bool) → AllByRecursion (Far name) (cond b (record { name = upper_case_name own; place = place; width = w } ∷ []) [])
     by true = (same_upper own name ∙ h, tt)
     by false = tt
 entry_far name own (Timer n) h = tt
@@ -248,7 +248,7 @@ all_far name symbols h = all_joined (λ y. is_same_name y.name name ≡ false) (
 entry_apart : (name : List ℕ) (t : Target) (es : List NameEntry) → AllByRecursion (Far name) es → Apart es → Apart (name_entry name t ++ es)
 entry_apart name (Variable place w) es h k = by (has_name place.area)
   where
-    by : (b : Bool) → Apart (cond b (record { name = folded name; place = place; width = w } ∷ []) [] ++ es)
+    by : (b : Bool) → Apart (cond b (record { name = upper_case_name name; place = place; width = w } ∷ []) [] ++ es)
     by true = (h, k)
     by false = k
 entry_apart name (Timer n) es h k = k
@@ -264,7 +264,7 @@ all_apart (s ∷ symbols) h = entry_apart s.name s.target (entries_of symbols) (
 entry_few : (name : List ℕ) (t : Target) → length (name_entry name t) ≤ 1
 entry_few name (Variable place w) = by (has_name place.area)
   where
-    by : (b : Bool) → length {A = NameEntry} (cond b (record { name = folded name; place = place; width = w } ∷ []) []) ≤ 1
+    by : (b : Bool) → length {A = NameEntry} (cond b (record { name = upper_case_name name; place = place; width = w } ∷ []) []) ≤ 1
     by true = omega arith
     by false = omega arith
 entry_few name (Timer n) = omega arith
@@ -282,7 +282,7 @@ all_few (s ∷ symbols) =
 -- ---- in order
 
 turned : (f e : NameEntry) → NotSame f e → NotSame e f
-turned f e h = nat_list_eq_equiv.symm (folded e.name) (folded f.name) ∙ h
+turned f e h = nat_list_eq_equiv.symm (upper_case_name e.name) (upper_case_name f.name) ∙ h
 
 -- ---- the law
 
@@ -302,7 +302,7 @@ names_read language file symbols are =
 back : (es : List NameEntry) → AllByRecursion IsNamed es → entries_of (map symbol_of es) ≡ es
 back [] h = refl
 back (e ∷ es) h =
-    ap (λ (b : Bool). cond b (record { name = folded e.name; place = e.place; width = e.width } ∷ []) [] ++ entries_of (map symbol_of es)) h.0.has
+    ap (λ (b : Bool). cond b (record { name = upper_case_name e.name; place = e.place; width = e.width } ∷ []) [] ++ entries_of (map symbol_of es)) h.0.has
     ∙ ap (λ (n : List ℕ). record { name = n; place = e.place; width = e.width } ∷ entries_of (map symbol_of es)) h.0.upper
     ∙ ap (λ (rest : List NameEntry). e ∷ rest) (back es h.1)
 

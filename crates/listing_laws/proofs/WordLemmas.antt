@@ -3,8 +3,8 @@ use Rattle.std.proofs.Common.{◌≡◌, ℕ, suc, Bool, true, false, if◌then�
 use Rattle.std.specs.List.{AllByRecursion}
 use Rattle.plc_base.proofs.ListLemmas.{all_append}
 use Rattle.flat_code.specs.Instr.{Does}
-use Rattle.flat_code.specs.Kinds.{kind_of}
-use Rattle.flat_code.specs.OpCodes.{code_of}
+use Rattle.flat_code.specs.Kinds.{jump_number}
+use Rattle.flat_code.specs.OpCodes.{op_code_of}
 use Rattle.flat_code.specs.declared.kinds.JumpOperation.{JumpOperation}
 use Rattle.flat_code.specs.declared.kinds.JumpOperation.TheVariants as jump
 use Rattle.flat_code.specs.declared.operands.Operand.{Operand as FlatOperand}
@@ -40,37 +40,37 @@ use Rattle.listing_laws.proofs.RunLemmas.{unaimed}
 
 -- ---- where the operand has a say
 
-or_word : (v : ResolvedOperand) → word_of (code_of (or_operation v)) ≡ code.O
+or_word : (v : ResolvedOperand) → word_of (op_code_of (or_operation v)) ≡ code.O
 unfolding word_of
 or_word view.Nothing = refl
 or_word _ = refl
 
-load_register : (which : Register) → word_of (code_of (load_operation (view.Register which))) ≡ code.L
+load_register : (which : Register) → word_of (op_code_of (load_operation (view.Register which))) ≡ code.L
 unfolding word_of
 load_register register.Stw = refl
 load_register _ = refl
 
-load_word : (v : ResolvedOperand) → word_of (code_of (load_operation v)) ≡ code.L
+load_word : (v : ResolvedOperand) → word_of (op_code_of (load_operation v)) ≡ code.L
 unfolding word_of
 load_word (view.Register which) = load_register which
 load_word _ = refl
 
-transfer_word : (v : ResolvedOperand) → word_of (code_of (transfer_operation v)) ≡ code.T
+transfer_word : (v : ResolvedOperand) → word_of (op_code_of (transfer_operation v)) ≡ code.T
 unfolding word_of
 transfer_word (view.Register which) = refl
 transfer_word _ = refl
 
-load_pointer_word : (v : ResolvedOperand) → word_of (code_of (load_pointer_operation v)) ≡ code.Lar1
+load_pointer_word : (v : ResolvedOperand) → word_of (op_code_of (load_pointer_operation v)) ≡ code.Lar1
 unfolding word_of
 load_pointer_word (view.Register which) = refl
 load_pointer_word _ = refl
 
-store_pointer_word : (v : ResolvedOperand) → word_of (code_of (store_pointer_operation v)) ≡ code.Tar1
+store_pointer_word : (v : ResolvedOperand) → word_of (op_code_of (store_pointer_operation v)) ≡ code.Tar1
 unfolding word_of
 store_pointer_word (view.Register which) = refl
 store_pointer_word _ = refl
 
-add_word : (o : Operand) → word_of (code_of (add_operation o)) ≡ code.Add
+add_word : (o : Operand) → word_of (op_code_of (add_operation o)) ≡ code.Add
 unfolding word_of
 add_word (operand.Constant (literal.Long value)) = refl
 add_word (operand.Constant _) = refl
@@ -214,43 +214,43 @@ is_found x y h = cc
 
 pub jump_words_found : AreJumpWordsFound
 unfolding jump_word
-jump_words_found code.Ju how h = ap (λ (k : JumpOperation). jump_word (kind_of k)) (sym (is_found _ how h))
-jump_words_found code.Jl how h = ap (λ (k : JumpOperation). jump_word (kind_of k)) (sym (is_found _ how h))
-jump_words_found code.Jc how h = ap (λ (k : JumpOperation). jump_word (kind_of k)) (sym (is_found _ how h))
-jump_words_found code.Jcn how h = ap (λ (k : JumpOperation). jump_word (kind_of k)) (sym (is_found _ how h))
-jump_words_found code.Jcb how h = ap (λ (k : JumpOperation). jump_word (kind_of k)) (sym (is_found _ how h))
-jump_words_found code.Jnb how h = ap (λ (k : JumpOperation). jump_word (kind_of k)) (sym (is_found _ how h))
-jump_words_found code.Jbi how h = ap (λ (k : JumpOperation). jump_word (kind_of k)) (sym (is_found _ how h))
-jump_words_found code.Jnbi how h = ap (λ (k : JumpOperation). jump_word (kind_of k)) (sym (is_found _ how h))
-jump_words_found code.Jo how h = ap (λ (k : JumpOperation). jump_word (kind_of k)) (sym (is_found _ how h))
-jump_words_found code.Jos how h = ap (λ (k : JumpOperation). jump_word (kind_of k)) (sym (is_found _ how h))
-jump_words_found code.Jz how h = ap (λ (k : JumpOperation). jump_word (kind_of k)) (sym (is_found _ how h))
-jump_words_found code.Jn how h = ap (λ (k : JumpOperation). jump_word (kind_of k)) (sym (is_found _ how h))
-jump_words_found code.Jp how h = ap (λ (k : JumpOperation). jump_word (kind_of k)) (sym (is_found _ how h))
-jump_words_found code.Jm how h = ap (λ (k : JumpOperation). jump_word (kind_of k)) (sym (is_found _ how h))
-jump_words_found code.Jpz how h = ap (λ (k : JumpOperation). jump_word (kind_of k)) (sym (is_found _ how h))
-jump_words_found code.Jmz how h = ap (λ (k : JumpOperation). jump_word (kind_of k)) (sym (is_found _ how h))
-jump_words_found code.Juo how h = ap (λ (k : JumpOperation). jump_word (kind_of k)) (sym (is_found _ how h))
-jump_words_found code.Loop how h = ap (λ (k : JumpOperation). jump_word (kind_of k)) (sym (is_found _ how h))
+jump_words_found code.Ju how h = ap (λ (k : JumpOperation). jump_word (jump_number k)) (sym (is_found _ how h))
+jump_words_found code.Jl how h = ap (λ (k : JumpOperation). jump_word (jump_number k)) (sym (is_found _ how h))
+jump_words_found code.Jc how h = ap (λ (k : JumpOperation). jump_word (jump_number k)) (sym (is_found _ how h))
+jump_words_found code.Jcn how h = ap (λ (k : JumpOperation). jump_word (jump_number k)) (sym (is_found _ how h))
+jump_words_found code.Jcb how h = ap (λ (k : JumpOperation). jump_word (jump_number k)) (sym (is_found _ how h))
+jump_words_found code.Jnb how h = ap (λ (k : JumpOperation). jump_word (jump_number k)) (sym (is_found _ how h))
+jump_words_found code.Jbi how h = ap (λ (k : JumpOperation). jump_word (jump_number k)) (sym (is_found _ how h))
+jump_words_found code.Jnbi how h = ap (λ (k : JumpOperation). jump_word (jump_number k)) (sym (is_found _ how h))
+jump_words_found code.Jo how h = ap (λ (k : JumpOperation). jump_word (jump_number k)) (sym (is_found _ how h))
+jump_words_found code.Jos how h = ap (λ (k : JumpOperation). jump_word (jump_number k)) (sym (is_found _ how h))
+jump_words_found code.Jz how h = ap (λ (k : JumpOperation). jump_word (jump_number k)) (sym (is_found _ how h))
+jump_words_found code.Jn how h = ap (λ (k : JumpOperation). jump_word (jump_number k)) (sym (is_found _ how h))
+jump_words_found code.Jp how h = ap (λ (k : JumpOperation). jump_word (jump_number k)) (sym (is_found _ how h))
+jump_words_found code.Jm how h = ap (λ (k : JumpOperation). jump_word (jump_number k)) (sym (is_found _ how h))
+jump_words_found code.Jpz how h = ap (λ (k : JumpOperation). jump_word (jump_number k)) (sym (is_found _ how h))
+jump_words_found code.Jmz how h = ap (λ (k : JumpOperation). jump_word (jump_number k)) (sym (is_found _ how h))
+jump_words_found code.Juo how h = ap (λ (k : JumpOperation). jump_word (jump_number k)) (sym (is_found _ how h))
+jump_words_found code.Loop how h = ap (λ (k : JumpOperation). jump_word (jump_number k)) (sym (is_found _ how h))
 jump_words_found _ how h = absurd cc
 
 pub call_words_found : AreCallWordsFound
 unfolding word_of
-call_words_found code.Call how h = ap (λ (k : CallOperation). word_of (code_of (operation.Call k))) (sym (is_found _ how h))
-call_words_found code.Uc how h = ap (λ (k : CallOperation). word_of (code_of (operation.Call k))) (sym (is_found _ how h))
-call_words_found code.Cc how h = ap (λ (k : CallOperation). word_of (code_of (operation.Call k))) (sym (is_found _ how h))
+call_words_found code.Call how h = ap (λ (k : CallOperation). word_of (op_code_of (operation.Call k))) (sym (is_found _ how h))
+call_words_found code.Uc how h = ap (λ (k : CallOperation). word_of (op_code_of (operation.Call k))) (sym (is_found _ how h))
+call_words_found code.Cc how h = ap (λ (k : CallOperation). word_of (op_code_of (operation.Call k))) (sym (is_found _ how h))
 call_words_found _ how h = absurd cc
 
 pub end_words_found : AreEndWordsFound
 unfolding word_of
-end_words_found code.Be how h = ap (λ (k : EndOperation). word_of (code_of (operation.End k))) (sym (is_found _ how h))
-end_words_found code.Bec how h = ap (λ (k : EndOperation). word_of (code_of (operation.End k))) (sym (is_found _ how h))
-end_words_found code.Beu how h = ap (λ (k : EndOperation). word_of (code_of (operation.End k))) (sym (is_found _ how h))
+end_words_found code.Be how h = ap (λ (k : EndOperation). word_of (op_code_of (operation.End k))) (sym (is_found _ how h))
+end_words_found code.Bec how h = ap (λ (k : EndOperation). word_of (op_code_of (operation.End k))) (sym (is_found _ how h))
+end_words_found code.Beu how h = ap (λ (k : EndOperation). word_of (op_code_of (operation.End k))) (sym (is_found _ how h))
 end_words_found _ how h = absurd cc
 
 -- ---- the instructions of a source have words
 
-jump_has : (how : JumpOperation) → is_empty (jump_word (kind_of how)) ≡ false
+jump_has : (how : JumpOperation) → is_empty (jump_word (jump_number how)) ≡ false
 unfolding jump_word
 jump_has jump.Ju = refl
 jump_has jump.Jl = refl
@@ -271,13 +271,13 @@ jump_has jump.Jmz = refl
 jump_has jump.Juo = refl
 jump_has jump.Loop = refl
 
-call_has : (how : CallOperation) → is_empty (word_of (code_of (operation.Call how))) ≡ false
+call_has : (how : CallOperation) → is_empty (word_of (op_code_of (operation.Call how))) ≡ false
 unfolding word_of
 call_has calls.Call = refl
 call_has calls.Uc = refl
 call_has calls.Cc = refl
 
-end_has : (how : EndOperation) → is_empty (word_of (code_of (operation.End how))) ≡ false
+end_has : (how : EndOperation) → is_empty (word_of (op_code_of (operation.End how))) ≡ false
 unfolding word_of
 end_has ends.Be = refl
 end_has ends.Bec = refl
@@ -320,8 +320,8 @@ filler_has : HasWord filler
 unfolding word_of
 filler_has = refl
 
-does_has : (u : Option ℕ) (w : Operation) (o : FlatOperand) → IsPlain o → is_empty (word_of (code_of w)) ≡ false → HasWord (Does u w o)
-does_has u w o plain h = ap (λ (z : FlatOperand). is_empty (word_by (code_of w) z)) (unaimed o) ∙ ap is_empty (plain (code_of w)) ∙ h
+does_has : (u : Option ℕ) (w : Operation) (o : FlatOperand) → IsPlain o → is_empty (word_of (op_code_of w)) ≡ false → HasWord (Does u w o)
+does_has u w o plain h = ap (λ (z : FlatOperand). is_empty (word_by (op_code_of w) z)) (unaimed o) ∙ ap is_empty (plain (op_code_of w)) ∙ h
 
 ended_has : (s : Statement) (v : ResolvedOperand) (found : Option EndOperation) → is_empty s.code ≡ false → jump_of s.code ≡ None → call_of s.code ≡ None → end_of s.code ≡ found
     → HasWord (end_instr s v found)

@@ -6,7 +6,7 @@ use Rattle.plc_base.specs.declared.places.Area.{Area}
 use Rattle.plc_base.specs.declared.places.Area.TheVariants as area
 use Rattle.plc_base.specs.declared.places.Width.{Width}
 use Rattle.plc_base.specs.declared.places.Width.TheVariants as width
-use Rattle.flat_code.specs.OpCodes.{code_of}
+use Rattle.flat_code.specs.OpCodes.{op_code_of}
 use Rattle.flat_code.specs.Ops.{IsOp, OpData}
 use Rattle.flat_code.specs.Programs.{CodeBlock}
 use Rattle.flat_code.specs.declared.operands.Operand.{Operand}
@@ -56,7 +56,7 @@ Prepares _ = Unit {0}
 -- CALL passes parameters, and has no instance or that of a function block (3); UC and CC do neither
 abbrev pub IsCallBy : (before : List OpData) → (code kind instance : ℕ) → Type 0
 IsCallBy before code kind instance =
-    ((code ≡ code_of (operation.Call calls.Call)) × ((instance ≡ 0) ⊎ (kind ≡ 3)))
+    ((code ≡ op_code_of (operation.Call calls.Call)) × ((instance ≡ 0) ⊎ (kind ≡ 3)))
     ⊎ ((instance ≡ 0) × (before ≡ []))
 
 -- the operand of the last op of a statement, of an op code, behind these ops

@@ -1,7 +1,7 @@
 -- What fits a parameter in the code of a program fits the parameter in the listing.
 use Rattle.std.specs.Prelude.{◌≡◌, nat_eq, true, false, List, Some}
 use Rattle.plc_base.specs.Widths.{width_number}
-use Rattle.flat_code.specs.Blocks.{Around, is_bad_actual, misfits_parameter, own_parameter}
+use Rattle.flat_code.specs.Blocks.{Around, is_bad_actual, misfits_parameter, parameter_meant}
 use Rattle.flat_code.specs.Forms.{actual_fits}
 use Rattle.flat_code.specs.declared.image_fields.ParameterRecord.{ParameterRecord}
 use Rattle.flat_code.specs.declared.operands.Passed.{Passed}
@@ -27,7 +27,7 @@ pub record IsListedAs (f : Formal) (r : ParameterRecord) : Type 0 where
 -- is asked for, and a data block is there
 abbrev pub IsBacked : Around → Context → (own : List Formal) → Formal → Passed → Type 0
 IsBacked a c own f (passed.Parameter index width) =
-    (g : Formal) × (r : ParameterRecord) × (own_parameter a index ≡ Some r) × IsListedAs g r
+    (g : Formal) × (r : ParameterRecord) × (parameter_meant a index ≡ Some r) × IsListedAs g r
     × (g.kind ≡ f.kind)
     × (seen c (own_named own index) ≡ Resolved (view.Parameter index g.section g.kind))
 IsBacked a c own f (passed.InBlock number area width byte bit) =

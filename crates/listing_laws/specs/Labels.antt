@@ -2,8 +2,8 @@
 use Rattle.std.specs.Prelude.{◌≡◌, ◌<◌, ◌≤◌, ℕ, true, false, List, length, Some, None}
 use Rattle.std.specs.List.{AllByRecursion, list_any}
 use Rattle.flat_code.specs.Instr.{Instr}
-use Rattle.flat_code.specs.Kinds.{kind_of}
-use Rattle.flat_code.specs.OpCodes.{code_of}
+use Rattle.flat_code.specs.Kinds.{jump_number}
+use Rattle.flat_code.specs.OpCodes.{op_code_of}
 use Rattle.flat_code.specs.declared.kinds.JumpOperation.{JumpOperation}
 use Rattle.flat_code.specs.declared.operations.CallOperation.{CallOperation}
 use Rattle.flat_code.specs.declared.operations.EndOperation.{EndOperation}
@@ -37,22 +37,24 @@ pub record GoesOn (m : Mnemonic) : Type 0 where
 abbrev pub AreWordsFound : Type 0
 AreWordsFound =
     (m : Mnemonic) (o : Operand) (v : ResolvedOperand) → GoesOn m
-    → word_of (code_of (operation_for m o v)) ≡ m
+    → word_of (op_code_of (operation_for m o v)) ≡ m
 
 -- and so is the word of a jump, of a call, and of the end of a block
 abbrev pub AreJumpWordsFound : Type 0
 AreJumpWordsFound =
-    (m : Mnemonic) (how : JumpOperation) → jump_of m ≡ Some how → jump_word (kind_of how) ≡ m
+    (m : Mnemonic) (how : JumpOperation) → jump_of m ≡ Some how → jump_word (jump_number how) ≡ m
 
+-- the word of each call is found by its op code
 abbrev pub AreCallWordsFound : Type 0
 AreCallWordsFound =
     (m : Mnemonic) (how : CallOperation) → call_of m ≡ Some how
-    → word_of (code_of (operation.Call how)) ≡ m
+    → word_of (op_code_of (operation.Call how)) ≡ m
 
+-- and so is that of each block end
 abbrev pub AreEndWordsFound : Type 0
 AreEndWordsFound =
     (m : Mnemonic) (how : EndOperation) → end_of m ≡ Some how
-    → word_of (code_of (operation.End how)) ≡ m
+    → word_of (op_code_of (operation.End how)) ≡ m
 
 -- a listing has a word for an instruction
 abbrev pub HasWord : Instr → Type 0

@@ -1,6 +1,6 @@
 -- The operand of a listed statement: what it names, and that its instruction takes it.
 use Rattle.std.specs.Prelude.{◌≡◌, ℕ, ◌≤◌, true, List, [], Option, Some, None}
-use Rattle.plc_base.specs.Folding.{folded}
+use Rattle.plc_base.specs.Folding.{upper_case_name}
 use Rattle.plc_base.specs.declared.places.Area.{Area}
 use Rattle.plc_base.specs.declared.places.Area.TheVariants as area
 use Rattle.flat_code.specs.Instr.{Instr, Does}
@@ -41,7 +41,7 @@ pub record IsParameterAgain (listed : Context) (formals : List Formal) (index : 
     (section : PartKind) (kind : Simple) : Type 0 where
   pub section_again : PartKind
   pub kind_again : Simple
-  pub named : own_variable listed (folded (name_at formals index)) []
+  pub named : own_variable listed (upper_case_name (name_at formals index)) []
       ≡ Resolved (view.Parameter index section_again kind_again)
   pub wide : width_of kind_again ≡ width_of kind
   pub input : is_input (view.Parameter index section_again kind_again)

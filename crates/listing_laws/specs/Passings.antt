@@ -2,7 +2,7 @@
 use Rattle.std.specs.Prelude.{◌≡◌, ◌<◌, ◌≤◌, ◌^◌, ℕ, suc, nat_eq, ◌==◌, true, false, ◌&&◌, not, List, [], ◌∷◌, length, map, Some, slice_get}
 use Rattle.std.specs.List.{AllByRecursion, list_any}
 use Rattle.std.specs.Str.{bytes_eq}
-use Rattle.plc_base.specs.Folding.{folded}
+use Rattle.plc_base.specs.Folding.{upper_case_name}
 use Rattle.plc_base.specs.Kinds.{is_function_block}
 use Rattle.plc_base.specs.Widths.{width_number}
 use Rattle.plc_base.specs.declared.places.Area.TheVariants as area
@@ -59,11 +59,11 @@ AreRising from (p ∷ ps) = (from ≤ p.index) × AreRising (suc p.index) ps
 abbrev pub AreNamedApart : List Formal → Type 0
 AreNamedApart called =
     (i j : ℕ) (f g : Formal) → slice_get called i ≡ Some f → slice_get called j ≡ Some g
-    → bytes_eq (folded f.name) (folded g.name) ≡ (i == j)
+    → bytes_eq (upper_case_name f.name) (upper_case_name g.name) ≡ (i == j)
 
 -- a parameter as the rules know it: with its name in upper case
 abbrev pub upper : Formal → Formal
-upper f = record f { name = folded f.name }
+upper f = record f { name = upper_case_name f.name }
 
 -- ---- what is passed
 
@@ -99,11 +99,13 @@ pub record BreaksNone (c : Context) (callee : Callee) (s : Statement) : Type 0 w
   pub by_37 : AllByRecursion
       (λ (a : Actual). misfits c a (formal_named callee.formals a.name) ≡ false) s.actuals
 
+-- what a listed call passes breaks none of rules 34, 35 and 37
 abbrev pub AreActualsRight : Type 0
 AreActualsRight =
     (c : Context) (own called : List Formal) (callee : Callee) (ps : List Passing) (s : Statement)
     → IsListedCall c own called callee ps s → BreaksNone c callee s
 
+-- a listed call passes each parameter that it must
 abbrev pub AreCallsComplete : Type 0
 AreCallsComplete =
     (c : Context) (own called : List Formal) (callee : Callee) (ps : List Passing) (s : Statement)

@@ -35,6 +35,7 @@ AreStartsFound =
     (statements : List Stated) (n : ℕ) → n < length statements
     → slice_get (starts (code_in statements)) n ≡ Some (offset_in statements n)
 
+-- the code has as many starts of statements as there are statements
 abbrev pub IsCountFound : Type 0
 IsCountFound = (statements : List Stated) → length (starts (code_in statements)) ≡ length statements
 

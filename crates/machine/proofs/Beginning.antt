@@ -7,28 +7,28 @@ use Rattle.plc_base.specs.declared.BlockId.{BlockId}
 use Rattle.plc_base.specs.declared.blocks.BlockKind.TheVariants as kinds
 use Rattle.plc_mem.specs.Areas.{Areas}
 use Rattle.plc_mem.specs.BitPlace.{PeripheralInputs}
-use Rattle.plc_mem.specs.Fresh.{fresh}
+use Rattle.plc_mem.specs.Fresh.{initial_memory}
 use Rattle.plc_mem.specs.Peripherals.{with_input, outputs_cleared}
-use Rattle.plc_mem.specs.Refresh.{refreshed}
+use Rattle.plc_mem.specs.Refresh.{memory_refreshed}
 use Rattle.plc_mem.proofs.Runs.{mapped}
 use Rattle.status_word.specs.declared.Regs.{Regs}
-use Rattle.frames.specs.Activations.{begun, with_local_byte}
-use Rattle.frames.specs.Locals.{LocalData, no_locals, opened, byte_set}
+use Rattle.frames.specs.Activations.{activation_begun, with_local_byte}
+use Rattle.frames.specs.Locals.{LocalData, no_locals, open_locals, local_byte_set}
 use Rattle.frames.specs.declared.Activation.{Activation}
 use Rattle.frames.specs.declared.bindings.Binding.{Binding}
 use Rattle.frames.specs.declared.bindings.Binding.TheVariants as binding
 use Rattle.flat_code.specs.declared.programs.Param.{Param}
 use Rattle.flat_code.specs.Loading.{Verifies}
 use Rattle.flat_code.specs.Programs.{CodeBlock, Program}
-use Rattle.image_file.specs.Readers.{block_of}
-use Rattle.machine.specs.Code.{Head}
+use Rattle.image_file.specs.Readers.{block_by_id}
+use Rattle.machine.specs.Code.{BlockHead}
 use Rattle.machine.specs.Fitting.{AreBound, IsMemoryOf, SameSizes}
-use Rattle.machine.specs.Flat.{code_of, head_of}
+use Rattle.machine.specs.Flat.{code_of, block_head_of}
 use Rattle.machine.specs.ImageLaws.{ImageLaws}
-use Rattle.machine.specs.Lasting.{FitsProgram, GoesOn, first_frame}
+use Rattle.machine.specs.Lasting.{FitsProgram, GoesOnFitting, first_frame}
 use Rattle.machine.specs.OpenBrackets.{open_codes}
 use Rattle.machine.specs.ExecState.{LocalMemory, local_memory_of}
-use Rattle.machine.specs.Results.{GivesResult, with_result}
+use Rattle.machine.specs.Results.{GivesResult, with_ret_val}
 use Rattle.machine.proofs.Called.{scene_fits}
 use Rattle.machine.proofs.FrameBytes.{mapped_there, locals_opened, locals_kept, lies_written}
 use Rattle.machine.proofs.Instructions.{kind_found}
@@ -41,9 +41,9 @@ use Rattle.machine.proofs.Standing.{nothing_open, entry_stood, opens_there, stat
 -- ---- an organization block begins
 
 block_found :
-    (p : Program) (block : BlockId) (h : Head) (o : Option CodeBlock) → block_of block p.code_blocks ≡ o
-    → option_map head_of o ≡ Some h → (b : CodeBlock) × (block_of block p.code_blocks ≡ Some b) × (head_of b ≡ h)
-block_found p block h (Some b) is found = (b, is, let e : head_of b ≡ h = cc in e)
+    (p : Program) (block : BlockId) (h : BlockHead) (o : Option CodeBlock) → block_by_id block p.code_blocks ≡ o
+    → option_map block_head_of o ≡ Some h → (b : CodeBlock) × (block_by_id block p.code_blocks ≡ Some b) × (block_head_of b ≡ h)
+block_found p block h (Some b) is found = (b, is, let e : block_head_of b ≡ h = cc in e)
 block_found p block h None is found = absurd cc
 
 no_params :
@@ -51,20 +51,20 @@ no_params :
 no_params ps m is = rw is tt
 
 pub ob_begins :
-    (l : ImageLaws) (f : Profile) (p : Program) (m : Areas) (class ob : ℕ) (h : Head) → Verifies p → IsMemoryOf (code_of p) m
+    (l : ImageLaws) (f : Profile) (p : Program) (m : Areas) (class ob : ℕ) (h : BlockHead) → Verifies p → IsMemoryOf (code_of p) m
     → (code_of p).head (record { kind = kinds.Ob; number = ob }) ≡ Some h
-    → FitsProgram p m (begun f class ob (first_frame ob h.local_len))
+    → FitsProgram p m (activation_begun f class ob (first_frame ob h.local_len))
 ob_begins l profile p m class ob h verifies memory found =
     let block : BlockId = record { kind = kinds.Ob; number = ob } in
     let f = first_frame ob h.local_len in
-    let one = block_found p block h (block_of block p.code_blocks) refl found in
+    let one = block_found p block h (block_by_id block p.code_blocks) refl found in
     let b = one.0 in
     let entry = entry_stood l p block b verifies one.1 in
     let right = (l.blocks p b block verifies one.1).organization (kind_found p.code_blocks block b one.1) in
-    let params : h.params ≡ [] = ap (λ (x : Head). x.params) (sym one.2) ∙ right.0 in
+    let params : h.params ≡ [] = ap (λ (x : BlockHead). x.params) (sym one.2) ∙ right.0 in
     record {
       memory = memory;
-      fits = fits_of (code_of p) (open_codes p) m (begun profile class ob f) (record {
+      fits = fits_of (code_of p) (open_codes p) m (activation_begun profile class ob f) (record {
         left = refl;
         frame = record {
           statement = let s = statement_there l p block 0 nothing_open entry in some_there ((code_of p).fetch block 0) _ s.fetched;
@@ -80,29 +80,29 @@ ob_begins l profile p m class ob h verifies memory found =
 
 -- its local bytes find room
 pub local_room :
-    (l : ImageLaws) (p : Program) (ob : ℕ) (h : Head) → Verifies p
+    (l : ImageLaws) (p : Program) (ob : ℕ) (h : BlockHead) → Verifies p
     → (code_of p).head (record { kind = kinds.Ob; number = ob }) ≡ Some h → h.local_len ≤ 1024
 local_room l p ob h verifies found =
     let block : BlockId = record { kind = kinds.Ob; number = ob } in
-    let one = block_found p block h (block_of block p.code_blocks) refl found in
+    let one = block_found p block h (block_by_id block p.code_blocks) refl found in
     let few = (l.blocks p one.0 block verifies one.1).room in
-    let same : one.0.local_len ≡ h.local_len = ap (λ (x : Head). x.local_len) one.2 in
+    let same : one.0.local_len ≡ h.local_len = ap (λ (x : BlockHead). x.local_len) one.2 in
     omega (arith, few, same)
 
 -- it has room for its start information
 pub start_written :
-    (l : ImageLaws) (f : Profile) (p : Program) (class ob byte value : ℕ) (h : Head) → Verifies p
+    (l : ImageLaws) (f : Profile) (p : Program) (class ob byte value : ℕ) (h : BlockHead) → Verifies p
     → (code_of p).head (record { kind = kinds.Ob; number = ob }) ≡ Some h → byte < 20
-    → IsSome (with_local_byte 0 byte value (begun f class ob (first_frame ob h.local_len)))
+    → IsSome (with_local_byte 0 byte value (activation_begun f class ob (first_frame ob h.local_len)))
 start_written l profile p class ob byte value h verifies found less =
     let block : BlockId = record { kind = kinds.Ob; number = ob } in
     let f = first_frame ob h.local_len in
-    let one = block_found p block h (block_of block p.code_blocks) refl found in
+    let one = block_found p block h (block_by_id block p.code_blocks) refl found in
     let b = one.0 in
     let right = (l.blocks p b block verifies one.1).organization (kind_found p.code_blocks block b one.1) in
-    let long : 20 ≤ h.local_len = let e : b.local_len ≡ h.local_len = ap (λ (x : Head). x.local_len) one.2 in let r = right.1 in omega (arith, e, r) in
-    mapped_there _ (byte_set (opened f.local_len no_locals) 0 byte value)
-    (lies_written (f ∷ []) (opened f.local_len no_locals) 0 byte 0 value widths.Byte
+    let long : 20 ≤ h.local_len = let e : b.local_len ≡ h.local_len = ap (λ (x : BlockHead). x.local_len) one.2 in let r = right.1 in omega (arith, e, r) in
+    mapped_there _ (local_byte_set (open_locals f.local_len no_locals) 0 byte value)
+    (lies_written (f ∷ []) (open_locals f.local_len no_locals) 0 byte 0 value widths.Byte
     (locals_opened f [] no_locals (record { starts = refl; len = refl })) (omega (arith, less, long), tt))
 
 -- ---- what else changes an activation
@@ -112,7 +112,7 @@ pub local_byte_fits :
     → FitsProgram p m a → FitsProgram p m b
 local_byte_fits p m a b frame byte value done h =
     let was = mapped (λ (l : LocalData). let r : Activation = record a { running = record a.running { locals = l } } in r)
-    (byte_set a.running.locals frame byte value) b done in
+    (local_byte_set a.running.locals frame byte value) b done in
     let kept = local_kept a.running.locals was.0 frame byte 0 widths.Byte value was.1 in
     let s = stands_of (code_of p) (open_codes p) m a h.fits in
     rw (sym was.2) (record {
@@ -148,35 +148,35 @@ delay_fits p m a n h =
 
 -- ---- the result of a system function
 
-result_kept : (to : Binding) (value : ℕ) (c : LocalMemory) → KeepsScene c.local c.memory (with_result to value c)
+result_kept : (to : Binding) (value : ℕ) (c : LocalMemory) → KeepsScene c.local c.memory (with_ret_val to value c)
 result_kept (binding.Bound place width frame) value c = put_kept (record { place = place; width = width; frame = frame }) value c
 result_kept (binding.Constant n) value c = same_scene c.local c.memory
 result_kept binding.Unsupplied value c = same_scene c.local c.memory
 
 pub result_fits :
     (l : ImageLaws) (p : Program) (m n : Areas) (a b : Activation) (to : Binding) (value : ℕ) → Verifies p
-    → FitsProgram p m a → GivesResult to value a b m n → GoesOn p m n b
+    → FitsProgram p m a → GivesResult to value a b m n → GoesOnFitting p m n b
 result_fits l p m n a b to value verifies h gives =
     let kept = result_kept to value (local_memory_of a.running m) in
     rw (gives.0, gives.1) (record { sizes = kept.memory; fits = scene_fits l p m a _ verifies h kept })
 
 -- ---- memory
 
-pub memory_begins : (f : Profile) (p : Program) → IsMemoryOf (code_of p) (fresh f (code_of p).blocks)
-memory_begins f p = record { profile = f; sizes = same_sizes (fresh f (code_of p).blocks) }
+pub memory_begins : (f : Profile) (p : Program) → IsMemoryOf (code_of p) (initial_memory f (code_of p).blocks)
+memory_begins f p = record { profile = f; sizes = same_sizes (initial_memory f (code_of p).blocks) }
 
 pub input_sizes : (m n : Areas) (byte value : ℕ) → with_input m byte value ≡ Some n → SameSizes m n
 unfolding with_input
 input_sizes m n byte value done = region_sizes m n PeripheralInputs byte 0 widths.Byte value done
 
 pub cleared_sizes : (p : Program) (m : Areas) → IsMemoryOf (code_of p) m → SameSizes m (outputs_cleared m)
-unfolding outputs_cleared fresh
+unfolding outputs_cleared initial_memory
 cleared_sizes p m is =
     changed m m.inputs m.outputs m.bit_memory m.peripheral_inputs _ refl refl refl (same_parts m.peripheral_inputs)
     (record { low = sym is.sizes.peripheral_outputs.low; high = sym is.sizes.peripheral_outputs.high })
 
-pub refreshed_sizes : (p : Program) (m : Areas) → IsMemoryOf (code_of p) m → SameSizes m (refreshed m)
-unfolding refreshed fresh
+pub refreshed_sizes : (p : Program) (m : Areas) → IsMemoryOf (code_of p) m → SameSizes m (memory_refreshed m)
+unfolding memory_refreshed initial_memory
 refreshed_sizes p m is =
     changed m m.peripheral_inputs.low m.outputs m.bit_memory m.peripheral_inputs _ (is.sizes.peripheral_inputs.low ∙ sym is.sizes.inputs) refl refl
     (same_parts m.peripheral_inputs) (record { low = is.sizes.outputs ∙ sym is.sizes.peripheral_outputs.low; high = refl })

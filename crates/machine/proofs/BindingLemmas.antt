@@ -12,7 +12,7 @@ use Rattle.plc_base.specs.declared.blocks.BlockKind.TheVariants as kinds
 use Rattle.plc_base.specs.Widths.{bit_count}
 use Rattle.plc_mem.specs.Areas.{Areas}
 use Rattle.plc_mem.specs.Number.{number_at}
-use Rattle.frames.specs.Bound.{set_at as bound_at_index}
+use Rattle.frames.specs.Bound.{binding_set as bound_at_index}
 use Rattle.frames.specs.Locals.{LocalData, local_number}
 use Rattle.frames.specs.declared.bindings.Binding.{Binding}
 use Rattle.frames.specs.declared.bindings.Binding.TheVariants as binding
@@ -24,11 +24,11 @@ use Rattle.flat_code.specs.Instr.{Passing}
 use Rattle.flat_code.specs.Records.{section_in}
 use Rattle.machine.specs.declared.places.Access.{Access}
 use Rattle.machine.specs.declared.places.Location.{Location}
-use Rattle.machine.specs.Bindings.{access_of, bound_if, bound_place, bound_actual, bound_params, unsupplied, bindings_of}
-use Rattle.machine.specs.DataBlocks.{is_loaded}
+use Rattle.machine.specs.Bindings.{param_access, bound_if, bound_place, bound_actual, bound_params, no_bindings, param_bindings}
+use Rattle.machine.specs.DataBlocks.{is_block_loaded}
 use Rattle.machine.specs.Fitting.{local_len_at, LiesIn, ExistsIn, IsBound, AreBound, LocalsFit}
 use Rattle.machine.specs.ExecState.{Local}
-use Rattle.machine.specs.Places.{bound_at, in_register, in_area, is_local, number_in, is_bit, is_peripheral, placed, error_of}
+use Rattle.machine.specs.Places.{location_at, open_block_location, open_area_location, is_area_l, location_number, is_bit_width, is_area_p, area_location, error_of}
 use Rattle.machine.proofs.Errors.{IfTold, then_told, either_told, absent_told, placed_told}
 use Rattle.machine.proofs.FrameBytes.{local_lies}
 use Rattle.machine.proofs.Keeping.{IfDone, done_then}
@@ -37,12 +37,12 @@ use Rattle.machine.proofs.Keeping.{IfDone, done_then}
 
 -- a place that has a number exists
 pub place_exists :
-    (frames : List Frame) (l : LocalData) (m : Areas) (at : Location) → LocalsFit frames l → IsSome (number_in at l m)
+    (frames : List Frame) (l : LocalData) (m : Areas) (at : Location) → LocalsFit frames l → IsSome (location_number at l m)
     → ExistsIn at.place.area at frames m
 place_exists frames l m at fits there = by at.place.area there
   where
     by : (area : Area)
-        → IsSome (cond (is_local area) (local_number l at.frame at.place.byte at.place.bit at.width) (number_at m at.place at.width))
+        → IsSome (cond (is_area_l area) (local_number l at.frame at.place.byte at.place.bit at.width) (number_at m at.place at.width))
         → ExistsIn area at frames m
     by areas.L there = local_lies frames l at.frame at.place.byte at.place.bit at.width fits there
     by areas.I there = there
@@ -89,22 +89,22 @@ place_bound :
     → LocalsFit frames s.locals → at.width ≡ q.width
     → IfDone (IsBound kind q frames m) (bound_place access at s m)
 unfolding bound_place
-place_bound kind q frames access at s m fits width = by (number_in at s.locals m) refl
+place_bound kind q frames access at s m fits width = by (location_number at s.locals m) refl
   where
-    by : (o : Option ℕ) → number_in at s.locals m ≡ o → IfDone (IsBound kind q frames m) (bound_if access at o)
+    by : (o : Option ℕ) → location_number at s.locals m ≡ o → IfDone (IsBound kind q frames m) (bound_if access at o)
     by None is = tt
     by (Some n) is = (width, place_exists frames s.locals m at fits (rw is refl))
 
 in_register_width :
     (o : Option ℕ) (error byte bit : ℕ) (width : Width)
-    → IfDone (λ (at : Location). at.width ≡ width) (in_register o error byte bit width)
+    → IfDone (λ (at : Location). at.width ≡ width) (open_block_location o error byte bit width)
 in_register_width None error byte bit width = tt
 in_register_width (Some number) error byte bit width = refl
 
 in_area_width :
     (area : Area) (byte bit : ℕ) (width : Width) (s : Local)
-    → IfDone (λ (at : Location). at.width ≡ width) (in_area area byte bit width s)
-unfolding in_area
+    → IfDone (λ (at : Location). at.width ≡ width) (open_area_location area byte bit width s)
+unfolding open_area_location
 in_area_width areas.Db byte bit width s = in_register_width s.inner.db 0x32 byte bit width
 in_area_width areas.Di byte bit width s = in_register_width s.inner.di 0x33 byte bit width
 in_area_width areas.L byte bit width s = refl
@@ -115,11 +115,11 @@ in_area_width areas.P byte bit width s = refl
 
 placed_width :
     (access : Access) (area : Area) (byte bit : ℕ) (width : Width) (s : Local)
-    → IfDone (λ (at : Location). at.width ≡ width) (placed access area byte bit width s)
-placed_width access area byte bit width s = by (is_peripheral area && is_bit width)
+    → IfDone (λ (at : Location). at.width ≡ width) (area_location access area byte bit width s)
+placed_width access area byte bit width s = by (is_area_p area && is_bit_width width)
   where
     by : (t : Bool)
-        → IfDone (λ (at : Location). at.width ≡ width) (cond t (Err (error_of access 0x24)) (in_area area byte bit width s))
+        → IfDone (λ (at : Location). at.width ≡ width) (cond t (Err (error_of access 0x24)) (open_area_location area byte bit width s))
     by true = tt
     by false = in_area_width area byte bit width s
 
@@ -161,7 +161,7 @@ unfolding bound_actual
 actual_bound kind own q g below access (passed.Literal value) s m fits bound is = is
 actual_bound kind own q g below access (passed.Direct area width byte bit) s m fits bound is =
     done_then (λ (at : Location). at.width ≡ width) (IsBound kinds.Fc q (g ∷ below) m)
-    (placed access area byte bit width s) (λ at. bound_place access at s m)
+    (area_location access area byte bit width s) (λ at. bound_place access at s m)
     (placed_width access area byte bit width s)
     (λ at same. place_bound kinds.Fc q (g ∷ below) access at s m fits (same ∙ is))
 actual_bound kind own q g below access (passed.Parameter index width) s m fits bound is =
@@ -169,12 +169,12 @@ actual_bound kind own q g below access (passed.Parameter index width) s m fits b
     rw one.1 (passed_bound is.1 q g below m one.0 is.3 is.4
     (subst (λ (k : BlockKind). IsBound k is.1 below m one.0) is.0 one.2))
 actual_bound kind own q g below access (passed.InBlock number area width byte bit) s m fits bound is =
-    by (is_loaded number m)
+    by (is_block_loaded number m)
   where
     by : (t : Bool)
         → IfDone (IsBound kinds.Fc q (g ∷ below) m)
-        (cond t (bound_place access (bound_at areas.Db number byte bit width 0) s m) (Err 0x3A))
-    by true = place_bound kinds.Fc q (g ∷ below) access (bound_at areas.Db number byte bit width 0) s m fits is
+        (cond t (bound_place access (location_at areas.Db number byte bit width 0) s m) (Err 0x3A))
+    by true = place_bound kinds.Fc q (g ∷ below) access (location_at areas.Db number byte bit width 0) s m fits is
     by false = tt
 
 -- ---- one after another
@@ -185,7 +185,7 @@ supplied q frames m (binding.Bound at width frame) is = is
 supplied q frames m (binding.Constant value) is = is
 supplied q frames m binding.Unsupplied is = absurd is
 
-none_supplied : (ps : List Param) (frames : List Frame) (m : Areas) → AreBound kinds.Fb ps frames m (unsupplied ps)
+none_supplied : (ps : List Param) (frames : List Frame) (m : Areas) → AreBound kinds.Fb ps frames m (no_bindings ps)
 none_supplied [] frames m = tt
 none_supplied (p ∷ ps) frames m = (tt, none_supplied ps frames m)
 
@@ -286,8 +286,8 @@ passed_all kind own ps g below s m (x ∷ xs) before bs locals bound fits h =
     (done_then (IsBound kinds.Fc fits.0.0 (g ∷ below) m)
     (λ (cs : List Binding). AreBound kinds.Fb ps (g ∷ below) m cs
     × ((i : ℕ) (q : Param) → slice_get ps i ≡ Some q → (before i || (eqb x.index i || is_among i xs)) ≡ true → HasAt q (g ∷ below) m i cs))
-    (bound_actual (access_of fits.0.0) x.actual s m) (λ b. bound_params ps xs (bound_at_index bs x.index b) s m)
-    (actual_bound kind own fits.0.0 g below (access_of fits.0.0) x.actual s m locals bound fits.0.2)
+    (bound_actual (param_access fits.0.0) x.actual s m) (λ b. bound_params ps xs (bound_at_index bs x.index b) s m)
+    (actual_bound kind own fits.0.0 g below (param_access fits.0.0) x.actual s m locals bound fits.0.2)
     (λ b is. reorder (bound_params ps xs (bound_at_index bs x.index b) s m)
     (passed_all kind own ps g below s m xs (λ j. eqb x.index j || before j) (bound_at_index bs x.index b) locals bound fits.1
     (one_more ps (g ∷ below) m before bs x.index fits.0.0 b h fits.0.1 is))))
@@ -314,11 +314,11 @@ pub record Bindings (ps : List Param) (frames : List Frame) (m : Areas) (xs : Li
 pub call_binds :
     (kind : BlockKind) (own ps : List Param) (g : Frame) (below : List Frame) (s : Local) (m : Areas) (xs : List Passing)
     → LocalsFit (g ∷ below) s.locals → AreBound kind own below m s.inner.bindings → PassingsFit kind own ps xs
-    → IfDone (Bindings ps (g ∷ below) m xs) (bindings_of ps xs s m)
-unfolding bindings_of
+    → IfDone (Bindings ps (g ∷ below) m xs) (param_bindings ps xs s m)
+unfolding param_bindings
 call_binds kind own ps g below s m xs locals bound fits =
-    by (bound_params ps xs (unsupplied ps) s m)
-    (passed_all kind own ps g below s m xs (λ i. false) (unsupplied ps) locals bound fits
+    by (bound_params ps xs (no_bindings ps) s m)
+    (passed_all kind own ps g below s m xs (λ i. false) (no_bindings ps) locals bound fits
     (record { all = none_supplied ps (g ∷ below) m; some = λ i q found was. absurd cc }))
   where
     by : (r : Result (List Binding) ℕ)
@@ -345,7 +345,7 @@ all_supplied (p ∷ ps) frames m [] all each = absurd all
 
 place_told : (access : Access) (at : Location) (s : Local) (m : Areas) → IfTold (bound_place access at s m)
 unfolding bound_place
-place_told access at s m = by (number_in at s.locals m)
+place_told access at s m = by (location_number at s.locals m)
   where
     by : (o : Option ℕ) → IfTold (bound_if access at o)
     by None = absent_told access at.place.area
@@ -358,13 +358,13 @@ actual_told :
 unfolding bound_actual
 actual_told kind own q below access (passed.Literal value) s m bound is = tt
 actual_told kind own q below access (passed.Direct area width byte bit) s m bound is =
-    then_told (placed access area byte bit width s) (λ at. bound_place access at s m)
+    then_told (area_location access area byte bit width s) (λ at. bound_place access at s m)
     (placed_told access area byte bit width s) (λ at. place_told access at s m)
 actual_told kind own q below access (passed.Parameter index width) s m bound is =
     rw (bound_of kind own below m s.inner.bindings index is.1 bound is.2).1 tt
 actual_told kind own q below access (passed.InBlock number area width byte bit) s m bound is =
-    either_told (is_loaded number m) (bound_place access (bound_at areas.Db number byte bit width 0) s m) (Err 0x3A)
-    (place_told access (bound_at areas.Db number byte bit width 0) s m) refl
+    either_told (is_block_loaded number m) (bound_place access (location_at areas.Db number byte bit width 0) s m) (Err 0x3A)
+    (place_told access (location_at areas.Db number byte bit width 0) s m) refl
 
 params_told :
     (kind : BlockKind) (own ps : List Param) (below : List Frame) (s : Local) (m : Areas) (xs : List Passing) (bs : List Binding)
@@ -372,12 +372,12 @@ params_told :
 params_told kind own ps below s m [] bs bound fits = tt
 params_told kind own ps below s m (x ∷ xs) bs bound fits =
     rw fits.0.1
-    (then_told (bound_actual (access_of fits.0.0) x.actual s m) (λ b. bound_params ps xs (bound_at_index bs x.index b) s m)
-    (actual_told kind own fits.0.0 below (access_of fits.0.0) x.actual s m bound fits.0.2)
+    (then_told (bound_actual (param_access fits.0.0) x.actual s m) (λ b. bound_params ps xs (bound_at_index bs x.index b) s m)
+    (actual_told kind own fits.0.0 below (param_access fits.0.0) x.actual s m bound fits.0.2)
     (λ b. params_told kind own ps below s m xs (bound_at_index bs x.index b) bound fits.1))
 
 pub call_told :
     (kind : BlockKind) (own ps : List Param) (below : List Frame) (s : Local) (m : Areas) (xs : List Passing)
-    → AreBound kind own below m s.inner.bindings → PassingsFit kind own ps xs → IfTold (bindings_of ps xs s m)
-unfolding bindings_of
-call_told kind own ps below s m xs bound fits = params_told kind own ps below s m xs (unsupplied ps) bound fits
+    → AreBound kind own below m s.inner.bindings → PassingsFit kind own ps xs → IfTold (param_bindings ps xs s m)
+unfolding param_bindings
+call_told kind own ps below s m xs bound fits = params_told kind own ps below s m xs (no_bindings ps) bound fits

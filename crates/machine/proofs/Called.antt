@@ -6,7 +6,7 @@ use Rattle.plc_base.specs.declared.blocks.BlockKind.{BlockKind}
 use Rattle.plc_base.specs.declared.blocks.BlockKind.TheVariants as kinds
 use Rattle.plc_mem.specs.Areas.{Areas}
 use Rattle.status_word.specs.declared.Regs.{Regs}
-use Rattle.frames.specs.Activations.{frames_of, entered, refused}
+use Rattle.frames.specs.Activations.{frames_of, block_entered, entry_fault}
 use Rattle.frames.specs.FrameData.{FrameData}
 use Rattle.frames.specs.declared.Activation.{Activation}
 use Rattle.frames.specs.declared.FrameFault.{FrameFault}
@@ -17,17 +17,17 @@ use Rattle.flat_code.specs.declared.programs.Param.{Param}
 use Rattle.flat_code.specs.Instr.{Passing}
 use Rattle.flat_code.specs.Loading.{Verifies}
 use Rattle.flat_code.specs.Programs.{CodeBlock, Program}
-use Rattle.image_file.specs.Readers.{block_of}
-use Rattle.machine.specs.Bindings.{bindings_of}
-use Rattle.machine.specs.Code.{Head}
-use Rattle.machine.specs.Entering.{Stops, call, called_with, caller_at, di_of, entered_if, fresh as fresh_frame, going_on, supplied}
-use Rattle.machine.specs.Fitting.{IsOpen, IsLong, AreBound, HasInstance, FrameFits, open_of}
-use Rattle.machine.specs.Flat.{code_of, head_of}
+use Rattle.image_file.specs.Readers.{block_by_id}
+use Rattle.machine.specs.Bindings.{param_bindings}
+use Rattle.machine.specs.Code.{BlockHead}
+use Rattle.machine.specs.Entering.{Stops, call, called_with, caller_at, di_of, entered_if, fresh as fresh_frame, going_on, instance_supplied}
+use Rattle.machine.specs.Fitting.{IsOpen, HasLength, AreBound, HasInstance, FrameFits, open_in_frame}
+use Rattle.machine.specs.Flat.{code_of, block_head_of}
 use Rattle.machine.specs.ImageLaws.{ImageLaws}
 use Rattle.machine.specs.Lasting.{FitsProgram, Lasts}
 use Rattle.machine.specs.OpenBrackets.{open_codes}
 use Rattle.machine.specs.ExecState.{LocalMemory, local_of, local_memory_of, with_local}
-use Rattle.machine.specs.Statement.{World, after_call, callee_of, block_called}
+use Rattle.machine.specs.Statement.{World, call_step, called_block, block_called}
 use Rattle.machine.proofs.BindingLemmas.{Bindings, PassingsFit, is_among, all_supplied, call_binds, call_told}
 use Rattle.machine.proofs.Errors.{IfTold}
 use Rattle.machine.proofs.FrameBytes.{locals_moved, locals_opened}
@@ -75,7 +75,7 @@ scene_fits l p m a c verifies h kept =
       di = open_after f.di c.local.inner.di m c.memory (ap (λ (i : FrameData). i.di) kept.inner) kept.memory was.frame.di;
       held = frame_open f;
       stood = stood_there p f.block f.at (frame_open f) verifies was.frame.open_brackets;
-      same = ap (λ (i : FrameData). open_of i.brackets i.relay) kept.inner;
+      same = ap (λ (i : FrameData). open_in_frame i.brackets i.relay) kept.inner;
     }) kept.starts kept.len
 
 -- ---- a block is entered
@@ -84,11 +84,11 @@ open_di : (o di : Option ℕ) (m : Areas) → IsOpen di m → IsOpen o m → IsO
 open_di None di m h is = h
 open_di (Some number) di m h is = is
 
-long_loaded : (needed : ℕ) (o : Option (List ℕ)) → IsLong needed o → IsSome o
+long_loaded : (needed : ℕ) (o : Option (List ℕ)) → HasLength needed o → IsSome o
 long_loaded needed (Some bytes) h = refl
 long_loaded needed None h = absurd h
 
-instance_open : (kind : BlockKind) (h : Head) (m : Areas) (o : Option ℕ) → HasInstance kind h m o → IsOpen o m
+instance_open : (kind : BlockKind) (h : BlockHead) (m : Areas) (o : Option ℕ) → HasInstance kind h m o → IsOpen o m
 instance_open kind h m None is = tt
 instance_open kinds.Fb h m (Some number) is = long_loaded h.instance_len (finmap.get m.data_blocks number) is
 instance_open kinds.Ob h m (Some number) is = absurd is
@@ -98,8 +98,8 @@ instance_open kinds.Sfc h m (Some number) is = absurd is
 instance_open kinds.Udt h m (Some number) is = absurd is
 
 pub head_there :
-    (p : Program) (block : BlockId) (b : CodeBlock) → block_of block p.code_blocks ≡ Some b
-    → (code_of p).head block ≡ Some (head_of b)
+    (p : Program) (block : BlockId) (b : CodeBlock) → block_by_id block p.code_blocks ≡ Some b
+    → (code_of p).head block ≡ Some (block_head_of b)
 head_there p block b found = rw found refl
 
 -- what a call needs of the caller: where it goes on
@@ -114,16 +114,16 @@ caller a next = record a.running.frame { at = next }
 
 entered_fits :
     (l : ImageLaws) (p : Program) (m : Areas) (a : Activation) (next : ℕ) (block : BlockId) (b : CodeBlock) (o : Option ℕ)
-    (bs : List Binding) → Caller p m a next → block_of block p.code_blocks ≡ Some b
-    → AreBound block.kind b.params (caller a next ∷ a.below) m bs → HasInstance block.kind (head_of b) m o
-    → FitsProgram p m (entered (fresh_frame (callee_of block o (head_of b)) bs a.running.frame) (caller_at next a))
+    (bs : List Binding) → Caller p m a next → block_by_id block p.code_blocks ≡ Some b
+    → AreBound block.kind b.params (caller a next ∷ a.below) m bs → HasInstance block.kind (block_head_of b) m o
+    → FitsProgram p m (block_entered (fresh_frame (called_block block o (block_head_of b)) bs a.running.frame) (caller_at next a))
 entered_fits l p m a next block b o bs h found bound instance =
     let c = code_of p in
     let brackets = open_codes p in
     let f = a.running.frame in
     let was = stands_of c brackets m a h.fits.fits in
     let g : Frame = caller a next in
-    let new : Frame = fresh_frame (callee_of block o (head_of b)) bs f in
+    let new : Frame = fresh_frame (called_block block o (block_head_of b)) bs f in
     let entry = entry_stood l p block b h.verifies found in
     let behind : FrameFits c brackets m a.below g = frame_follows l p m a.below f g (record {
       block = refl;
@@ -141,12 +141,12 @@ entered_fits l p m a next block b o bs h found bound instance =
       open_brackets = opens_there p block 0 nothing_open entry;
       block = rw (head_there p block b found) (record { local_len = refl; bindings = bound; instance = instance });
       db = was.frame.db;
-      di = open_di o f.di m was.frame.di (instance_open block.kind (head_of b) m o instance);
+      di = open_di o f.di m was.frame.di (instance_open block.kind (block_head_of b) m o instance);
     } in
     let below_is : frames_of (caller_at next a) ≡ g ∷ a.below = frames_are (caller_at next a) was.left in
     record {
       memory = h.fits.memory;
-      fits = fits_of c brackets m (entered new (caller_at next a)) (record {
+      fits = fits_of c brackets m (block_entered new (caller_at next a)) (record {
         left = refl;
         frame = rw below_is top;
         below = rw below_is (behind, was.below);
@@ -156,30 +156,30 @@ entered_fits l p m a next block b o bs h found bound instance =
 
 supplied_lasts :
     (l : ImageLaws) (p : Program) (a after : Activation) (w : World) (next : ℕ) (o : Option ℕ) (ps : List Param)
-    → Verifies p → FitsProgram p w.memory after → Lasts p w (after_call (supplied o ps after w.memory) next a w)
+    → Verifies p → FitsProgram p w.memory after → Lasts p w (call_step (instance_supplied o ps after w.memory) next a w)
 supplied_lasts l p a after w next None ps verifies h = record { sizes = same_sizes w.memory; fits = h }
 supplied_lasts l p a after w next (Some number) ps verifies h =
     let kept = params_in_kept ps 0 after.running.frame.bindings number (local_memory_of after.running w.memory) in
     record { sizes = kept.memory; fits = scene_fits l p w.memory after _ verifies h kept }
 
-stops_told : (p : Program) (a : Activation) (w : World) (next : ℕ) (fault : FrameFault) → Lasts p w (after_call (Stops fault) next a w)
+stops_told : (p : Program) (a : Activation) (w : World) (next : ℕ) (fault : FrameFault) → Lasts p w (call_step (Stops fault) next a w)
 stops_told p a w next Depth = inl refl
 stops_told p a w next LocalFull = inr refl
 
 called_lasts :
     (l : ImageLaws) (p : Program) (a : Activation) (w : World) (next : ℕ) (block : BlockId) (b : CodeBlock) (o : Option ℕ)
-    (r : Result (List Binding) ℕ) → Caller p w.memory a next → block_of block p.code_blocks ≡ Some b → IfTold r
-    → IfDone (AreBound block.kind b.params (caller a next ∷ a.below) w.memory) r → HasInstance block.kind (head_of b) w.memory o
-    → Lasts p w (after_call (called_with r (callee_of block o (head_of b)) next a w.memory) next a w)
+    (r : Result (List Binding) ℕ) → Caller p w.memory a next → block_by_id block p.code_blocks ≡ Some b → IfTold r
+    → IfDone (AreBound block.kind b.params (caller a next ∷ a.below) w.memory) r → HasInstance block.kind (block_head_of b) w.memory o
+    → Lasts p w (call_step (called_with r (called_block block o (block_head_of b)) next a w.memory) next a w)
 called_lasts l p a w next block b o (Err code) h found told bound instance =
     (told, going_fits l p w.memory a next a.running.regs h.fits h.stood)
-called_lasts l p a w next block b o (Ok bs) h found told bound instance = by (refused b.local_len a)
+called_lasts l p a w next block b o (Ok bs) h found told bound instance = by (entry_fault b.local_len a)
   where
     by : (fault : Option FrameFault)
-        → Lasts p w (after_call (entered_if fault (callee_of block o (head_of b)) bs next a w.memory) next a w)
+        → Lasts p w (call_step (entered_if fault (called_block block o (block_head_of b)) bs next a w.memory) next a w)
     by (Some fault) = stops_told p a w next fault
     by None =
-        supplied_lasts l p a (entered (fresh_frame (callee_of block o (head_of b)) bs a.running.frame) (caller_at next a)) w next o b.params h.verifies
+        supplied_lasts l p a (block_entered (fresh_frame (called_block block o (block_head_of b)) bs a.running.frame) (caller_at next a)) w next o b.params h.verifies
         (entered_fits l p w.memory a next block b o bs h found bound instance)
 
 -- the bindings of a block that is called: all supplied for a function
@@ -198,7 +198,7 @@ block_bound ps frames m xs (Err e) h = tt
 
 -- what the caller's frame has bound fits its own block
 pub own_bound :
-    (p : Program) (m : Areas) (a : Activation) (b : CodeBlock) → block_of a.running.frame.block p.code_blocks ≡ Some b
+    (p : Program) (m : Areas) (a : Activation) (b : CodeBlock) → block_by_id a.running.frame.block p.code_blocks ≡ Some b
     → FitsProgram p m a → AreBound a.running.frame.block.kind b.params a.below m a.running.frame.bindings
 own_bound p m a b found h =
     let was = stands_of (code_of p) (open_codes p) m a h.fits in
@@ -206,9 +206,9 @@ own_bound p m a b found h =
 
 pub caller_binds :
     (p : Program) (m : Areas) (a : Activation) (own : CodeBlock) (ps : List Param) (next : ℕ) (xs : List Passing)
-    → block_of a.running.frame.block p.code_blocks ≡ Some own → FitsProgram p m a
+    → block_by_id a.running.frame.block p.code_blocks ≡ Some own → FitsProgram p m a
     → PassingsFit a.running.frame.block.kind own.params ps xs
-    → IfDone (Bindings ps (caller a next ∷ a.below) m xs) (bindings_of ps xs (local_of a.running) m)
+    → IfDone (Bindings ps (caller a next ∷ a.below) m xs) (param_bindings ps xs (local_of a.running) m)
 caller_binds p m a own ps next xs found h fits =
     let was = stands_of (code_of p) (open_codes p) m a h.fits in
     call_binds a.running.frame.block.kind own.params ps (caller a next) a.below (local_of a.running) m xs
@@ -217,34 +217,34 @@ caller_binds p m a own ps next xs found h fits =
 
 pub caller_told :
     (p : Program) (m : Areas) (a : Activation) (own : CodeBlock) (ps : List Param) (xs : List Passing)
-    → block_of a.running.frame.block p.code_blocks ≡ Some own → FitsProgram p m a
-    → PassingsFit a.running.frame.block.kind own.params ps xs → IfTold (bindings_of ps xs (local_of a.running) m)
+    → block_by_id a.running.frame.block p.code_blocks ≡ Some own → FitsProgram p m a
+    → PassingsFit a.running.frame.block.kind own.params ps xs → IfTold (param_bindings ps xs (local_of a.running) m)
 caller_told p m a own ps xs found h fits =
     call_told a.running.frame.block.kind own.params ps a.below (local_of a.running) m xs (own_bound p m a own found h) fits
 
 pub function_lasts :
     (l : ImageLaws) (p : Program) (a : Activation) (w : World) (next number : ℕ) (own b : CodeBlock) (xs : List Passing)
-    → Caller p w.memory a next → block_of a.running.frame.block p.code_blocks ≡ Some own
-    → block_of (record { kind = kinds.Fc; number = number }) p.code_blocks ≡ Some b
+    → Caller p w.memory a next → block_by_id a.running.frame.block p.code_blocks ≡ Some own
+    → block_by_id (record { kind = kinds.Fc; number = number }) p.code_blocks ≡ Some b
     → PassingsFit a.running.frame.block.kind own.params b.params xs
     → ((i : ℕ) (q : Param) → slice_get b.params i ≡ Some q → is_among i xs ≡ true)
-    → Lasts p w (block_called (Some (head_of b)) (record { kind = kinds.Fc; number = number }) None xs next a w)
+    → Lasts p w (block_called (Some (block_head_of b)) (record { kind = kinds.Fc; number = number }) None xs next a w)
 unfolding call
 function_lasts l p a w next number own b xs h own_is found fits each =
     let bound = caller_binds p w.memory a own b.params next xs own_is h.fits fits in
     called_lasts l p a w next (record { kind = kinds.Fc; number = number }) b None
-    (bindings_of b.params xs (local_of a.running) w.memory) h found (caller_told p w.memory a own b.params xs own_is h.fits fits)
-    (function_bound b.params (caller a next ∷ a.below) w.memory xs (bindings_of b.params xs (local_of a.running) w.memory) each bound) tt
+    (param_bindings b.params xs (local_of a.running) w.memory) h found (caller_told p w.memory a own b.params xs own_is h.fits fits)
+    (function_bound b.params (caller a next ∷ a.below) w.memory xs (param_bindings b.params xs (local_of a.running) w.memory) each bound) tt
 
 pub function_block_lasts :
     (l : ImageLaws) (p : Program) (a : Activation) (w : World) (next number : ℕ) (own b : CodeBlock) (o : Option ℕ) (xs : List Passing)
-    → Caller p w.memory a next → block_of a.running.frame.block p.code_blocks ≡ Some own
-    → block_of (record { kind = kinds.Fb; number = number }) p.code_blocks ≡ Some b
-    → PassingsFit a.running.frame.block.kind own.params b.params xs → HasInstance kinds.Fb (head_of b) w.memory o
-    → Lasts p w (block_called (Some (head_of b)) (record { kind = kinds.Fb; number = number }) o xs next a w)
+    → Caller p w.memory a next → block_by_id a.running.frame.block p.code_blocks ≡ Some own
+    → block_by_id (record { kind = kinds.Fb; number = number }) p.code_blocks ≡ Some b
+    → PassingsFit a.running.frame.block.kind own.params b.params xs → HasInstance kinds.Fb (block_head_of b) w.memory o
+    → Lasts p w (block_called (Some (block_head_of b)) (record { kind = kinds.Fb; number = number }) o xs next a w)
 unfolding call
 function_block_lasts l p a w next number own b o xs h own_is found fits instance =
     let bound = caller_binds p w.memory a own b.params next xs own_is h.fits fits in
     called_lasts l p a w next (record { kind = kinds.Fb; number = number }) b o
-    (bindings_of b.params xs (local_of a.running) w.memory) h found (caller_told p w.memory a own b.params xs own_is h.fits fits)
-    (block_bound b.params (caller a next ∷ a.below) w.memory xs (bindings_of b.params xs (local_of a.running) w.memory) bound) instance
+    (param_bindings b.params xs (local_of a.running) w.memory) h found (caller_told p w.memory a own b.params xs own_is h.fits fits)
+    (block_bound b.params (caller a next ∷ a.below) w.memory xs (param_bindings b.params xs (local_of a.running) w.memory) bound) instance

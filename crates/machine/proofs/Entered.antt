@@ -13,7 +13,7 @@ use Rattle.plc_base.specs.declared.Width.TheVariants as widths
 use Rattle.plc_base.specs.Widths.{bit_count, width_number}
 use Rattle.plc_base.specs.declared.Profile.{Profile}
 use Rattle.plc_mem.specs.Areas.{Areas}
-use Rattle.plc_mem.specs.Fresh.{fresh}
+use Rattle.plc_mem.specs.Fresh.{initial_memory}
 use Rattle.plc_mem.proofs.Runs.{tests_agree}
 use Rattle.flat_code.specs.declared.image_fields.ParameterRecord.{ParameterRecord}
 use Rattle.flat_code.specs.declared.operands.Operand.{Operand}
@@ -21,17 +21,17 @@ use Rattle.flat_code.specs.declared.operands.Operand.TheVariants as operand
 use Rattle.flat_code.specs.declared.operands.Passed.{Passed}
 use Rattle.flat_code.specs.declared.operands.Passed.TheVariants as passed
 use Rattle.flat_code.specs.declared.programs.Param.{Param}
-use Rattle.flat_code.specs.Blocks.{Around, Callee, callee, own_parameter, literal_fits, misfits_parameter, is_index, pass_index, is_passed, are_passed, is_short, data_len}
-use Rattle.flat_code.specs.Forms.{payload_fits, actual as flat_actual, width_of_number}
-use Rattle.flat_code.specs.Image.{record_of_block, record_of_param, param_of}
-use Rattle.flat_code.specs.Loading.{lens_of, around}
+use Rattle.flat_code.specs.Blocks.{Around, CalleeSeen, callee, parameter_meant, literal_fits, misfits_parameter, is_index, pass_index, is_passed, are_passed, is_short, length_of_data}
+use Rattle.flat_code.specs.Forms.{payload_fits, passed_coding as flat_actual, width_of_number}
+use Rattle.flat_code.specs.Image.{record_of_block, record_of_param, param_of_record}
+use Rattle.flat_code.specs.Loading.{lens_of, around_block}
 use Rattle.flat_code.specs.Ops.{OpData, is_op}
 use Rattle.flat_code.specs.Placed.{Placed, last_op}
 use Rattle.flat_code.specs.Programs.{CodeBlock, DataBlock, Program}
 use Rattle.flat_code.specs.Table.{admits, takes_of}
-use Rattle.image_file.specs.Verified.{IsOp, HasParam, FitsPassed, FitsPrepared, signatures}
+use Rattle.image_file.specs.Verified.{IsVerifiedOp, HasParam, FitsPassed, FitsPrepared, block_signatures}
 use Rattle.machine.specs.Flat.{passings_of, with_passing, numbered_bytes}
-use Rattle.machine.specs.Fitting.{SameSizes, IsLong, len_in}
+use Rattle.machine.specs.Fitting.{SameSizes, HasLength, len_in}
 use Rattle.machine.specs.ImageLaws.{ImageLaws}
 use Rattle.machine.proofs.BindingLemmas.{FitsActual, PassingsFit, is_among}
 use Rattle.machine.proofs.Standing.{AllBefore}
@@ -69,7 +69,7 @@ code_back widths.Byte = refl
 code_back widths.Word = refl
 code_back widths.Dword = refl
 
-pub of_function : (r : ParameterRecord) → IsParam (param_of r) r
+pub of_function : (r : ParameterRecord) → IsParam (param_of_record r) r
 of_function r = record { section = refl; width = λ w e. ap width_of_number e ∙ code_back w }
 
 -- each of one list stands for the one of the other
@@ -83,9 +83,9 @@ of_blocks [] index r found = absurd cc
 of_blocks (p ∷ ps) zero r found = (p, refl, subst (λ (z : ParameterRecord). IsParam p z) (same_Some (record_of_param p) r found) (of_block p))
 of_blocks (p ∷ ps) (suc index) r found = of_blocks ps index r found
 
-pub of_functions : (rs : List ParameterRecord) → AreParams (map param_of rs) rs
+pub of_functions : (rs : List ParameterRecord) → AreParams (map param_of_record rs) rs
 of_functions [] index r found = absurd cc
-of_functions (q ∷ rs) zero r found = (param_of q, refl, subst (λ (z : ParameterRecord). IsParam (param_of q) z) (same_Some q r found) (of_function q))
+of_functions (q ∷ rs) zero r found = (param_of_record q, refl, subst (λ (z : ParameterRecord). IsParam (param_of_record q) z) (same_Some q r found) (of_function q))
 of_functions (q ∷ rs) (suc index) r found = of_functions rs index r found
 
 -- ---- what is passed fits
@@ -113,14 +113,14 @@ literal_small p r value is fits small = one (eqb r.width 1) refl fits
     one false e h = two (eqb r.width 2) refl h
 
 abbrev around_in : Program → CodeBlock → Around
-around_in p b = around (Some (lens_of p.data_blocks)) (map record_of_block p.code_blocks) (record_of_block b)
+around_in p b = around_block (Some (lens_of p.data_blocks)) (map record_of_block p.code_blocks) (record_of_block b)
 
 record_at : (ps : List Param) (index : ℕ) (p : Param) → slice_get ps index ≡ Some p → slice_get (map record_of_param ps) index ≡ Some (record_of_param p)
 record_at [] index p found = absurd cc
 record_at (q ∷ ps) zero p found = ap (λ (z : Param). Some (record_of_param z)) (same_Some q p found)
 record_at (q ∷ ps) (suc index) p found = record_at ps index p found
 
-own_there : (p : Program) (b : CodeBlock) (index : ℕ) (w : Width) (own : Param) → HasParam b index w own → own_parameter (around_in p b) index ≡ Some (record_of_param own)
+own_there : (p : Program) (b : CodeBlock) (index : ℕ) (w : Width) (own : Param) → HasParam b index w own → parameter_meant (around_in p b) index ≡ Some (record_of_param own)
 own_there p b index w own h = rw h.kind (record_at b.params index own h.there)
 
 input_kept : (x y : ℕ) (wide : Bool) → (wide || (not (eqb y 1) && eqb x 1)) ≡ false → x ≡ 1 → y ≡ 1
@@ -169,9 +169,9 @@ literal_of code index value actual right is =
 -- ---- the passings of a statement
 
 op_passing :
-    (l : ImageLaws) (p : Program) (b : CodeBlock) (ps : List Param) (kind number instance : ℕ) (called : Callee) (last : OpData)
-    (q : Placed) (index : ℕ) (actual : Passed) → AreParams ps called.2 → callee (signatures p) kind number ≡ Some called
-    → last.operand ≡ operand.Called kind number instance → IsOp p b q → last_op q ≡ last
+    (l : ImageLaws) (p : Program) (b : CodeBlock) (ps : List Param) (kind number instance : ℕ) (called : CalleeSeen) (last : OpData)
+    (q : Placed) (index : ℕ) (actual : Passed) → AreParams ps called.2 → callee (block_signatures p) kind number ≡ Some called
+    → last.operand ≡ operand.Called kind number instance → IsVerifiedOp p b q → last_op q ≡ last
     → q.op.operand ≡ operand.Pass index actual
     → (x : Param) × (slice_get ps index ≡ Some x) × FitsActual b.id.kind b.params x actual
 op_passing l p b ps kind number instance called last q index actual params there calls h ends is =
@@ -182,8 +182,8 @@ op_passing l p b ps kind number instance called last q index actual params there
     (one.0, one.1, actual_fits p b one.0 fits.parameter actual one.2 prepared.2 fits.fits (λ value e. literal_of q.op.code index value actual right e))
 
 pub passings_fit :
-    (l : ImageLaws) (p : Program) (b : CodeBlock) (ps : List Param) (kind number instance : ℕ) (called : Callee) (last : OpData)
-    (ops : List OpData) → AreParams ps called.2 → callee (signatures p) kind number ≡ Some called
+    (l : ImageLaws) (p : Program) (b : CodeBlock) (ps : List Param) (kind number instance : ℕ) (called : CalleeSeen) (last : OpData)
+    (ops : List OpData) → AreParams ps called.2 → callee (block_signatures p) kind number ≡ Some called
     → last.operand ≡ operand.Called kind number instance → AllBefore p b last ops
     → PassingsFit b.id.kind b.params ps (passings_of ops)
 passings_fit l p b ps kind number instance called last [] params there calls all = tt
@@ -231,31 +231,31 @@ all_among i rs r ops all found =
 
 -- ---- instances
 
-find_len : (ds : List DataBlock) (number : ℕ) → option_map length (find nat_cmp number (numbered_bytes ds)) ≡ data_len number (lens_of ds)
+find_len : (ds : List DataBlock) (number : ℕ) → option_map length (find nat_cmp number (numbered_bytes ds)) ≡ length_of_data number (lens_of ds)
 find_len [] number = refl
 find_len (d ∷ ds) number =
     by (eqb d.number number) (eq_by_cmp nat_cmp number d.number) refl refl (tests_agree d.number number (eqb d.number number) (eq_by_cmp nat_cmp number d.number) refl refl) (find_len ds number)
   where
     by : (x y : Bool) → eqb d.number number ≡ x → eq_by_cmp nat_cmp number d.number ≡ y → eqb d.number number ≡ eq_by_cmp nat_cmp number d.number
-        → option_map length (find nat_cmp number (numbered_bytes ds)) ≡ data_len number (lens_of ds)
-        → option_map length (cond y (Some d.bytes) (find nat_cmp number (numbered_bytes ds))) ≡ cond x (Some (length d.bytes)) (data_len number (lens_of ds))
+        → option_map length (find nat_cmp number (numbered_bytes ds)) ≡ length_of_data number (lens_of ds)
+        → option_map length (cond y (Some d.bytes) (find nat_cmp number (numbered_bytes ds))) ≡ cond x (Some (length d.bytes)) (length_of_data number (lens_of ds))
     by true true e f same more = refl
     by false false e f same more = more
     by true false e f same more = let s : true ≡ false = sym e ∙ same ∙ f in absurd cc
     by false true e f same more = let s : false ≡ true = sym e ∙ same ∙ f in absurd cc
 
-fresh_len : (f : Profile) (ds : List DataBlock) (number : ℕ) → len_in (fresh f (numbered_bytes ds)) number ≡ data_len number (lens_of ds)
-unfolding fresh
+fresh_len : (f : Profile) (ds : List DataBlock) (number : ℕ) → len_in (initial_memory f (numbered_bytes ds)) number ≡ length_of_data number (lens_of ds)
+unfolding initial_memory
 fresh_len f ds number = ap (λ (o : Option (List ℕ)). option_map length o) (get-from_entries nat_cmp_total (numbered_bytes ds) number) ∙ find_len ds number
 
-long_by : (needed : ℕ) (o : Option (List ℕ)) (len : Option ℕ) → option_map length o ≡ len → is_short needed len ≡ false → IsLong needed o
+long_by : (needed : ℕ) (o : Option (List ℕ)) (len : Option ℕ) → option_map length o ≡ len → is_short needed len ≡ false → HasLength needed o
 long_by needed None len is h = absurd (let e : is_short needed None ≡ false = rw (sym is) at h in cc)
 long_by needed (Some bytes) len is h = ltb-false (length bytes) needed (rw (sym is) at h)
 
 pub instance_long :
-    (f : Profile) (p : Program) (m : Areas) (number needed : ℕ) → SameSizes (fresh f (numbered_bytes p.data_blocks)) m
-    → is_short needed (data_len number (lens_of p.data_blocks)) ≡ false
-    → IsLong needed (finmap.get m.data_blocks number)
+    (f : Profile) (p : Program) (m : Areas) (number needed : ℕ) → SameSizes (initial_memory f (numbered_bytes p.data_blocks)) m
+    → is_short needed (length_of_data number (lens_of p.data_blocks)) ≡ false
+    → HasLength needed (finmap.get m.data_blocks number)
 instance_long f p m number needed sizes h =
-    long_by needed (finmap.get m.data_blocks number) (data_len number (lens_of p.data_blocks))
+    long_by needed (finmap.get m.data_blocks number) (length_of_data number (lens_of p.data_blocks))
     (sizes.data_blocks number ∙ fresh_len f p.data_blocks number) h

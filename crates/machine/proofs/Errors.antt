@@ -6,7 +6,7 @@ use Rattle.plc_base.specs.declared.Area.TheVariants as areas
 use Rattle.plc_base.specs.declared.Place.{Place}
 use Rattle.plc_base.specs.declared.Width.{Width}
 use Rattle.plc_base.specs.declared.Width.TheVariants as widths
-use Rattle.plc_base.specs.Pointer.{place_of}
+use Rattle.plc_base.specs.Pointer.{place_at_pointer}
 use Rattle.plc_mem.specs.Areas.{Areas}
 use Rattle.status_word.specs.declared.Bracket.{Bracket}
 use Rattle.status_word.specs.declared.Regs.{Regs}
@@ -30,25 +30,25 @@ use Rattle.flat_code.specs.declared.operations.RelayOperation.{RelayOperation}
 use Rattle.flat_code.specs.declared.operations.RelayOperation.TheVariants as relay
 use Rattle.flat_code.specs.declared.operations.Operation.{Operation}
 use Rattle.flat_code.specs.declared.operations.Operation.TheVariants as operation
-use Rattle.flat_code.specs.Placed.{is_empty, most_zones}
+use Rattle.flat_code.specs.Placed.{is_empty_list, most_zones}
 use Rattle.flat_code.specs.Table.{admits, takes_of_operation, takes_timer, takes_counter}
 use Rattle.machine.specs.declared.places.Access.{Access}
 use Rattle.machine.specs.declared.places.Access.TheVariants.{Reading, Writing}
 use Rattle.machine.specs.declared.places.Location.{Location}
-use Rattle.machine.specs.BitLogic.{checking, put_bit, bit_number, with_regs, bit_before, assigned, assigned_at, bit_set, set_at, edge, edge_at}
-use Rattle.machine.specs.DataBlocks.{is_loaded, opened_if, opening, loading_open_block}
-use Rattle.machine.specs.Effect.{on_regs, on_local, on_local_memory, on_timers, on_counters, kind_named, set_of, reset_of, free_of, effect}
+use Rattle.machine.specs.BitLogic.{checking, put_bit, bit_as_number, with_local_regs, bit_before, bit_assigned, assigned_at, bit_set, bit_set_at, edge, edge_at}
+use Rattle.machine.specs.DataBlocks.{is_block_loaded, opened_if, block_opened_by, loading_open_block}
+use Rattle.machine.specs.Effect.{effect_on_regs, on_local, on_local_memory, on_timers, on_counters, kind_named, set_of, reset_of, free_of, effect}
 use Rattle.machine.specs.Lasting.{is_error_code}
-use Rattle.machine.specs.Loads.{loading, loading_bcd, transferred}
-use Rattle.machine.specs.Nesting.{with_brackets, nesting, unnesting, unnested}
-use Rattle.machine.specs.Relay.{closed, opening_zone, ending_zone, relayed}
-use Rattle.status_word.specs.Brackets.{entry_of, begun}
-use Rattle.machine.specs.Numbers.{from_bcd, counted}
+use Rattle.machine.specs.Loads.{loading, loading_bcd, number_transferred}
+use Rattle.machine.specs.Nesting.{with_open_brackets, nesting, unnesting, bracket_closed}
+use Rattle.machine.specs.Relay.{is_writing_off, opening_zone, ending_zone, relay_effect}
+use Rattle.status_word.specs.Brackets.{entry_of, bracket_begun}
+use Rattle.machine.specs.Numbers.{from_bcd, number_effect}
 use Rattle.machine.specs.ExecState.{Local, LocalMemory, ExecState, then_ok}
-use Rattle.machine.specs.Places.{error_of, in_register, in_area, absent, number_in, read, direct, pointer, is_aligned, at_pointer, by_pointer, is_bit, is_peripheral, placed, in_named, by_crossing, address, by_register, of_binding, located, no_operand}
-use Rattle.machine.specs.Pointers.{pointed, address_loaded, address_transferred}
-use Rattle.machine.specs.Timing.{starting, timer_reset, timer_freed, counting_up, counting_down, counter_set, counter_reset, counter_freed}
-use Rattle.machine.specs.Values.{number_of_binding, number, faulty, is_timer, bit_of_numbered, value_of_numbered, bcd_of_numbered, number_named, is_one, tested, loaded, bcd_loaded, stored_at, write}
+use Rattle.machine.specs.Places.{error_of, open_block_location, open_area_location, absent, location_number, read, direct_number, pointer_number, is_aligned, at_pointer, by_pointer, is_bit_width, is_area_p, area_location, in_named, by_crossing, register_address, register_location, of_binding, operand_location, no_operand}
+use Rattle.machine.specs.Pointers.{pointer_effect, address_loaded, address_transferred}
+use Rattle.machine.specs.Timing.{timer_start, timer_reset, timer_freed, counting_up, counting_down, counter_set, counter_reset, counter_freed}
+use Rattle.machine.specs.Values.{number_of_binding, operand_number, faulty, is_timer_kind, bit_of_numbered, value_of_numbered, bcd_of_numbered, number_named, is_one, checked_bit, load_value, bcd_loaded, stored_at, write}
 
 -- a code that an error may have
 abbrev pub Told : ℕ → Type 0
@@ -80,12 +80,12 @@ pub absent_told : (access : Access) (area : Area) → Told (absent access area)
 absent_told access areas.P = error_told access 0x42 refl refl
 absent_told access _ = error_told access 0x22 refl refl
 
-register_told : (o : Option ℕ) (error byte bit : ℕ) (width : Width) → Told error → IfTold (in_register o error byte bit width)
+register_told : (o : Option ℕ) (error byte bit : ℕ) (width : Width) → Told error → IfTold (open_block_location o error byte bit width)
 register_told (Some number) error byte bit width some = tt
 register_told None error byte bit width some = some
 
-area_told : (area : Area) (byte bit : ℕ) (width : Width) (s : Local) → IfTold (in_area area byte bit width s)
-unfolding in_area
+area_told : (area : Area) (byte bit : ℕ) (width : Width) (s : Local) → IfTold (open_area_location area byte bit width s)
+unfolding open_area_location
 area_told areas.Db byte bit width s = register_told s.inner.db 0x32 byte bit width refl
 area_told areas.Di byte bit width s = register_told s.inner.di 0x33 byte bit width refl
 area_told areas.L byte bit width s = tt
@@ -93,12 +93,12 @@ area_told _ byte bit width s = tt
 
 read_told : (at : Location) (s : Local) (m : Areas) → IfTold (read at s m)
 unfolding read
-read_told at s m = or_told (number_in at s.locals m) (absent Reading at.place.area) (absent_told Reading at.place.area)
+read_told at s m = or_told (location_number at s.locals m) (absent Reading at.place.area) (absent_told Reading at.place.area)
 
-pointer_told : (from : Area) (byte : ℕ) (width : Width) (s : Local) (m : Areas) → IfTold (pointer from byte width s m)
-unfolding direct
+pointer_told : (from : Area) (byte : ℕ) (width : Width) (s : Local) (m : Areas) → IfTold (pointer_number from byte width s m)
+unfolding direct_number
 pointer_told from byte width s m =
-    then_told (in_area from byte 0 width s) (λ at. read at s m) (area_told from byte 0 width s) (λ at. read_told at s m)
+    then_told (open_area_location from byte 0 width s) (λ at. read at s m) (area_told from byte 0 width s) (λ at. read_told at s m)
 
 by_pointer_told : (access : Access) (area : Area) (width : Width) (n : ℕ) (s : Local) → IfTold (by_pointer access area width n s)
 unfolding by_pointer
@@ -106,9 +106,9 @@ by_pointer_told access area width n s =
     either_told (is_aligned width n) (at_pointer area width n s) (Err (error_of access 0x28))
     (area_told area (n / 2 ^ 3 % 2 ^ 16) (n % 2 ^ 3) width s) (error_told access 0x28 refl refl)
 
-pub placed_told : (access : Access) (area : Area) (byte bit : ℕ) (width : Width) (s : Local) → IfTold (placed access area byte bit width s)
+pub placed_told : (access : Access) (area : Area) (byte bit : ℕ) (width : Width) (s : Local) → IfTold (area_location access area byte bit width s)
 placed_told access area byte bit width s =
-    either_told (is_peripheral area && is_bit width) (Err (error_of access 0x24)) (in_area area byte bit width s)
+    either_told (is_area_p area && is_bit_width width) (Err (error_of access 0x24)) (open_area_location area byte bit width s)
     (error_told access 0x24 refl refl) (area_told area byte bit width s)
 
 named_told : (access : Access) (named : Option Place) (width : Width) (n : ℕ) (s : Local) → IfTold (in_named access named width n s)
@@ -118,10 +118,10 @@ named_told access (Some at) width n s = placed_told access at.area (n / 2 ^ 3 % 
 crossing_told : (access : Access) (width : Width) (address n : ℕ) (s : Local) → IfTold (by_crossing access width address n s)
 unfolding by_crossing
 crossing_told access width address n s =
-    either_told (is_aligned width n) (in_named access (place_of address) width n s) (Err (error_of access 0x28))
-    (named_told access (place_of address) width n s) (error_told access 0x28 refl refl)
+    either_told (is_aligned width n) (in_named access (place_at_pointer address) width n s) (Err (error_of access 0x28))
+    (named_told access (place_at_pointer address) width n s) (error_told access 0x28 refl refl)
 
-by_register_told : (access : Access) (area : Option Area) (width : Width) (address bits : ℕ) (s : Local) → IfTold (by_register access area width address bits s)
+by_register_told : (access : Access) (area : Option Area) (width : Width) (address bits : ℕ) (s : Local) → IfTold (register_location access area width address bits s)
 by_register_told access (Some area) width address bits s = by_pointer_told access area width _ s
 by_register_told access None width address bits s = crossing_told access width address _ s
 
@@ -155,13 +155,13 @@ binding_told (binding.Bound at width frame) is = tt
 binding_told (binding.Constant value) is = absurd is
 binding_told binding.Unsupplied is = absurd is
 
-located_told : (access : Access) (o : Operand) (s : Local) (m : Areas) → HasPlace s o → IfTold (located access o s m)
-unfolding located
+located_told : (access : Access) (o : Operand) (s : Local) (m : Areas) → HasPlace s o → IfTold (operand_location access o s m)
+unfolding operand_location
 located_told access (operand.Direct area width byte bit) s m has = placed_told access area byte bit width s
 located_told access (operand.ByMemory area width from byte) s m has =
-    then_told (pointer from byte widths.Dword s m) (λ n. by_pointer access area width n s) (pointer_told from byte widths.Dword s m)
+    then_told (pointer_number from byte widths.Dword s m) (λ n. by_pointer access area width n s) (pointer_told from byte widths.Dword s m)
     (λ n. by_pointer_told access area width n s)
-located_told access (operand.ByRegister area width register bits) s m has = by_register_told access area width (address register s) bits s
+located_told access (operand.ByRegister area width register bits) s m has = by_register_told access area width (register_address register s) bits s
 located_told access (operand.Parameter index width) s m has = rw has.1 (binding_told has.0 has.2)
 located_told access _ s m has = absurd has
 
@@ -180,11 +180,11 @@ number_binding_told (binding.Bound at width frame) s m is = read_told (record { 
 number_binding_told (binding.Constant value) s m is = tt
 number_binding_told binding.Unsupplied s m is = absurd is
 
-located_read : (o : Operand) (s : Local) (m : Areas) → HasPlace s o → IfTold (then_ok (located Reading o s m) (λ at. read at s m))
-located_read o s m has = then_told (located Reading o s m) (λ at. read at s m) (located_told Reading o s m has) (λ at. read_told at s m)
+located_read : (o : Operand) (s : Local) (m : Areas) → HasPlace s o → IfTold (then_ok (operand_location Reading o s m) (λ at. read at s m))
+located_read o s m has = then_told (operand_location Reading o s m) (λ at. read at s m) (located_told Reading o s m has) (λ at. read_told at s m)
 
-number_told : (o : Operand) (s : Local) (m : Areas) → IsRead s o → IfTold (number o s m)
-unfolding number
+number_told : (o : Operand) (s : Local) (m : Areas) → IsRead s o → IfTold (operand_number o s m)
+unfolding operand_number
 number_told (operand.Literal value) s m has = tt
 number_told (operand.Direct area width byte bit) s m has = located_read (operand.Direct area width byte bit) s m tt
 number_told (operand.ByMemory area width from byte) s m has = located_read (operand.ByMemory area width from byte) s m tt
@@ -201,15 +201,15 @@ faulty_told code (Err BadBcd) some = refl
 
 bit_told : (kind number : ℕ) (t : List Timer) (n : List Counter) → IfTold (bit_of_numbered kind number t n)
 unfolding bit_of_numbered
-bit_told kind number t n = either_told (is_timer kind) _ _ (faulty_told 0x26 _ refl) (faulty_told 0x27 _ refl)
+bit_told kind number t n = either_told (is_timer_kind kind) _ _ (faulty_told 0x26 _ refl) (faulty_told 0x27 _ refl)
 
 value_told : (kind number : ℕ) (t : List Timer) (n : List Counter) → IfTold (value_of_numbered kind number t n)
 unfolding value_of_numbered
-value_told kind number t n = either_told (is_timer kind) _ _ (faulty_told 0x26 _ refl) (faulty_told 0x27 _ refl)
+value_told kind number t n = either_told (is_timer_kind kind) _ _ (faulty_told 0x26 _ refl) (faulty_told 0x27 _ refl)
 
 bcd_told : (kind number : ℕ) (t : List Timer) (n : List Counter) → IfTold (bcd_of_numbered kind number t n)
 unfolding bcd_of_numbered
-bcd_told kind number t n = either_told (is_timer kind) _ _ (faulty_told 0x26 _ refl) (faulty_told 0x27 _ refl)
+bcd_told kind number t n = either_told (is_timer_kind kind) _ _ (faulty_told 0x26 _ refl) (faulty_told 0x27 _ refl)
 
 abbrev IsNumbered : Operand → Type 0
 IsNumbered (operand.Numbered kind number) = Unit {0}
@@ -230,13 +230,13 @@ write_told at value s m = or_told (stored_at at value s m) (absent Writing at.pl
 
 put_told : (at : Location) (bit : Bool) (r : Regs) (s : Local) (m : Areas) → IfTold (put_bit at bit r s m)
 unfolding put_bit
-put_told at bit r s m = then_told (write at (bit_number bit) s m) (λ c. Ok (with_regs r c)) (write_told at (bit_number bit) s m) (λ c. tt)
+put_told at bit r s m = then_told (write at (bit_as_number bit) s m) (λ c. Ok (with_local_regs r c)) (write_told at (bit_as_number bit) s m) (λ c. tt)
 
 before_told : (at : Location) (s : Local) (m : Areas) → IfTold (bit_before at s m)
 unfolding bit_before
 before_told at s m =
-    then_told (ok_or (number_in at s.locals m) (absent Writing at.place.area)) (λ n. Ok (n == 1))
-    (or_told (number_in at s.locals m) (absent Writing at.place.area) (absent_told Writing at.place.area)) (λ n. tt)
+    then_told (ok_or (location_number at s.locals m) (absent Writing at.place.area)) (λ n. Ok (n == 1))
+    (or_told (location_number at s.locals m) (absent Writing at.place.area) (absent_told Writing at.place.area)) (λ n. tt)
 
 -- ---- families
 
@@ -244,11 +244,11 @@ one_told : (r : Result ℕ ℕ) → IfTold r → IfTold (is_one r)
 one_told (Ok n) told = tt
 one_told (Err code) told = told
 
-tested_told : (o : Operand) (s : Local) (m : Areas) (t : List Timer) (n : List Counter) → admits takes.Check o ≡ true → ParamHas s false o → IfTold (tested o s m t n)
-unfolding tested admits
+tested_told : (o : Operand) (s : Local) (m : Areas) (t : List Timer) (n : List Counter) → admits takes.Check o ≡ true → ParamHas s false o → IfTold (checked_bit o s m t n)
+unfolding checked_bit admits
 tested_told (operand.Numbered kind number) s m t n h has = bit_told kind number t n
 tested_told (operand.NumberedBy kind from byte) s m t n h has =
-    then_told (pointer from byte widths.Word s m) (λ number. bit_of_numbered kind number t n) (pointer_told from byte widths.Word s m) (λ number. bit_told kind number t n)
+    then_told (pointer_number from byte widths.Word s m) (λ number. bit_of_numbered kind number t n) (pointer_told from byte widths.Word s m) (λ number. bit_told kind number t n)
 tested_told (operand.OfStatus condition) s m t n h has = tt
 tested_told (operand.Direct area width byte bit) s m t n h has = one_told _ (number_told (operand.Direct area width byte bit) s m tt)
 tested_told (operand.ByMemory area width from byte) s m t n h has = one_told _ (number_told (operand.ByMemory area width from byte) s m tt)
@@ -256,11 +256,11 @@ tested_told (operand.ByRegister area width register bits) s m t n h has = one_to
 tested_told (operand.Parameter index width) s m t n h has = one_told _ (number_told (operand.Parameter index width) s m (has.0, has.1, has.2))
 tested_told _ s m t n h has = absurd cc
 
-loaded_told : (o : Operand) (s : Local) (m : Areas) (t : List Timer) (n : List Counter) → admits takes.Load o ≡ true → ParamHas s false o → IfTold (loaded o s m t n)
-unfolding loaded admits
+loaded_told : (o : Operand) (s : Local) (m : Areas) (t : List Timer) (n : List Counter) → admits takes.Load o ≡ true → ParamHas s false o → IfTold (load_value o s m t n)
+unfolding load_value admits
 loaded_told (operand.Numbered kind number) s m t n h has = value_told kind number t n
 loaded_told (operand.NumberedBy kind from byte) s m t n h has =
-    then_told (pointer from byte widths.Word s m) (λ number. value_of_numbered kind number t n) (pointer_told from byte widths.Word s m) (λ number. value_told kind number t n)
+    then_told (pointer_number from byte widths.Word s m) (λ number. value_of_numbered kind number t n) (pointer_told from byte widths.Word s m) (λ number. value_told kind number t n)
 loaded_told (operand.Literal value) s m t n h has = number_told (operand.Literal value) s m tt
 loaded_told (operand.Direct area width byte bit) s m t n h has = number_told (operand.Direct area width byte bit) s m tt
 loaded_told (operand.ByMemory area width from byte) s m t n h has = number_told (operand.ByMemory area width from byte) s m tt
@@ -281,7 +281,7 @@ bcd_loaded_told : (o : Operand) (s : Local) (m : Areas) (t : List Timer) (n : Li
 unfolding bcd_loaded
 bcd_loaded_told (operand.Numbered kind number) s m t n has = bcd_told kind number t n
 bcd_loaded_told (operand.NumberedBy kind from byte) s m t n has =
-    then_told (pointer from byte widths.Word s m) (λ number. bcd_of_numbered kind number t n) (pointer_told from byte widths.Word s m) (λ number. bcd_told kind number t n)
+    then_told (pointer_number from byte widths.Word s m) (λ number. bcd_of_numbered kind number t n) (pointer_told from byte widths.Word s m) (λ number. bcd_told kind number t n)
 bcd_loaded_told _ s m t n has = absurd has
 
 pub kind_none : (kind : ℕ) (t : Takes) → takes_timer t ≡ false → takes_counter t ≡ false → (kind == 1 && takes_timer t || kind == 2 && takes_counter t) ≡ true → ⊥
@@ -309,7 +309,7 @@ written_place _ t s (inr e) h has = absurd (let f : false ≡ true = rw e at h i
 
 -- ---- by word
 
-registers_told : (p : ExecState) (r : Result Regs ℕ) → IfTold r → IfTold (on_regs p r)
+registers_told : (p : ExecState) (r : Result Regs ℕ) → IfTold r → IfTold (effect_on_regs p r)
 registers_told p (Ok r) told = tt
 registers_told p (Err code) told = told
 
@@ -333,8 +333,8 @@ numbered_told : {A : Type 0} (code : ℕ) (o : Operand) (s : Local) (m : Areas) 
 numbered_told code o s m f some has =
     then_told (number_named o s m) (λ number. faulty code (f number)) (named_number_told o s m has) (λ number. faulty_told code (f number) some)
 
-starting_told : (how : TimerKind) (o : Operand) (s : Local) (m : Areas) (t : List Timer) → IsNumbered o → IfTold (starting how o s m t)
-unfolding starting
+starting_told : (how : TimerKind) (o : Operand) (s : Local) (m : Areas) (t : List Timer) → IsNumbered o → IfTold (timer_start how o s m t)
+unfolding timer_start
 starting_told how o s m t has = numbered_told 0x26 o s m _ refl has
 
 timer_reset_told : (o : Operand) (s : Local) (m : Areas) (t : List Timer) → IsNumbered o → IfTold (timer_reset o s m t)
@@ -367,34 +367,34 @@ counter_freed_told o s m n has = numbered_told 0x27 o s m _ refl has
 
 checking_told : (o : Operand) (p : ExecState) (with : _) → admits takes.Check o ≡ true → ParamHas p.local false o → IfTold (checking with o p.local p.memory p.timers p.counters)
 unfolding checking
-checking_told o p with h has = then_told (tested o p.local p.memory p.timers p.counters) _ (tested_told o p.local p.memory p.timers p.counters h has) (λ bit. tt)
+checking_told o p with h has = then_told (checked_bit o p.local p.memory p.timers p.counters) _ (tested_told o p.local p.memory p.timers p.counters h has) (λ bit. tt)
 
 loading_told : (o : Operand) (p : ExecState) → admits takes.Load o ≡ true → ParamHas p.local false o → IfTold (loading o p.local p.memory p.timers p.counters)
 unfolding loading
-loading_told o p h has = then_told (loaded o p.local p.memory p.timers p.counters) _ (loaded_told o p.local p.memory p.timers p.counters h has) (λ x. tt)
+loading_told o p h has = then_told (load_value o p.local p.memory p.timers p.counters) _ (loaded_told o p.local p.memory p.timers p.counters h has) (λ x. tt)
 
 loading_bcd_told : (o : Operand) (p : ExecState) → IsNumbered o → IfTold (loading_bcd o p.local p.memory p.timers p.counters)
 unfolding loading_bcd
 loading_bcd_told o p has = then_told (bcd_loaded o p.local p.memory p.timers p.counters) _ (bcd_loaded_told o p.local p.memory p.timers p.counters has) (λ x. tt)
 
-transferred_told : (n : ℕ) (o : Operand) (s : Local) (m : Areas) → HasPlace s o → IfTold (transferred n o s m)
-unfolding transferred
-transferred_told n o s m has = then_told (located Writing o s m) _ (located_told Writing o s m has) (λ at. write_told at _ s m)
+transferred_told : (n : ℕ) (o : Operand) (s : Local) (m : Areas) → HasPlace s o → IfTold (number_transferred n o s m)
+unfolding number_transferred
+transferred_told n o s m has = then_told (operand_location Writing o s m) _ (located_told Writing o s m has) (λ at. write_told at _ s m)
 
-assigned_told : (o : Operand) (s : Local) (m : Areas) → HasPlace s o → IfTold (assigned o s m)
-unfolding assigned
-assigned_told o s m has = then_told (located Writing o s m) (λ at. assigned_at at s m) (located_told Writing o s m has) (λ at. put_told at _ _ s m)
+assigned_told : (o : Operand) (s : Local) (m : Areas) → HasPlace s o → IfTold (bit_assigned o s m)
+unfolding bit_assigned
+assigned_told o s m has = then_told (operand_location Writing o s m) (λ at. assigned_at at s m) (located_told Writing o s m has) (λ at. put_told at _ _ s m)
 
 bit_set_told : (value : Bool) (o : Operand) (s : Local) (m : Areas) → HasPlace s o → IfTold (bit_set value o s m)
 unfolding bit_set
 bit_set_told value o s m has =
-    then_told (located Writing o s m) (λ at. then_ok (bit_before at s m) (λ before. set_at value at before s m)) (located_told Writing o s m has)
-    (λ at. then_told (bit_before at s m) (λ before. set_at value at before s m) (before_told at s m) (λ before. put_told at _ _ s m))
+    then_told (operand_location Writing o s m) (λ at. then_ok (bit_before at s m) (λ before. bit_set_at value at before s m)) (located_told Writing o s m has)
+    (λ at. then_told (bit_before at s m) (λ before. bit_set_at value at before s m) (before_told at s m) (λ before. put_told at _ _ s m))
 
 edge_told : (rising : Bool) (o : Operand) (s : Local) (m : Areas) → HasPlace s o → IfTold (edge rising o s m)
 unfolding edge
 edge_told rising o s m has =
-    then_told (located Writing o s m) (λ at. then_ok (bit_before at s m) (λ before. edge_at rising at before s m)) (located_told Writing o s m has)
+    then_told (operand_location Writing o s m) (λ at. then_ok (bit_before at s m) (λ before. edge_at rising at before s m)) (located_told Writing o s m has)
     (λ at. then_told (bit_before at s m) (λ before. edge_at rising at before s m) (before_told at s m) (λ before. put_told at _ _ s m))
 
 -- S and R of a bit, a timer or a counter; FR of a timer or a counter
@@ -410,7 +410,7 @@ set_told _ p h has = absurd cc
 
 reset_numbered_told : (kind : ℕ) (o : Operand) (p : ExecState) → IsNumbered o → IfTold (reset_of (Some kind) o p)
 reset_numbered_told kind o p has =
-    either_told (is_timer kind) (on_timers p (timer_reset o p.local p.memory p.timers)) (on_counters p (counter_reset o p.local p.memory p.counters))
+    either_told (is_timer_kind kind) (on_timers p (timer_reset o p.local p.memory p.timers)) (on_counters p (counter_reset o p.local p.memory p.counters))
     (timers_told p _ (timer_reset_told o p.local p.memory p.timers has)) (counters_told p _ (reset_counter_told o p.local p.memory p.counters has))
 
 reset_told : (o : Operand) (p : ExecState) → admits takes.BitOrNumbered o ≡ true → ParamHas p.local true o → IfTold (reset_of (kind_named o) o p)
@@ -425,7 +425,7 @@ reset_told _ p h has = absurd cc
 
 free_numbered_told : (kind : ℕ) (o : Operand) (p : ExecState) → IsNumbered o → IfTold (free_of (Some kind) o p)
 free_numbered_told kind o p has =
-    either_told (is_timer kind) (on_timers p (timer_freed o p.local p.memory p.timers)) (on_counters p (counter_freed o p.local p.memory p.counters))
+    either_told (is_timer_kind kind) (on_timers p (timer_freed o p.local p.memory p.timers)) (on_counters p (counter_freed o p.local p.memory p.counters))
     (timers_told p _ (timer_freed_told o p.local p.memory p.timers has)) (counters_told p _ (counter_freed_told o p.local p.memory p.counters has))
 
 free_told : (o : Operand) (p : ExecState) → IsNumbered o → IfTold (free_of (kind_named o) o p)
@@ -451,8 +451,8 @@ address_transferred_told n (operand.Numbered kind number) s m h = absurd (kind_n
 address_transferred_told n (operand.NumberedBy kind from byte) s m h = absurd (kind_none kind takes.PointerPlace refl refl h)
 address_transferred_told n _ s m h = absurd cc
 
-pointed_told : (what : PointerOperation) (o : Operand) (s : Local) (m : Areas) → admits (takes_of_operation (operation.Pointer what)) o ≡ true → IfTold (pointed what o s m)
-unfolding pointed
+pointed_told : (what : PointerOperation) (o : Operand) (s : Local) (m : Areas) → admits (takes_of_operation (operation.Pointer what)) o ≡ true → IfTold (pointer_effect what o s m)
+unfolding pointer_effect
 pointed_told pointers.Lar1 o s m h = then_told (address_loaded o s m) _ (address_told o s m h) (λ n. tt)
 pointed_told pointers.Lar2 o s m h = then_told (address_loaded o s m) _ (address_told o s m h) (λ n. tt)
 pointed_told pointers.Tar1 o s m h = address_transferred_told s.regs.ar1 o s m h
@@ -463,8 +463,8 @@ bcd_given : (o : Option Regs) → IfTold (from_bcd o)
 bcd_given (Some r) = tt
 bcd_given None = refl
 
-counted_told : (what : Number) (r : Regs) → IfTold (counted what r)
-unfolding counted
+counted_told : (what : Number) (r : Regs) → IfTold (number_effect what r)
+unfolding number_effect
 counted_told number_word.Bti r = bcd_given _
 counted_told number_word.Btd r = bcd_given _
 counted_told _ r = tt
@@ -474,12 +474,12 @@ open_told : (loaded : Bool) (register number : ℕ) (s : Local) → IfTold (open
 open_told true register number s = tt
 open_told false register number s = refl
 
-opening_told : (o : Operand) (s : Local) (m : Areas) → admits takes.Open o ≡ true → IfTold (opening o s m)
-unfolding opening admits
-opening_told (operand.OpenBlock register number) s m h = open_told (is_loaded number m) register number s
+opening_told : (o : Operand) (s : Local) (m : Areas) → admits takes.Open o ≡ true → IfTold (block_opened_by o s m)
+unfolding block_opened_by admits
+opening_told (operand.OpenBlock register number) s m h = open_told (is_block_loaded number m) register number s
 opening_told (operand.OpenBy register from byte) s m h =
-    then_told (pointer from byte widths.Word s m) (λ number. opened_if (is_loaded number m) register number s) (pointer_told from byte widths.Word s m)
-    (λ number. open_told (is_loaded number m) register number s)
+    then_told (pointer_number from byte widths.Word s m) (λ number. opened_if (is_block_loaded number m) register number s) (pointer_told from byte widths.Word s m)
+    (λ number. open_told (is_block_loaded number m) register number s)
 opening_told (operand.Numbered kind number) s m h = absurd (kind_none kind takes.Open refl refl h)
 opening_told (operand.NumberedBy kind from byte) s m h = absurd (kind_none kind takes.Open refl refl h)
 opening_told _ s m h = absurd cc
@@ -529,11 +529,11 @@ nest_done : (p : ExecState) (with : _) → (length p.local.inner.brackets ≡ 7 
 unfolding nesting
 nest_done p with room = by (length p.local.inner.brackets == 7) refl
   where
-    by : (t : Bool) → (length p.local.inner.brackets == 7) ≡ t → IfTold (cond t (Err no_operand) (Ok (with_brackets (entry_of with p.local.regs ∷ p.local.inner.brackets) (record p.local { regs = begun p.local.regs }))))
+    by : (t : Bool) → (length p.local.inner.brackets == 7) ≡ t → IfTold (cond t (Err no_operand) (Ok (with_open_brackets (entry_of with p.local.regs ∷ p.local.inner.brackets) (record p.local { regs = bracket_begun p.local.regs }))))
     by true e = absurd (room (eqb-true (length p.local.inner.brackets) 7 e))
     by false e = tt
 
-unnest_done : (s : Local) (brackets : List Bracket) → (brackets ≡ [] → ⊥) → IfTold (unnested brackets s)
+unnest_done : (s : Local) (brackets : List Bracket) → (brackets ≡ [] → ⊥) → IfTold (bracket_closed brackets s)
 unnest_done s [] room = absurd (room refl)
 unnest_done s (b ∷ rest) room = tt
 
@@ -548,11 +548,11 @@ zone_room s room = by (length s.inner.relay.zones == most_zones) refl
     by true e = absurd (room (eqb-true (length s.inner.relay.zones) most_zones e))
     by false e = refl
 
-pub zone_there : (zones : List Bool) → (zones ≡ [] → ⊥) → is_empty zones ≡ false
+pub zone_there : (zones : List Bool) → (zones ≡ [] → ⊥) → is_empty_list zones ≡ false
 zone_there [] room = absurd (room refl)
 zone_there (value ∷ around) room = refl
 
-relayed_done : (which : RelayOperation) (s : Local) → HasRoom (operation.Relay which) s.inner.brackets s.inner.relay → IfTold (relayed which s)
+relayed_done : (which : RelayOperation) (s : Local) → HasRoom (operation.Relay which) s.inner.brackets s.inner.relay → IfTold (relay_effect which s)
 unfolding opening_zone ending_zone
 relayed_done relay.Activate s room = tt
 relayed_done relay.Deactivate s room = tt
@@ -590,7 +590,7 @@ effect_told operation.Unnest o p s = own_told p _ (unnesting_done p.local s.room
 effect_told (operation.Relay which) o p s = own_told p _ (relayed_done which p.local s.room)
 effect_told operation.Load o p s = registers_told p _ (loading_told o p s.admitted s.has)
 effect_told operation.Transfer o p s =
-    scene_told p _ (transferred_told (if closed p.local then 0 else p.local.regs.a1) o p.local p.memory (written_place o takes.Transfer p.local (inl refl) s.admitted s.has))
+    scene_told p _ (transferred_told (if is_writing_off p.local then 0 else p.local.regs.a1) o p.local p.memory (written_place o takes.Transfer p.local (inl refl) s.admitted s.has))
 effect_told operation.Assign o p s =
     scene_told p _ (assigned_told o p.local p.memory (written_place o takes.Bit p.local (inr refl) s.admitted s.has))
 effect_told operation.Set o p s = set_told o p s.admitted s.has

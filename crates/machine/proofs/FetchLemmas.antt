@@ -14,12 +14,12 @@ use Rattle.flat_code.specs.declared.operands.Operand.TheVariants as operand
 use Rattle.flat_code.specs.declared.programs.Param.{Param}
 use Rattle.flat_code.specs.Instr.{Passing}
 use Rattle.machine.specs.Code.{Code, Fetched}
-use Rattle.frames.specs.Bound.{set_at}
+use Rattle.frames.specs.Bound.{binding_set}
 use Rattle.machine.specs.ExecState.{Local, then_ok}
 use Rattle.machine.specs.Bindings.{bound_params, bound_for}
-use Rattle.machine.specs.Flat.{Run, run_at, run_with, with_op, most_ops, passings_of, use_db_of, with_passing, fetched_of, statement_at, instr_of}
+use Rattle.machine.specs.Flat.{OpRun, op_run_at, run_with, with_op, most_ops, passings_of, use_db_of, with_passing, fetched_of, statement_fetched, instr_of}
 use Rattle.machine.specs.Statement.{World, step_found, step_of, IsNotStuck}
-use Rattle.machine.specs.Walking.{Walk, walk_with, bound_from, bound_by, bound_next, passings_from, passings_with, fetched_at}
+use Rattle.machine.specs.Walking.{Walk, walk_with, bound_from, binding_by, bound_next, passings_up_to, passings_with, fetched_at}
 
 -- a pass over the bindings that fails or goes on
 then_same :
@@ -37,10 +37,10 @@ then_twice (Err e) g f = refl
 -- ops that pass bind as their passings do
 passes_op :
     (params : List Param) (o : Operand) (rest : List Passing) (bindings : List Binding) (s : Local) (m : Areas)
-    → then_ok (bound_by o params bindings s m) (λ bound. bound_params params rest bound s m)
+    → then_ok (binding_by o params bindings s m) (λ bound. bound_params params rest bound s m)
     ≡ bound_params params (with_passing o rest) bindings s m
 passes_op params (operand.Pass index actual) rest bindings s m =
-    then_twice (bound_for (slice_get params index) actual s m) (λ b. set_at bindings index b)
+    then_twice (bound_for (slice_get params index) actual s m) (λ b. binding_set bindings index b)
     (λ bound. bound_params params rest bound s m)
 passes_op params operand.Nothing rest bindings s m = refl
 passes_op params (operand.Literal value) rest bindings s m = refl
@@ -70,21 +70,21 @@ none_some x h = cc
 after_op :
     (most : ℕ) (ops : List OpData) (p : OpData × ℕ) (params : List Param) (bindings : List Binding) (s : Local) (m : Areas)
     → ((bound : List Binding)
-    → bound_from most ops p.1 params bound s m ≡ bound_params params (passings_from most ops p.1) bound s m)
-    → then_ok (bound_by p.0.operand params bindings s m) (λ next. bound_from most ops p.1 params next s m)
-    ≡ bound_params params (with_passing p.0.operand (passings_from most ops p.1)) bindings s m
+    → bound_from most ops p.1 params bound s m ≡ bound_params params (passings_up_to most ops p.1) bound s m)
+    → then_ok (binding_by p.0.operand params bindings s m) (λ next. bound_from most ops p.1 params next s m)
+    ≡ bound_params params (with_passing p.0.operand (passings_up_to most ops p.1)) bindings s m
 after_op most ops p params bindings s m along =
-    then_along (bound_by p.0.operand params bindings s m) (λ next. bound_from most ops p.1 params next s m)
-    (λ next. bound_params params (passings_from most ops p.1) next s m) along
-    ∙ passes_op params p.0.operand (passings_from most ops p.1) bindings s m
+    then_along (binding_by p.0.operand params bindings s m) (λ next. bound_from most ops p.1 params next s m)
+    (λ next. bound_params params (passings_up_to most ops p.1) next s m) along
+    ∙ passes_op params p.0.operand (passings_up_to most ops p.1) bindings s m
 
 by_last :
     (most : ℕ) (ops : List OpData) (last : Bool) (p : OpData × ℕ) (params : List Param) (bindings : List Binding) (s : Local)
     (m : Areas)
     → ((bound : List Binding)
-    → bound_from most ops p.1 params bound s m ≡ bound_params params (passings_from most ops p.1) bound s m)
-    → (if last then Ok bindings else then_ok (bound_by p.0.operand params bindings s m) (λ next. bound_from most ops p.1 params next s m))
-    ≡ bound_params params (if last then [] else with_passing p.0.operand (passings_from most ops p.1)) bindings s m
+    → bound_from most ops p.1 params bound s m ≡ bound_params params (passings_up_to most ops p.1) bound s m)
+    → (if last then Ok bindings else then_ok (binding_by p.0.operand params bindings s m) (λ next. bound_from most ops p.1 params next s m))
+    ≡ bound_params params (if last then [] else with_passing p.0.operand (passings_up_to most ops p.1)) bindings s m
 by_last most ops true p params bindings s m along = refl
 by_last most ops false p params bindings s m along = after_op most ops p params bindings s m along
 
@@ -92,17 +92,17 @@ at_op :
     (most : ℕ) (ops : List OpData) (p : Option (OpData × ℕ)) (params : List Param) (bindings : List Binding) (s : Local)
     (m : Areas)
     → ((at : ℕ) (bound : List Binding)
-    → bound_from most ops at params bound s m ≡ bound_params params (passings_from most ops at) bound s m)
+    → bound_from most ops at params bound s m ≡ bound_params params (passings_up_to most ops at) bound s m)
     → bound_next p params bindings s m (λ next bound. bound_from most ops next params bound s m)
-    ≡ bound_params params (passings_with p (λ next. passings_from most ops next)) bindings s m
+    ≡ bound_params params (passings_with p (λ next. passings_up_to most ops next)) bindings s m
 at_op most ops None params bindings s m along = refl
 at_op most ops (Some p) params bindings s m along =
     by_last most ops p.0.last p params bindings s m (λ bound. along p.1 bound)
 
 pub binds_along :
     (most : ℕ) (ops : List OpData) (at : ℕ) (params : List Param) (bindings : List Binding) (s : Local) (m : Areas)
-    → bound_from most ops at params bindings s m ≡ bound_params params (passings_from most ops at) bindings s m
-unfolding bound_from passings_from
+    → bound_from most ops at params bindings s m ≡ bound_params params (passings_up_to most ops at) bindings s m
+unfolding bound_from passings_up_to
 binds_along zero ops at params bindings s m = refl
 binds_along (suc most) ops at params bindings s m =
     at_op most ops (op_placed 0 ops at) params bindings s m
@@ -110,42 +110,42 @@ binds_along (suc most) ops at params bindings s m =
 
 -- and they are those of its run
 with_op_passes :
-    (most : ℕ) (ops : List OpData) (p : OpData × ℕ) (inner : Option Run) (r : Run)
-    → ((q : Run) → inner ≡ Some q → passings_of q.before ≡ passings_from most ops p.1)
+    (most : ℕ) (ops : List OpData) (p : OpData × ℕ) (inner : Option OpRun) (r : OpRun)
+    → ((q : OpRun) → inner ≡ Some q → passings_of q.before ≡ passings_up_to most ops p.1)
     → option_map (with_op p.0) inner ≡ Some r
-    → passings_of r.before ≡ with_passing p.0.operand (passings_from most ops p.1)
+    → passings_of r.before ≡ with_passing p.0.operand (passings_up_to most ops p.1)
 with_op_passes most ops p None r along h = cc
 with_op_passes most ops p (Some q) r along h =
     rw (sym (same_Some (with_op p.0 q) r h)) (ap (λ (z : List Passing). with_passing p.0.operand z) (along q refl))
 
 last_passes :
-    (most : ℕ) (ops : List OpData) (last : Bool) (p : OpData × ℕ) (r : Run)
-    → ((q : Run) → run_at most ops p.1 ≡ Some q → passings_of q.before ≡ passings_from most ops p.1)
-    → (if last then Some (record { before = []; last = p.0; next = p.1 }) else option_map (with_op p.0) (run_at most ops p.1)) ≡ Some r
-    → passings_of r.before ≡ (if last then [] else with_passing p.0.operand (passings_from most ops p.1))
+    (most : ℕ) (ops : List OpData) (last : Bool) (p : OpData × ℕ) (r : OpRun)
+    → ((q : OpRun) → op_run_at most ops p.1 ≡ Some q → passings_of q.before ≡ passings_up_to most ops p.1)
+    → (if last then Some (record { before = []; last = p.0; next = p.1 }) else option_map (with_op p.0) (op_run_at most ops p.1)) ≡ Some r
+    → passings_of r.before ≡ (if last then [] else with_passing p.0.operand (passings_up_to most ops p.1))
 last_passes most ops true p r along h =
     rw (sym (same_Some (record { before = []; last = p.0; next = p.1 }) r h)) refl
-last_passes most ops false p r along h = with_op_passes most ops p (run_at most ops p.1) r along h
+last_passes most ops false p r along h = with_op_passes most ops p (op_run_at most ops p.1) r along h
 
 placed_passes :
-    (most : ℕ) (ops : List OpData) (p : Option (OpData × ℕ)) (r : Run)
-    → ((at : ℕ) (q : Run) → run_at most ops at ≡ Some q → passings_of q.before ≡ passings_from most ops at)
-    → run_with p (λ next. run_at most ops next) ≡ Some r
-    → passings_of r.before ≡ passings_with p (λ next. passings_from most ops next)
+    (most : ℕ) (ops : List OpData) (p : Option (OpData × ℕ)) (r : OpRun)
+    → ((at : ℕ) (q : OpRun) → op_run_at most ops at ≡ Some q → passings_of q.before ≡ passings_up_to most ops at)
+    → run_with p (λ next. op_run_at most ops next) ≡ Some r
+    → passings_of r.before ≡ passings_with p (λ next. passings_up_to most ops next)
 placed_passes most ops None r along h = cc
 placed_passes most ops (Some p) r along h = last_passes most ops p.0.last p r (λ q is. along p.1 q is) h
 
 run_passes :
-    (most : ℕ) (ops : List OpData) (at : ℕ) (r : Run) → run_at most ops at ≡ Some r
-    → passings_of r.before ≡ passings_from most ops at
-unfolding run_at passings_from
+    (most : ℕ) (ops : List OpData) (at : ℕ) (r : OpRun) → op_run_at most ops at ≡ Some r
+    → passings_of r.before ≡ passings_up_to most ops at
+unfolding op_run_at passings_up_to
 run_passes zero ops at r h = cc
 run_passes (suc most) ops at r h =
     placed_passes most ops (op_placed 0 ops at) r (λ next q is. run_passes most ops next q is) h
 
 -- what was found along the ops is the statement at the offset
 with_line :
-    (b : CodeBlock) (at : ℕ) (line : Option ℕ) (found : Option Run) (walk : Walk) → run_at most_ops b.code at ≡ found
+    (b : CodeBlock) (at : ℕ) (line : Option ℕ) (found : Option OpRun) (walk : Walk) → op_run_at most_ops b.code at ≡ found
     → line_placed 0 true b.code b.lines at ≡ line → is_some line ≡ true → Some walk ≡ option_map (walk_with None) found
     → option_and_then (λ line. option_map (fetched_of b.code line) found) line ≡ Some (fetched_at b at walk)
 with_line b at None found walk is placed there h = cc
@@ -160,47 +160,47 @@ with_line b at (Some line) (Some r) walk is placed there h =
 
 pub found_at :
     (b : CodeBlock) (at : ℕ) (walk there : Walk) → there ≡ walk → is_some (line_placed 0 true b.code b.lines at) ≡ true
-    → Some walk ≡ option_map (walk_with None) (run_at most_ops b.code at)
-    → statement_at b at ≡ Some (fetched_at b at there)
-unfolding statement_at
+    → Some walk ≡ option_map (walk_with None) (op_run_at most_ops b.code at)
+    → statement_fetched b at ≡ Some (fetched_at b at there)
+unfolding statement_fetched
 found_at b at walk there same line h =
     rw same
-    (with_line b at (line_placed 0 true b.code b.lines at) (run_at most_ops b.code at) walk refl refl line h)
+    (with_line b at (line_placed 0 true b.code b.lines at) (op_run_at most_ops b.code at) walk refl refl line h)
 
 -- where a statement is, so are its line and its run
 has_line :
-    (line : Option ℕ) (found : Option Run) (ops : List OpData)
+    (line : Option ℕ) (found : Option OpRun) (ops : List OpData)
     → is_some (option_and_then (λ line. option_map (fetched_of ops line) found) line) ≡ true → is_some line ≡ true
 has_line None found ops h = h
 has_line (Some line) found ops h = refl
 
 has_run :
-    (line : Option ℕ) (found : Option Run) (ops : List OpData)
+    (line : Option ℕ) (found : Option OpRun) (ops : List OpData)
     → is_some (option_and_then (λ line. option_map (fetched_of ops line) found) line) ≡ true → is_some found ≡ true
 has_run None found ops h = cc
 has_run (Some line) None ops h = h
 has_run (Some line) (Some r) ops h = refl
 
-no_walk : (found : Option Run) → None ≡ option_map (walk_with None) found → is_some found ≡ true → ⊥
+no_walk : (found : Option OpRun) → None ≡ option_map (walk_with None) found → is_some found ≡ true → ⊥
 no_walk None h some = cc
 no_walk (Some r) h some = none_some (walk_with None r) (sym h)
 
 pub found_there :
-    (b : CodeBlock) (at : ℕ) (walk there : Walk) → there ≡ walk → is_some (statement_at b at) ≡ true
-    → Some walk ≡ option_map (walk_with None) (run_at most_ops b.code at)
-    → statement_at b at ≡ Some (fetched_at b at there)
-unfolding statement_at
+    (b : CodeBlock) (at : ℕ) (walk there : Walk) → there ≡ walk → is_some (statement_fetched b at) ≡ true
+    → Some walk ≡ option_map (walk_with None) (op_run_at most_ops b.code at)
+    → statement_fetched b at ≡ Some (fetched_at b at there)
+unfolding statement_fetched
 found_there b at walk there same is h =
     found_at b at walk there same
-    (has_line (line_placed 0 true b.code b.lines at) (run_at most_ops b.code at) b.code is) h
+    (has_line (line_placed 0 true b.code b.lines at) (op_run_at most_ops b.code at) b.code is) h
 
 pub found_nowhere :
-    (b : CodeBlock) (at : ℕ) → None ≡ option_map (walk_with None) (run_at most_ops b.code at)
-    → is_some (statement_at b at) ≡ true → ⊥
-unfolding statement_at
+    (b : CodeBlock) (at : ℕ) → None ≡ option_map (walk_with None) (op_run_at most_ops b.code at)
+    → is_some (statement_fetched b at) ≡ true → ⊥
+unfolding statement_fetched
 found_nowhere b at h there =
-    no_walk (run_at most_ops b.code at) h
-    (has_run (line_placed 0 true b.code b.lines at) (run_at most_ops b.code at) b.code there)
+    no_walk (op_run_at most_ops b.code at) h
+    (has_run (line_placed 0 true b.code b.lines at) (op_run_at most_ops b.code at) b.code there)
 
 -- a statement that isn't stuck is there
 pub goes_there : (c : Code) (f : Option Fetched) (a : Activation) (w : World) → IsNotStuck (step_found c f a w) → is_some f ≡ true
@@ -210,32 +210,32 @@ goes_there c (Some f) a w there = refl
 -- and comes to what its instruction comes to
 pub found_is :
     (b : CodeBlock) (at : ℕ) (walk there : Walk) (c : Code) (a : Activation) (w : World) → there ≡ walk
-    → Some walk ≡ option_map (walk_with None) (run_at most_ops b.code at) → IsNotStuck (step_found c (statement_at b at) a w)
-    → step_found c (statement_at b at) a w ≡ step_of c (fetched_at b at there).instr (fetched_at b at there).next a w
+    → Some walk ≡ option_map (walk_with None) (op_run_at most_ops b.code at) → IsNotStuck (step_found c (statement_fetched b at) a w)
+    → step_found c (statement_fetched b at) a w ≡ step_of c (fetched_at b at there).instr (fetched_at b at there).next a w
 found_is b at walk there c a w same h goes =
     ap (λ (f : Option Fetched). step_found c f a w)
-    (found_there b at walk there same (goes_there c (statement_at b at) a w goes) h)
+    (found_there b at walk there same (goes_there c (statement_fetched b at) a w goes) h)
 
 -- where no line or no run begins, none is
 by_line :
-    (line : Option ℕ) (found : Option Run) (ops : List OpData) → is_some line ≡ false
+    (line : Option ℕ) (found : Option OpRun) (ops : List OpData) → is_some line ≡ false
     → option_and_then (λ line. option_map (fetched_of ops line) found) line ≡ None
 by_line None found ops h = refl
 by_line (Some line) found ops h = cc
 
 pub no_line :
-    (b : CodeBlock) (at : ℕ) → is_some (line_placed 0 true b.code b.lines at) ≡ false → statement_at b at ≡ None
-unfolding statement_at
-no_line b at h = by_line (line_placed 0 true b.code b.lines at) (run_at most_ops b.code at) b.code h
+    (b : CodeBlock) (at : ℕ) → is_some (line_placed 0 true b.code b.lines at) ≡ false → statement_fetched b at ≡ None
+unfolding statement_fetched
+no_line b at h = by_line (line_placed 0 true b.code b.lines at) (op_run_at most_ops b.code at) b.code h
 
 by_run :
-    (line : Option ℕ) (found : Option Run) (ops : List OpData) → None ≡ option_map (walk_with None) found
+    (line : Option ℕ) (found : Option OpRun) (ops : List OpData) → None ≡ option_map (walk_with None) found
     → option_and_then (λ line. option_map (fetched_of ops line) found) line ≡ None
 by_run None found ops h = refl
 by_run (Some line) None ops h = refl
 by_run (Some line) (Some r) ops h = absurd (none_some (walk_with None r) (sym h))
 
 pub no_run :
-    (b : CodeBlock) (at : ℕ) → None ≡ option_map (walk_with None) (run_at most_ops b.code at) → statement_at b at ≡ None
-unfolding statement_at
-no_run b at h = by_run (line_placed 0 true b.code b.lines at) (run_at most_ops b.code at) b.code h
+    (b : CodeBlock) (at : ℕ) → None ≡ option_map (walk_with None) (op_run_at most_ops b.code at) → statement_fetched b at ≡ None
+unfolding statement_fetched
+no_run b at h = by_run (line_placed 0 true b.code b.lines at) (op_run_at most_ops b.code at) b.code h

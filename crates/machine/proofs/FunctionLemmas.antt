@@ -4,14 +4,14 @@ use Rattle.std.specs.Option.{option_map}
 use Rattle.flat_code.specs.declared.image_fields.ParameterRecord.{ParameterRecord}
 use Rattle.flat_code.specs.declared.programs.Param.{Param}
 use Rattle.flat_code.specs.Blocks.{system_params}
-use Rattle.flat_code.specs.Image.{param_of}
+use Rattle.flat_code.specs.Image.{param_of_record}
 use Rattle.machine.specs.SystemCalls.{count_inputs, system_function}
 
 abbrev AreFew : List Param → Type 0
 AreFew params = count_inputs params ≤ 3
 
 abbrev RecordsAreFew : Option (List ParameterRecord) → Type 0
-RecordsAreFew records = IfSome (option_map (map param_of) records) AreFew
+RecordsAreFew records = IfSome (option_map (map param_of_record) records) AreFew
 
 either : (t : Bool) (x y : Option (List ParameterRecord)) → RecordsAreFew x → RecordsAreFew y → RecordsAreFew (if t then x else y)
 either true x y a b = a

@@ -6,14 +6,14 @@ use Rattle.plc_base.specs.declared.BlockId.{BlockId}
 use Rattle.frames.specs.declared.Activation.{Activation}
 use Rattle.flat_code.specs.Instr.{Instr, Does, Jumps, JumpsByList, Calls, Returns, Passing}
 use Rattle.flat_code.specs.declared.programs.Param.{Param}
-use Rattle.machine.specs.Code.{Code, Fetched, Head}
+use Rattle.machine.specs.Code.{Code, Fetched, BlockHead}
 use Rattle.machine.specs.ExecState.{ExecState, local_of, exec_state_of}
 use Rattle.machine.specs.Effect.{effect_with}
 use Rattle.machine.specs.Entering.{Call, Fails, Stops, Enters, call}
-use Rattle.machine.specs.Returning.{Return, GoesOn, Ends, returning}
+use Rattle.machine.specs.Returning.{Return, GoesOn, Ends, block_return}
 use Rattle.machine.specs.SystemCalls.{Given, system_call, system_function}
-use Rattle.machine.specs.Statement.{World, Step, continue_with, after_call, after_system_call, after_return, block_called, system_called, called, is_called, is_ended, returned, callee_of, step_of, step_found, IsNotStuck}
-use Rattle.machine.specs.Flat.{is_jl, jump_instr, list_of, most_listed}
+use Rattle.machine.specs.Statement.{World, Step, continue_with, call_step, after_system_call, after_return, block_called, system_call_made, call_made, is_call_made, is_ended, return_made, called_block, step_of, step_found, IsNotStuck}
+use Rattle.machine.specs.Flat.{is_jl, jump_by_operation, list_of, most_listed}
 use Rattle.machine.specs.There.{is_there, is_complete}
 use Rattle.flat_code.specs.Ops.{OpData}
 use Rattle.flat_code.specs.declared.kinds.JumpOperation.{JumpOperation}
@@ -22,7 +22,7 @@ parts_go : (e : Result ExecState ℕ) (next : ℕ) (a : Activation) → IsNotStu
 parts_go (Ok p) next a = tt
 parts_go (Err code) next a = tt
 
-call_goes : (c : Call) (next : ℕ) (a : Activation) (w : World) → IsNotStuck (after_call c next a w)
+call_goes : (c : Call) (next : ℕ) (a : Activation) (w : World) → IsNotStuck (call_step c next a w)
 call_goes (Fails code) next a w = tt
 call_goes (Stops fault) next a w = tt
 call_goes (Enters to m) next a w = tt
@@ -36,21 +36,21 @@ return_goes (GoesOn a m) w = tt
 return_goes (Ends regs m) w = tt
 
 block_goes :
-    (h : Option Head) (block : BlockId) (instance : Option ℕ) (passings : List Passing) (next : ℕ) (a : Activation) (w : World)
+    (h : Option BlockHead) (block : BlockId) (instance : Option ℕ) (passings : List Passing) (next : ℕ) (a : Activation) (w : World)
     → is_some h ≡ true → IsNotStuck (block_called h block instance passings next a w)
 block_goes (Some h) block instance passings next a w there =
-    call_goes (call (callee_of block instance h) passings next a w.memory) next a w
+    call_goes (call (called_block block instance h) passings next a w.memory) next a w
 block_goes None block instance passings next a w there = absurd (false≢true there)
 
 function_goes :
     (params : Option (List Param)) (number : ℕ) (passings : List Passing) (next : ℕ) (a : Activation) (w : World)
-    → is_some params ≡ true → IsNotStuck (system_called params number passings next a w)
+    → is_some params ≡ true → IsNotStuck (system_call_made params number passings next a w)
 function_goes (Some params) number passings next a w there =
     system_goes (system_call params passings (local_of a.running) w.memory) number next a
 function_goes None number passings next a w there = absurd (false≢true there)
 
-returned_goes : (h : Option Head) (a : Activation) (w : World) → is_some h ≡ true → IsNotStuck (returned h a w)
-returned_goes (Some h) a w there = return_goes (returning h.params a w.memory) w
+returned_goes : (h : Option BlockHead) (a : Activation) (w : World) → is_some h ≡ true → IsNotStuck (return_made h a w)
+returned_goes (Some h) a w there = return_goes (block_return h.params a w.memory) w
 returned_goes None a w there = absurd (false≢true there)
 
 either_goes : (b : Bool) (x y : Step) → (b ≡ true → IsNotStuck x) → (b ≡ false → IsNotStuck y) → IsNotStuck (if b then x else y)
@@ -61,7 +61,7 @@ called_goes :
     (c : Code) (block : BlockId) (instance : Option ℕ) (passings : List Passing) (next : ℕ) (a : Activation) (w : World)
     (system : Bool) → system ≡ is_system_function block.kind
     → (if system then is_some (system_function block.number) else is_some (c.head block)) ≡ true
-    → IsNotStuck (called c block instance passings next a w)
+    → IsNotStuck (call_made c block instance passings next a w)
 called_goes c block instance passings next a w true is there =
     rw (sym is) (function_goes (system_function block.number) block.number passings next a w there)
 called_goes c block instance passings next a w false is there =
@@ -75,7 +75,7 @@ performed_goes c (Does use_db operation operand) next a w there =
 performed_goes c (Jumps operation target) next a w there = tt
 performed_goes c (JumpsByList targets otherwise) next a w there = tt
 performed_goes c (Calls how block instance passings) next a w there =
-    either_goes (is_called how a.running.regs.status.rlo) _ _
+    either_goes (is_call_made how a.running.regs.status.rlo) _ _
     (λ h. called_goes c block instance passings next a w (is_system_function block.kind) refl there) (λ h. tt)
 performed_goes c (Returns how) next a w there =
     either_goes (is_ended how a.running.regs.status.rlo) _ _
@@ -95,6 +95,6 @@ either_jump false c own operation list target = refl
 
 pub jump_is_there :
     (c : Code) (own : BlockId) (operation : JumpOperation) (target next : ℕ) (ops : List OpData)
-    → is_there c (jump_instr operation target next ops) own ≡ true
+    → is_there c (jump_by_operation operation target next ops) own ≡ true
 jump_is_there c own operation target next ops =
     either_jump (is_jl operation) c own operation (list_of most_listed ops target next) target

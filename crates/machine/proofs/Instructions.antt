@@ -9,7 +9,7 @@ use Rattle.plc_base.specs.declared.BlockId.{BlockId}
 use Rattle.plc_base.specs.declared.blocks.BlockKind.{BlockKind}
 use Rattle.plc_base.specs.declared.blocks.BlockKind.TheVariants as kinds
 use Rattle.plc_mem.specs.Areas.{Areas}
-use Rattle.status_word.specs.Brackets.{entry_of, begun}
+use Rattle.status_word.specs.Brackets.{entry_of, bracket_begun}
 use Rattle.status_word.specs.declared.Bracket.{Bracket}
 use Rattle.plc_base.specs.declared.Check.{Check}
 use Rattle.frames.specs.declared.Activation.{Activation}
@@ -34,38 +34,38 @@ use Rattle.flat_code.specs.declared.table.Takes.TheVariants as takes
 use Rattle.flat_code.specs.declared.operations.TheConstants.{OPERATIONS}
 use Rattle.flat_code.specs.declared.operations.Operation.{Operation}
 use Rattle.flat_code.specs.declared.operations.Operation.TheVariants as operation
-use Rattle.flat_code.specs.Blocks.{Callee, callee, system_params, are_passed, is_bad_instance, is_short, data_len, leads, is_ju, is_in_db, prepares, writes}
+use Rattle.flat_code.specs.Blocks.{CalleeSeen, callee, system_params, are_passed, is_bad_instance, is_short, length_of_data, leads, is_ju_operand, is_in_db, prepares, writes_operand}
 use Rattle.flat_code.specs.Codes.{size}
 use Rattle.flat_code.specs.Instr.{Instr, Does, Jumps, JumpsByList, Calls, Returns}
-use Rattle.flat_code.specs.Kinds.{jump_of}
+use Rattle.flat_code.specs.Kinds.{jump_of_number}
 use Rattle.flat_code.specs.Loading.{Verifies, lens_of}
 use Rattle.flat_code.specs.declared.image_fields.ParameterRecord.{ParameterRecord}
 use Rattle.flat_code.specs.Forms.{kind_of_code, payload_fits}
-use Rattle.flat_code.specs.Image.{param_of, record_of_param}
+use Rattle.flat_code.specs.Image.{param_of_record, record_of_param}
 use Rattle.flat_code.specs.Ops.{OpData, is_op}
-use Rattle.flat_code.specs.OpCodes.{code_of as op_code}
-use Rattle.flat_code.specs.Placed.{op_placed, bracket_codes, most_zones, last_op, is_empty as nothing}
+use Rattle.flat_code.specs.OpCodes.{op_code_of as op_code}
+use Rattle.flat_code.specs.Placed.{op_placed, bracket_codes, most_zones, last_op, is_empty_list as nothing}
 use Rattle.flat_code.specs.Programs.{CodeBlock, Program}
 use Rattle.flat_code.specs.Records.{section_in}
-use Rattle.flat_code.specs.Table.{admits, is_jump, takes_of, takes_of_operation}
+use Rattle.flat_code.specs.Table.{admits, is_jump_form, takes_of, takes_of_operation}
 use Rattle.flat_code.specs.Operations.{operation_of}
-use Rattle.image_file.specs.Readers.{same_id, block_of}
-use Rattle.image_file.specs.Verified.{FitsCall, FitsOperand, FitsPrepared, signatures}
-use Rattle.machine.specs.DataBlocks.{is_loaded}
+use Rattle.image_file.specs.Readers.{is_same_id, block_by_id}
+use Rattle.image_file.specs.Verified.{FitsCall, FitsOperand, FitsPrepared, block_signatures}
+use Rattle.machine.specs.DataBlocks.{is_block_loaded}
 use Rattle.machine.specs.Effect.{on_local, effect, with_db, effect_with}
 use Rattle.machine.specs.Entering.{going_on}
 use Rattle.machine.specs.Fitting.{HasInstance, IsBound, IsMemoryOf, OpenAt, codes_of}
-use Rattle.machine.specs.Flat.{call_instr, code_of, head_of, instance_named, instr_of, is_jl, jump_instr, list_of, listed_with, most_listed, passings_of, use_db_of, use_db_first}
-use Rattle.machine.specs.Jumps.{after_jump, goes_to, is_taken, listed, rlo_tested}
+use Rattle.machine.specs.Flat.{call_by_number, code_of, block_head_of, instance_named, instr_of, is_jl, jump_by_operation, list_of, listed_with, most_listed, passings_of, use_db_of, use_db_first}
+use Rattle.machine.specs.Jumps.{regs_after_jump, jump_goal, is_jump_taken, list_goal, rlo_tested}
 use Rattle.machine.specs.ImageLaws.{ImageLaws}
 use Rattle.machine.specs.Lasting.{FitsProgram, Lasts}
-use Rattle.machine.specs.Nesting.{with_brackets, nesting, unnesting, unnested}
+use Rattle.machine.specs.Nesting.{with_open_brackets, nesting, unnesting, bracket_closed}
 use Rattle.machine.specs.OpenBrackets.{check_named, checks_of, open_at, open_codes}
 use Rattle.machine.specs.Relay.{opening_zone, ending_zone}
 use Rattle.machine.specs.ExecState.{Local, ExecState, local_of, exec_state_of, with_local}
 use Rattle.machine.specs.Places.{no_operand}
 use Rattle.machine.specs.SystemCalls.{system_function}
-use Rattle.machine.specs.Statement.{World, Went, statement, step_of, continue_with, jumped, is_ended, is_called, not_called, called, returned, with_exec_state}
+use Rattle.machine.specs.Statement.{World, Went, statement, step_of, continue_with, jump_step, is_ended, is_call_made, not_called, call_made, return_made, with_exec_state}
 use Rattle.machine.proofs.BindingLemmas.{PassingsFit, bound_of}
 use Rattle.machine.proofs.Called.{Caller, own_bound, function_lasts, function_block_lasts, going_fits, head_there}
 use Rattle.machine.proofs.Entered.{AreParams, of_blocks, of_functions, passings_fit, all_among, instance_long}
@@ -164,15 +164,15 @@ does_lasts l p a w at v (Err code) is goes kept erring =
 jump_lasts :
     (l : ImageLaws) (p : Program) (a : Activation) (w : World) (at : At p a w) (how : JumpOperation) (kind target : ℕ)
     → operation_of at.here.run.last.code ≡ operation.Jump → at.here.run.last.operand ≡ operand.Jump kind target
-    → Lasts p w (jumped how target at.here.run.next a w)
-jump_lasts l p a w at how kind target is operand_is = record { sizes = same_sizes w.memory; fits = by (is_taken how a.running.regs) }
+    → Lasts p w (jump_step how target at.here.run.next a w)
+jump_lasts l p a w at how kind target is operand_is = record { sizes = same_sizes w.memory; fits = by (is_jump_taken how a.running.regs) }
   where
-    by : (taken : Bool) → FitsProgram p w.memory (going_on (goes_to taken target at.here.run.next) (after_jump how a.running.regs) a)
+    by : (taken : Bool) → FitsProgram p w.memory (going_on (jump_goal taken target at.here.run.next) (regs_after_jump how a.running.regs) a)
     by true =
-        going_fits l p w.memory a target (after_jump how a.running.regs) at.fits
+        going_fits l p w.memory a target (regs_after_jump how a.running.regs) at.fits
         (target_stood l p a.running.frame.block a.running.frame.at (frame_open a.running.frame) at.here kind target operand_is)
     by false =
-        going_fits l p w.memory a at.here.run.next (after_jump how a.running.regs) at.fits
+        going_fits l p w.memory a at.here.run.next (regs_after_jump how a.running.regs) at.fits
         (next_same l p a w at operation.Jump is refl (λ held. refl))
 
 -- ---- JL
@@ -196,8 +196,8 @@ jl_at from (j ∷ js) (suc i) all is =
     let e = jl_at (from + 1) js i (and_parts (not (is_jl j) || eqb from 1) (only_one (from + 1) js) all).1 is in
     omega (arith, e)
 
-jl_kind : (kind : ℕ) → is_jl (jump_of kind) ≡ true → kind ≡ 1
-unfolding jump_of
+jl_kind : (kind : ℕ) → is_jl (jump_of_number kind) ≡ true → kind ≡ 1
+unfolding jump_of_number
 jl_kind kind is = let e = jl_at 0 JUMPS kind jumps_told is in omega (arith, e)
 
 -- each target of a list is a statement with this open before it
@@ -213,19 +213,19 @@ picked_stood p block held (at ∷ rest) zero otherwise all other = all.0
 picked_stood p block held (at ∷ rest) (suc i) otherwise all other = picked_stood p block held rest i otherwise all.1 other
 
 -- what takes a jump opens and closes nothing, and prepares nothing
-jump_quiet : (v : Operation) → is_jump (takes_of_operation v) ≡ true → Quiet v
+jump_quiet : (v : Operation) → is_jump_form (takes_of_operation v) ≡ true → Quiet v
 jump_quiet (operation.Nest with) h held = absurd cc
 jump_quiet operation.Unnest h held = absurd cc
 jump_quiet (operation.Relay which) h held = absurd cc
 jump_quiet _ h held = refl
 
-takes_jump : (code kind target : ℕ) → is_op code (operand.Jump kind target) ≡ true → is_jump (takes_of_operation (operation_of code)) ≡ true
+takes_jump : (code kind target : ℕ) → is_op code (operand.Jump kind target) ≡ true → is_jump_form (takes_of_operation (operation_of code)) ≡ true
 unfolding is_op admits takes_of
 takes_jump code kind target right =
-    let taken = and_parts (ltb code 128 && is_jump (takes_of_operation (operation_of code))) (payload_fits (operand.Jump kind target)) right in
-    (and_parts (ltb code 128) (is_jump (takes_of_operation (operation_of code))) taken.0).1
+    let taken = and_parts (ltb code 128 && is_jump_form (takes_of_operation (operation_of code))) (payload_fits (operand.Jump kind target)) right in
+    (and_parts (ltb code 128) (is_jump_form (takes_of_operation (operation_of code))) taken.0).1
 
-jump_ends : (code : ℕ) (last : Bool) → is_jump (takes_of_operation (operation_of code)) ≡ true → last ≡ not (prepares code) → last ≡ true
+jump_ends : (code : ℕ) (last : Bool) → is_jump_form (takes_of_operation (operation_of code)) ≡ true → last ≡ not (prepares code) → last ≡ true
 unfolding operation_of
 jump_ends code last h ended = by (prepares code) refl ended
   where
@@ -237,7 +237,7 @@ jump_ends code last h ended = by (prepares code) refl ended
     by true e is = absurd (none (two_or_four code e))
     by false e is = is
 
-ju_is : (o : Operand) → is_ju o ≡ true → (target : ℕ) × (o ≡ operand.Jump 0 target)
+ju_is : (o : Operand) → is_ju_operand o ≡ true → (target : ℕ) × (o ≡ operand.Jump 0 target)
 ju_is (operand.Jump zero target) h = (target, refl)
 ju_is _ h = absurd cc
 
@@ -297,12 +297,12 @@ list_stood l p block b held target (suc most) at [] leading s = by (eqb at targe
 list_stood l p block b held target (suc most) at (op ∷ ops) leading s =
     by (eqb at target) leading (λ rest leads_on. list_stood l p block b held target most (at + size op) ops leads_on rest)
   where
-    by : (t : Bool) → (t || (is_ju op.operand && leads most target (at + size op) ops)) ≡ true
+    by : (t : Bool) → (t || (is_ju_operand op.operand && leads most target (at + size op) ops)) ≡ true
         → (AtRest p block b held (at + size op) ops → leads most target (at + size op) ops ≡ true → AllStood p block held (list_of most b.code target (at + size op)))
         → AllStood p block held (cond t [] (listed_with (op_placed 0 b.code at) at (λ next. list_of most b.code target next)))
     by true e more = tt
     by false e more =
-        let parts = and_parts (is_ju op.operand) (leads most target (at + size op) ops) e in
+        let parts = and_parts (is_ju_operand op.operand) (leads most target (at + size op) ops) e in
         let ju = ju_is op.operand parts.0 in
         rw (op_listed p block b at held s.0 op s.1 s.2)
         (s.0, more (behind_jump l p block b at held s.0 0 ju.0 op ops s.1 s.2 s.3 ju.1) parts.1)
@@ -311,7 +311,7 @@ jump_list_lasts :
     (l : ImageLaws) (p : Program) (a : Activation) (w : World) (at : At p a w) (target : ℕ)
     → operation_of at.here.run.last.code ≡ operation.Jump → at.here.run.last.operand ≡ operand.Jump 1 target
     → Lasts p w (step_of (code_of p) (JumpsByList (list_of most_listed at.here.stood.b.code target at.here.run.next) target) at.here.run.next a w)
-unfolding listed
+unfolding list_goal
 jump_list_lasts l p a w at target is operand_is =
     let f = a.running.frame in
     let held = frame_open f in
@@ -361,7 +361,7 @@ end_lasts :
 end_lasts l p a w at how is = by (is_ended how a.running.regs.status.rlo) refl
   where
     by : (t : Bool) → is_ended how a.running.regs.status.rlo ≡ t
-        → Lasts p w (cond t (returned ((code_of p).head a.running.frame.block) a w) (Went (going_on at.here.run.next (rlo_tested a.running.regs) a) w))
+        → Lasts p w (cond t (return_made ((code_of p).head a.running.frame.block) a w) (Went (going_on at.here.run.next (rlo_tested a.running.regs) a) w))
     by true e = returned_lasts p a w at.fits
     by false e = record {
       sizes = same_sizes w.memory;
@@ -409,11 +409,11 @@ kinds_same kinds.Udt kinds.Fb e = absurd (omega (arith, e))
 kinds_same kinds.Udt kinds.Db e = absurd (omega (arith, e))
 kinds_same kinds.Udt kinds.Sfc e = absurd (omega (arith, e))
 
-pub kind_found : (bs : List CodeBlock) (id : BlockId) (b : CodeBlock) → block_of id bs ≡ Some b → b.id.kind ≡ id.kind
+pub kind_found : (bs : List CodeBlock) (id : BlockId) (b : CodeBlock) → block_by_id id bs ≡ Some b → b.id.kind ≡ id.kind
 kind_found [] id b found = absurd cc
-kind_found (c ∷ bs) id b found = by (same_id c.id id) refl found (λ e. kind_found bs id b e)
+kind_found (c ∷ bs) id b found = by (is_same_id c.id id) refl found (λ e. kind_found bs id b e)
   where
-    by : (t : Bool) → same_id c.id id ≡ t → cond t (Some c) (block_of id bs) ≡ Some b → (block_of id bs ≡ Some b → b.id.kind ≡ id.kind) → b.id.kind ≡ id.kind
+    by : (t : Bool) → is_same_id c.id id ≡ t → cond t (Some c) (block_by_id id bs) ≡ Some b → (block_by_id id bs ≡ Some b → b.id.kind ≡ id.kind) → b.id.kind ≡ id.kind
     by true same e more =
         let parts = and_parts (eqb (kind_order c.id.kind) (kind_order id.kind)) (eqb c.id.number id.number) same in
         ap (λ (z : CodeBlock). z.id.kind) (sym (same_Some c b e)) ∙ kinds_same c.id.kind id.kind (eqb-true (kind_order c.id.kind) (kind_order id.kind) parts.0)
@@ -465,7 +465,7 @@ behind_call l p a w at how is = record {
   stood = next_same l p a w at (operation.Call how) is refl (λ held. refl);
 }
 
-no_instance : (lens : List (ℕ × ℕ)) (called : Callee) (instance : ℕ) → (called.0 ≡ 3 → ⊥) → is_bad_instance lens called instance ≡ false → instance_named instance ≡ None
+no_instance : (lens : List (ℕ × ℕ)) (called : CalleeSeen) (instance : ℕ) → (called.0 ≡ 3 → ⊥) → is_bad_instance lens called instance ≡ false → instance_named instance ≡ None
 no_instance lens called instance other h =
     let e : eqb called.0 3 ≡ false = ne_eqb called.0 3 other in
     by (eqb instance 0) (rw e at h)
@@ -475,30 +475,30 @@ no_instance lens called instance other h =
     by false e = absurd cc
 
 has_instance :
-    (p : Program) (m : Areas) (b : CodeBlock) (called : Callee) (instance : ℕ) → called ≡ (3, b.instance_len, map record_of_param b.params)
+    (p : Program) (m : Areas) (b : CodeBlock) (called : CalleeSeen) (instance : ℕ) → called ≡ (3, b.instance_len, map record_of_param b.params)
     → IsMemoryOf (code_of p) m → is_bad_instance (lens_of p.data_blocks) called instance ≡ false
-    → HasInstance kinds.Fb (head_of b) m (instance_named instance)
+    → HasInstance kinds.Fb (block_head_of b) m (instance_named instance)
 has_instance p m b called instance is memory h = by (eqb instance 0) (rw is at h)
   where
     no_params : (ps : List Param) → not (nothing (map record_of_param ps)) ≡ false → ps ≡ []
     no_params [] e = refl
     no_params (q ∷ ps) e = absurd cc
 
-    by : (t : Bool) → cond t (not (nothing (map record_of_param b.params))) (is_short b.instance_len (data_len instance (lens_of p.data_blocks))) ≡ false
-        → HasInstance kinds.Fb (head_of b) m (cond t None (Some instance))
+    by : (t : Bool) → cond t (not (nothing (map record_of_param b.params))) (is_short b.instance_len (length_of_data instance (lens_of p.data_blocks))) ≡ false
+        → HasInstance kinds.Fb (block_head_of b) m (cond t None (Some instance))
     by true e = no_params b.params e
     by false e = instance_long memory.profile p m instance b.instance_len memory.sizes e
 
 call_function :
     (l : ImageLaws) (p : Program) (a : Activation) (w : World) (at : At p a w) (how : CallOperation) (number instance : ℕ)
     → operation_of at.here.run.last.code ≡ operation.Call how → at.here.run.last.operand ≡ operand.Called 2 number instance
-    → Lasts p w (called (code_of p) (record { kind = kinds.Fc; number = number }) (instance_named instance) (passings_of at.here.run.before) at.here.run.next a w)
+    → Lasts p w (call_made (code_of p) (record { kind = kinds.Fc; number = number }) (instance_named instance) (passings_of at.here.run.before) at.here.run.next a w)
 call_function l p a w at how number instance word_is is =
     let fit = fit_of l p a w at 2 number instance is in
     let one = l.called p 2 number fit.called (inl refl) fit.there in
     let b = one.block in
-    let other : fit.called.0 ≡ 3 → ⊥ = λ e. let two : fit.called.0 ≡ 2 = ap (λ (z : Callee). z.0) one.same in omega (arith, e, two) in
-    let rs : fit.called.2 ≡ map record_of_param b.params = ap (λ (z : Callee). z.2) one.same in
+    let other : fit.called.0 ≡ 3 → ⊥ = λ e. let two : fit.called.0 ≡ 2 = ap (λ (z : CalleeSeen). z.0) one.same in omega (arith, e, two) in
+    let rs : fit.called.2 ≡ map record_of_param b.params = ap (λ (z : CalleeSeen). z.2) one.same in
     let params : AreParams b.params fit.called.2 = subst (λ (z : List ParameterRecord). AreParams b.params z) (sym rs) (of_blocks b.params) in
     let all : are_passed 0 (map record_of_param b.params) at.here.run.before ≡ true =
     ap (λ (z : List ParameterRecord). are_passed 0 z at.here.run.before) (sym rs) ∙ call_all l p a w at 2 number instance is other in
@@ -510,12 +510,12 @@ call_function l p a w at how number instance word_is is =
 call_function_block :
     (l : ImageLaws) (p : Program) (a : Activation) (w : World) (at : At p a w) (how : CallOperation) (number instance : ℕ)
     → operation_of at.here.run.last.code ≡ operation.Call how → at.here.run.last.operand ≡ operand.Called 3 number instance
-    → Lasts p w (called (code_of p) (record { kind = kinds.Fb; number = number }) (instance_named instance) (passings_of at.here.run.before) at.here.run.next a w)
+    → Lasts p w (call_made (code_of p) (record { kind = kinds.Fb; number = number }) (instance_named instance) (passings_of at.here.run.before) at.here.run.next a w)
 call_function_block l p a w at how number instance word_is is =
     let fit = fit_of l p a w at 3 number instance is in
     let one = l.called p 3 number fit.called (inr refl) fit.there in
     let b = one.block in
-    let rs : fit.called.2 ≡ map record_of_param b.params = ap (λ (z : Callee). z.2) one.same in
+    let rs : fit.called.2 ≡ map record_of_param b.params = ap (λ (z : CalleeSeen). z.2) one.same in
     let params : AreParams b.params fit.called.2 = subst (λ (z : List ParameterRecord). AreParams b.params z) (sym rs) (of_blocks b.params) in
     rw (head_there p (record { kind = kinds.Fb; number = number }) b one.there)
     (function_block_lasts l p a w at.here.run.next number at.here.stood.b b (instance_named instance) (passings_of at.here.run.before)
@@ -523,51 +523,51 @@ call_function_block l p a w at how number instance word_is is =
     (has_instance p w.memory b fit.called instance one.same at.fits.memory fit.instance_fits))
 
 -- the parameters of a system function
-record IsFunction (number : ℕ) (called : Callee) : Type 0 where
+record IsFunction (number : ℕ) (called : CalleeSeen) : Type 0 where
   records : List ParameterRecord
   is : system_params number ≡ Some records
   same : called ≡ (5, 0, records)
 
-function_found : (o : Option (List ParameterRecord)) (called : Callee) → option_map (λ (rs : List ParameterRecord). (5, 0, rs)) o ≡ Some called → (rs : List ParameterRecord) × (o ≡ Some rs) × (called ≡ (5, 0, rs))
+function_found : (o : Option (List ParameterRecord)) (called : CalleeSeen) → option_map (λ (rs : List ParameterRecord). (5, 0, rs)) o ≡ Some called → (rs : List ParameterRecord) × (o ≡ Some rs) × (called ≡ (5, 0, rs))
 function_found (Some rs) called e = (rs, refl, sym (same_Some (5, 0, rs) called e))
 function_found None called e = absurd cc
 
-is_function : (p : Program) (number : ℕ) (called : Callee) → callee (signatures p) 5 number ≡ Some called → IsFunction number called
+is_function : (p : Program) (number : ℕ) (called : CalleeSeen) → callee (block_signatures p) 5 number ≡ Some called → IsFunction number called
 unfolding callee
 is_function p number called e = let r = function_found (system_params number) called e in record { records = r.0; is = r.1; same = r.2 }
 
-function_known : (number : ℕ) (rs : List ParameterRecord) → system_params number ≡ Some rs → system_function number ≡ Some (map param_of rs)
+function_known : (number : ℕ) (rs : List ParameterRecord) → system_params number ≡ Some rs → system_function number ≡ Some (map param_of_record rs)
 function_known number rs is = rw is refl
 
 call_system_function :
     (l : ImageLaws) (p : Program) (a : Activation) (w : World) (at : At p a w) (how : CallOperation) (number instance : ℕ)
     → operation_of at.here.run.last.code ≡ operation.Call how → at.here.run.last.operand ≡ operand.Called 5 number instance
-    → Lasts p w (called (code_of p) (record { kind = kinds.Sfc; number = number }) (instance_named instance) (passings_of at.here.run.before) at.here.run.next a w)
+    → Lasts p w (call_made (code_of p) (record { kind = kinds.Sfc; number = number }) (instance_named instance) (passings_of at.here.run.before) at.here.run.next a w)
 call_system_function l p a w at how number instance word_is is =
     let fit = fit_of l p a w at 5 number instance is in
     let one = is_function p number fit.called fit.there in
-    let rs : fit.called.2 ≡ one.records = ap (λ (z : Callee). z.2) one.same in
-    let other : fit.called.0 ≡ 3 → ⊥ = λ e. let five : fit.called.0 ≡ 5 = ap (λ (z : Callee). z.0) one.same in omega (arith, e, five) in
-    let params : AreParams (map param_of one.records) fit.called.2 =
-    subst (λ (z : List ParameterRecord). AreParams (map param_of one.records) z) (sym rs) (of_functions one.records) in
+    let rs : fit.called.2 ≡ one.records = ap (λ (z : CalleeSeen). z.2) one.same in
+    let other : fit.called.0 ≡ 3 → ⊥ = λ e. let five : fit.called.0 ≡ 5 = ap (λ (z : CalleeSeen). z.0) one.same in omega (arith, e, five) in
+    let params : AreParams (map param_of_record one.records) fit.called.2 =
+    subst (λ (z : List ParameterRecord). AreParams (map param_of_record one.records) z) (sym rs) (of_functions one.records) in
     let all : are_passed 0 one.records at.here.run.before ≡ true =
     ap (λ (z : List ParameterRecord). are_passed 0 z at.here.run.before) (sym rs) ∙ call_all l p a w at 5 number instance is other in
     rw one.is
-    (function_called_lasts l p a w at.here.run.next number at.here.stood.b (map param_of one.records) (passings_of at.here.run.before)
+    (function_called_lasts l p a w at.here.run.next number at.here.stood.b (map param_of_record one.records) (passings_of at.here.run.before)
     (behind_call l p a w at how word_is) (function_known number one.records one.is) at.here.stood.found
-    (call_passes l p a w at 5 number instance (map param_of one.records) is params)
-    (λ i q found. let r = mapped_got param_of one.records i q found in all_among i one.records r.0 at.here.run.before all r.1))
+    (call_passes l p a w at 5 number instance (map param_of_record one.records) is params)
+    (λ i q found. let r = mapped_got param_of_record one.records i q found in all_among i one.records r.0 at.here.run.before all r.1))
 
 -- where CC doesn't call, the caller goes on
 either_called :
     (l : ImageLaws) (p : Program) (a : Activation) (w : World) (at : At p a w) (how : CallOperation) (block : BlockId) (instance : Option ℕ)
     → operation_of at.here.run.last.code ≡ operation.Call how
-    → Lasts p w (called (code_of p) block instance (passings_of at.here.run.before) at.here.run.next a w)
+    → Lasts p w (call_made (code_of p) block instance (passings_of at.here.run.before) at.here.run.next a w)
     → Lasts p w (step_of (code_of p) (Calls how block instance (passings_of at.here.run.before)) at.here.run.next a w)
-either_called l p a w at how block instance is lasts = by (is_called how a.running.regs.status.rlo)
+either_called l p a w at how block instance is lasts = by (is_call_made how a.running.regs.status.rlo)
   where
     by : (t : Bool)
-        → Lasts p w (cond t (called (code_of p) block instance (passings_of at.here.run.before) at.here.run.next a w)
+        → Lasts p w (cond t (call_made (code_of p) block instance (passings_of at.here.run.before) at.here.run.next a w)
         (Went (going_on at.here.run.next (not_called a.running.regs) a) w))
     by true = lasts
     by false = record {
@@ -579,7 +579,7 @@ either_called l p a w at how block instance is lasts = by (is_called how a.runni
 call_lasts :
     (l : ImageLaws) (p : Program) (a : Activation) (w : World) (at : At p a w) (how : CallOperation) (kind number instance : ℕ) (other : Instr)
     → operation_of at.here.run.last.code ≡ operation.Call how → at.here.run.last.operand ≡ operand.Called kind number instance
-    → Lasts p w (step_of (code_of p) (call_instr (kind_of_code kind) how number instance (passings_of at.here.run.before) other) at.here.run.next a w)
+    → Lasts p w (step_of (code_of p) (call_by_number (kind_of_code kind) how number instance (passings_of at.here.run.before) other) at.here.run.next a w)
 call_lasts l p a w at how kind number instance other is operand_is =
     by (callable_kind kind (kind_callable at.here.run.last.code kind number instance right))
   where
@@ -593,7 +593,7 @@ call_lasts l p a w at how kind number instance other is operand_is =
     with_kind k e = operand_is ∙ ap (λ (z : ℕ). operand.Called z number instance) e
 
     by : IsCallable kind
-        → Lasts p w (step_of (code_of p) (call_instr (kind_of_code kind) how number instance (passings_of at.here.run.before) other) at.here.run.next a w)
+        → Lasts p w (step_of (code_of p) (call_by_number (kind_of_code kind) how number instance (passings_of at.here.run.before) other) at.here.run.next a w)
     by (inl e) =
         rw e
         (either_called l p a w at how (record { kind = kinds.Fc; number = number }) (instance_named instance) is
@@ -622,22 +622,22 @@ admitted code o v right is =
 -- in the table the operations that write have codes that write
 abbrev all_writing : ℕ → List Operation → Bool
 all_writing from [] = true
-all_writing from (v ∷ vs) = (not (is_writing v) || writes from) && all_writing (from + 1) vs
+all_writing from (v ∷ vs) = (not (is_writing v) || writes_operand from) && all_writing (from + 1) vs
 
 writing_told : all_writing 0 OPERATIONS ≡ true
 writing_told = refl
 
-writing_at : (from : ℕ) (vs : List Operation) (i : ℕ) → all_writing from vs ≡ true → is_writing (get_or vs i operation.NoOperation) ≡ true → writes (from + i) ≡ true
+writing_at : (from : ℕ) (vs : List Operation) (i : ℕ) → all_writing from vs ≡ true → is_writing (get_or vs i operation.NoOperation) ≡ true → writes_operand (from + i) ≡ true
 writing_at from [] i all is = absurd cc
 writing_at from (v ∷ vs) zero all is =
     let e : from + 0 ≡ from = omega arith in
-    let h = (and_parts (not (is_writing v) || writes from) (all_writing (from + 1) vs) all).0 in
+    let h = (and_parts (not (is_writing v) || writes_operand from) (all_writing (from + 1) vs) all).0 in
     rw e (rw is at h)
 writing_at from (v ∷ vs) (suc i) all is =
     let e : from + suc i ≡ from + 1 + i = omega arith in
-    rw e (writing_at (from + 1) vs i (and_parts (not (is_writing v) || writes from) (all_writing (from + 1) vs) all).1 is)
+    rw e (writing_at (from + 1) vs i (and_parts (not (is_writing v) || writes_operand from) (all_writing (from + 1) vs) all).1 is)
 
-writing_code : (code : ℕ) (v : Operation) → operation_of code ≡ v → is_writing v ≡ true → writes code ≡ true
+writing_code : (code : ℕ) (v : Operation) → operation_of code ≡ v → is_writing v ≡ true → writes_operand code ≡ true
 unfolding operation_of
 writing_code code v is h =
     let e : 0 + code ≡ code = omega arith in
@@ -827,7 +827,7 @@ with_told : (u : Option ℕ) (v : Operation) (o : Operand) (q : ExecState) → S
 unfolding effect_with
 with_told None v o q s = effect_told v o q s
 with_told (Some number) v o q s =
-    either_told (is_loaded number q.memory) (effect v o (with_db number q)) (Err 0x3A)
+    either_told (is_block_loaded number q.memory) (effect v o (with_db number q)) (Err 0x3A)
     (effect_told v o (with_db number q) (record {
       admitted = s.admitted;
       has = param_moved q.local (with_db number q).local (is_writing v) o refl s.has;
@@ -844,7 +844,7 @@ unfolding effect nesting
 nest_erring with o q room = by (eqb (length q.local.inner.brackets) 7) refl
   where
     by : (t : Bool) → eqb (length q.local.inner.brackets) 7 ≡ t
-        → IfErring (operation.Nest with) (on_local q (cond t (Err no_operand) (Ok (with_brackets (entry_of with q.local.regs ∷ q.local.inner.brackets) (record q.local { regs = begun q.local.regs })))))
+        → IfErring (operation.Nest with) (on_local q (cond t (Err no_operand) (Ok (with_open_brackets (entry_of with q.local.regs ∷ q.local.inner.brackets) (record q.local { regs = bracket_begun q.local.regs })))))
     by true e = absurd (room (eqb-true (length q.local.inner.brackets) 7 e))
     by false e = tt
 
@@ -852,7 +852,7 @@ unnest_erring : (o : Operand) (q : ExecState) → (q.local.inner.brackets ≡ []
 unfolding effect unnesting
 unnest_erring o q room = by q.local.inner.brackets room
   where
-    by : (brackets : List Bracket) → (brackets ≡ [] → ⊥) → IfErring operation.Unnest (on_local q (unnested brackets q.local))
+    by : (brackets : List Bracket) → (brackets ≡ [] → ⊥) → IfErring operation.Unnest (on_local q (bracket_closed brackets q.local))
     by [] room = absurd (room refl)
     by (b ∷ rest) room = tt
 
@@ -920,13 +920,13 @@ plain_lasts l p a w at v o is o_is goes other =
 jump_or_list_lasts :
     (l : ImageLaws) (p : Program) (a : Activation) (w : World) (at : At p a w) (kind target : ℕ)
     → operation_of at.here.run.last.code ≡ operation.Jump → at.here.run.last.operand ≡ operand.Jump kind target
-    → Lasts p w (step_of (code_of p) (jump_instr (jump_of kind) target at.here.run.next at.here.stood.b.code) at.here.run.next a w)
-jump_or_list_lasts l p a w at kind target is o_is = by (is_jl (jump_of kind)) refl
+    → Lasts p w (step_of (code_of p) (jump_by_operation (jump_of_number kind) target at.here.run.next at.here.stood.b.code) at.here.run.next a w)
+jump_or_list_lasts l p a w at kind target is o_is = by (is_jl (jump_of_number kind)) refl
   where
-    by : (t : Bool) → is_jl (jump_of kind) ≡ t
-        → Lasts p w (step_of (code_of p) (cond t (JumpsByList (list_of most_listed at.here.stood.b.code target at.here.run.next) target) (Jumps (jump_of kind) target)) at.here.run.next a w)
+    by : (t : Bool) → is_jl (jump_of_number kind) ≡ t
+        → Lasts p w (step_of (code_of p) (cond t (JumpsByList (list_of most_listed at.here.stood.b.code target at.here.run.next) target) (Jumps (jump_of_number kind) target)) at.here.run.next a w)
     by true e = jump_list_lasts l p a w at target is (o_is ∙ ap (λ (k : ℕ). operand.Jump k target) (jl_kind kind e))
-    by false e = jump_lasts l p a w at (jump_of kind) kind target is o_is
+    by false e = jump_lasts l p a w at (jump_of_number kind) kind target is o_is
 
 instruction_lasts :
     (l : ImageLaws) (p : Program) (a : Activation) (w : World) (at : At p a w) (v : Operation) (o : Operand)

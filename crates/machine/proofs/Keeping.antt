@@ -5,10 +5,10 @@ use Rattle.std.proofs.Common.{◌≡◌, ◌∙◌, ℕ, suc, ◌-◌, Bool, tru
 use Rattle.std.specs.Option.{option_map}
 use Rattle.plc_base.specs.declared.Width.TheVariants as widths
 use Rattle.plc_mem.specs.Areas.{Areas}
-use Rattle.plc_mem.specs.Writing.{put, written}
+use Rattle.plc_mem.specs.Writing.{put_number, number_written}
 use Rattle.plc_mem.proofs.Runs.{length-put, mapped, chained}
-use Rattle.status_word.specs.Brackets.{entry_of, begun}
-use Rattle.status_word.specs.Store.{stored}
+use Rattle.status_word.specs.Brackets.{entry_of, bracket_begun}
+use Rattle.status_word.specs.Store.{after_store}
 use Rattle.status_word.specs.declared.Bracket.{Bracket}
 use Rattle.plc_base.specs.declared.Check.{Check}
 use Rattle.status_word.specs.declared.Regs.{Regs}
@@ -17,8 +17,8 @@ use Rattle.timers_counters.specs.Counter.{Counter}
 use Rattle.frames.specs.FrameData.{FrameData}
 use Rattle.frames.specs.Relay.{outer_zones, zone_opened, zone_ended}
 use Rattle.frames.specs.declared.relay.Relay.{Relay}
-use Rattle.frames.specs.Locals.{LocalData, local_written, lies_within}
-use Rattle.flat_code.specs.Placed.{is_empty, most_zones}
+use Rattle.frames.specs.Locals.{LocalData, local_written, local_operand_start}
+use Rattle.flat_code.specs.Placed.{is_empty_list, most_zones}
 use Rattle.flat_code.specs.declared.operands.Operand.{Operand}
 use Rattle.flat_code.specs.declared.operands.Operand.TheVariants as operand
 use Rattle.flat_code.specs.declared.operations.PointerOperation.{PointerOperation}
@@ -30,17 +30,17 @@ use Rattle.flat_code.specs.declared.operations.Operation.TheVariants as operatio
 use Rattle.machine.specs.declared.places.Access.TheVariants.{Writing}
 use Rattle.machine.specs.declared.places.Location.{Location}
 use Rattle.machine.specs.ExecState.{Local, LocalMemory, ExecState, then_ok}
-use Rattle.machine.specs.Places.{located, absent, is_local, pointer, no_operand}
-use Rattle.machine.specs.Values.{is_timer, with_locals, stored_at, write}
-use Rattle.machine.specs.BitLogic.{put_bit, bit_number, with_regs, bit_before, assigned, assigned_at, bit_set, set_at, edge, edge_at}
-use Rattle.machine.specs.Nesting.{with_brackets, nesting, unnesting, unnested}
-use Rattle.machine.specs.Relay.{closed, with_relay, with_zones, opening_zone, ending_zone, relayed}
-use Rattle.machine.specs.Loads.{transferred, transferring}
+use Rattle.machine.specs.Places.{operand_location, absent, is_area_l, pointer_number, no_operand}
+use Rattle.machine.specs.Values.{is_timer_kind, with_locals, stored_at, write}
+use Rattle.machine.specs.BitLogic.{put_bit, bit_as_number, with_local_regs, bit_before, bit_assigned, assigned_at, bit_set, bit_set_at, edge, edge_at}
+use Rattle.machine.specs.Nesting.{with_open_brackets, nesting, unnesting, bracket_closed}
+use Rattle.machine.specs.Relay.{is_writing_off, with_frame_relay, with_relay_zones, opening_zone, ending_zone, relay_effect}
+use Rattle.machine.specs.Loads.{number_transferred, transferring}
 use Rattle.machine.specs.Timing.{timer_reset, counter_reset, timer_freed, counter_freed}
-use Rattle.machine.specs.Pointers.{pointed, address_loaded, address_transferred, regs_set}
-use Rattle.machine.specs.DataBlocks.{is_loaded, opened_if, opening, exchanged}
-use Rattle.machine.specs.Effect.{on_regs, on_local, on_local_memory, on_timers, on_counters, kind_named, set_of, reset_of, free_of, effect, with_db, effect_with}
-use Rattle.machine.specs.Fitting.{OpenAt, codes_of, open_of, IsOpen, SameSizes}
+use Rattle.machine.specs.Pointers.{pointer_effect, address_loaded, address_transferred, regs_set}
+use Rattle.machine.specs.DataBlocks.{is_block_loaded, opened_if, block_opened_by, registers_exchanged}
+use Rattle.machine.specs.Effect.{effect_on_regs, on_local, on_local_memory, on_timers, on_counters, kind_named, set_of, reset_of, free_of, effect, with_db, effect_with}
+use Rattle.machine.specs.Fitting.{OpenAt, codes_of, open_in_frame, IsOpen, SameSizes}
 use Rattle.machine.proofs.Sizes.{same_sizes, writing_sizes}
 use Rattle.machine.proofs.Staying.{open_still}
 
@@ -84,9 +84,9 @@ pub local_kept :
     → KeepsLocals l k
 unfolding local_written
 local_kept l k frame at bit width value done =
-    let found = chained (λ (place : ℕ). option_map (λ (bytes : List ℕ). let r : LocalData = record l { bytes = bytes } in r) (put l.bytes place bit width value))
-    (lies_within l frame at width) k done in
-    let was = mapped (λ (bytes : List ℕ). let r : LocalData = record l { bytes = bytes } in r) (put l.bytes found.0 bit width value) k found.2 in
+    let found = chained (λ (place : ℕ). option_map (λ (bytes : List ℕ). let r : LocalData = record l { bytes = bytes } in r) (put_number l.bytes place bit width value))
+    (local_operand_start l frame at width) k done in
+    let was = mapped (λ (bytes : List ℕ). let r : LocalData = record l { bytes = bytes } in r) (put_number l.bytes found.0 bit width value) k found.2 in
     rw (sym was.2) (record { starts = refl; len = length-put l.bytes was.0 found.0 bit width value was.1 })
 
 either_stored :
@@ -94,7 +94,7 @@ either_stored :
     → cond local
     (option_map (λ (l : LocalData). let r : LocalMemory = record { local = with_locals s l; memory = m } in r)
     (local_written s.locals at.frame at.place.byte at.place.bit at.width value))
-    (option_map (λ (n : Areas). let r : LocalMemory = record { local = s; memory = n } in r) (written m at.place at.width value))
+    (option_map (λ (n : Areas). let r : LocalMemory = record { local = s; memory = n } in r) (number_written m at.place at.width value))
     ≡ Some c
     → KeepsScene s m c
 either_stored at value s m c true done =
@@ -103,7 +103,7 @@ either_stored at value s m c true done =
     let kept = local_kept s.locals was.0 at.frame at.place.byte at.place.bit at.width value was.1 in
     rw (sym was.2) (record { inner = refl; starts = kept.starts; len = kept.len; memory = same_sizes m })
 either_stored at value s m c false done =
-    let was = mapped (λ (n : Areas). let r : LocalMemory = record { local = s; memory = n } in r) (written m at.place at.width value) c done in
+    let was = mapped (λ (n : Areas). let r : LocalMemory = record { local = s; memory = n } in r) (number_written m at.place at.width value) c done in
     rw (sym was.2) (record { inner = refl; starts = refl; len = refl; memory = writing_sizes m was.0 at.place at.width value was.1 })
 
 stored_if :
@@ -117,37 +117,37 @@ pub write_keeps :
 unfolding write
 write_keeps at value s m =
     stored_if s m (stored_at at value s m) (absent Writing at.place.area)
-    (λ c is. either_stored at value s m c (is_local at.place.area) is)
+    (λ c is. either_stored at value s m c (is_area_l at.place.area) is)
 
 put_keeps :
     (at : Location) (bit : Bool) (r : Regs) (s : Local) (m : Areas) → IfDone (KeepsScene s m) (put_bit at bit r s m)
 unfolding put_bit
 put_keeps at bit r s m =
-    done_then (KeepsScene s m) (KeepsScene s m) (write at (bit_number bit) s m) (λ c. Ok (with_regs r c))
-    (write_keeps at (bit_number bit) s m)
+    done_then (KeepsScene s m) (KeepsScene s m) (write at (bit_as_number bit) s m) (λ c. Ok (with_local_regs r c))
+    (write_keeps at (bit_as_number bit) s m)
     (λ c kept. record { inner = kept.inner; starts = kept.starts; len = kept.len; memory = kept.memory })
 
-assigned_keeps : (o : Operand) (s : Local) (m : Areas) → IfDone (KeepsScene s m) (assigned o s m)
-unfolding assigned
+assigned_keeps : (o : Operand) (s : Local) (m : Areas) → IfDone (KeepsScene s m) (bit_assigned o s m)
+unfolding bit_assigned
 assigned_keeps o s m =
-    then_done (KeepsScene s m) (located Writing o s m) (λ at. assigned_at at s m) (λ at. put_keeps at _ _ s m)
+    then_done (KeepsScene s m) (operand_location Writing o s m) (λ at. assigned_at at s m) (λ at. put_keeps at _ _ s m)
 
 set_keeps : (value : Bool) (o : Operand) (s : Local) (m : Areas) → IfDone (KeepsScene s m) (bit_set value o s m)
 unfolding bit_set
 set_keeps value o s m =
-    then_done (KeepsScene s m) (located Writing o s m) (λ at. then_ok (bit_before at s m) (λ before. set_at value at before s m))
-    (λ at. then_done (KeepsScene s m) (bit_before at s m) (λ before. set_at value at before s m) (λ before. put_keeps at _ _ s m))
+    then_done (KeepsScene s m) (operand_location Writing o s m) (λ at. then_ok (bit_before at s m) (λ before. bit_set_at value at before s m))
+    (λ at. then_done (KeepsScene s m) (bit_before at s m) (λ before. bit_set_at value at before s m) (λ before. put_keeps at _ _ s m))
 
 edge_keeps : (rising : Bool) (o : Operand) (s : Local) (m : Areas) → IfDone (KeepsScene s m) (edge rising o s m)
 unfolding edge
 edge_keeps rising o s m =
-    then_done (KeepsScene s m) (located Writing o s m) (λ at. then_ok (bit_before at s m) (λ before. edge_at rising at before s m))
+    then_done (KeepsScene s m) (operand_location Writing o s m) (λ at. then_ok (bit_before at s m) (λ before. edge_at rising at before s m))
     (λ at. then_done (KeepsScene s m) (bit_before at s m) (λ before. edge_at rising at before s m) (λ before. put_keeps at _ _ s m))
 
-transferred_keeps : (n : ℕ) (o : Operand) (s : Local) (m : Areas) → IfDone (KeepsScene s m) (transferred n o s m)
-unfolding transferred
+transferred_keeps : (n : ℕ) (o : Operand) (s : Local) (m : Areas) → IfDone (KeepsScene s m) (number_transferred n o s m)
+unfolding number_transferred
 transferred_keeps n o s m =
-    then_done (KeepsScene s m) (located Writing o s m) _ (λ at. write_keeps at _ s m)
+    then_done (KeepsScene s m) (operand_location Writing o s m) _ (λ at. write_keeps at _ s m)
 
 regs_keep : (r : Regs) (s : Local) (m : Areas) → KeepsScene s m (regs_set r s m)
 regs_keep r s m = record { inner = refl; starts = refl; len = refl; memory = same_sizes m }
@@ -172,8 +172,8 @@ address_keeps n (operand.OpenBlock register number) s m = transferred_keeps n (o
 address_keeps n (operand.OpenBy register from byte) s m = transferred_keeps n (operand.OpenBy register from byte) s m
 
 pointed_keeps :
-    (what : PointerOperation) (o : Operand) (s : Local) (m : Areas) → IfDone (KeepsScene s m) (pointed what o s m)
-unfolding pointed
+    (what : PointerOperation) (o : Operand) (s : Local) (m : Areas) → IfDone (KeepsScene s m) (pointer_effect what o s m)
+unfolding pointer_effect
 pointed_keeps pointers.Lar1 o s m = then_done (KeepsScene s m) (address_loaded o s m) _ (λ n. regs_keep _ s m)
 pointed_keeps pointers.Lar2 o s m = then_done (KeepsScene s m) (address_loaded o s m) _ (λ n. regs_keep _ s m)
 pointed_keeps pointers.Tar1 o s m = address_keeps s.regs.ar1 o s m
@@ -211,7 +211,7 @@ pub record Keeps (w : Operation) (p q : ExecState) : Type 0 where
   pub bindings : q.local.inner.bindings ≡ p.local.inner.bindings
   pub db : IsOpen p.local.inner.db p.memory → IsOpen p.local.inner.di p.memory → IsOpen q.local.inner.db q.memory
   pub di : IsOpen p.local.inner.db p.memory → IsOpen p.local.inner.di p.memory → IsOpen q.local.inner.di q.memory
-  pub held : open_of q.local.inner.brackets q.local.inner.relay ≡ left_open w (open_of p.local.inner.brackets p.local.inner.relay)
+  pub held : open_in_frame q.local.inner.brackets q.local.inner.relay ≡ left_open w (open_in_frame p.local.inner.brackets p.local.inner.relay)
 
 -- after it the same is open as before
 abbrev pub Quiet : Operation → Type 0
@@ -226,11 +226,11 @@ same_keeps w p quiet = record {
   bindings = refl;
   db = λ db di. db;
   di = λ db di. di;
-  held = sym (quiet (open_of p.local.inner.brackets p.local.inner.relay));
+  held = sym (quiet (open_in_frame p.local.inner.brackets p.local.inner.relay));
 }
 
 -- other registers, timers or counters
-regs_kept : (w : Operation) (p : ExecState) (r : Result Regs ℕ) → Quiet w → IfDone (Keeps w p) (on_regs p r)
+regs_kept : (w : Operation) (p : ExecState) (r : Result Regs ℕ) → Quiet w → IfDone (Keeps w p) (effect_on_regs p r)
 regs_kept w p (Ok r) quiet = record {
   memory = same_sizes p.memory;
   starts = refl;
@@ -239,7 +239,7 @@ regs_kept w p (Ok r) quiet = record {
   bindings = refl;
   db = λ db di. db;
   di = λ db di. di;
-  held = sym (quiet (open_of p.local.inner.brackets p.local.inner.relay));
+  held = sym (quiet (open_in_frame p.local.inner.brackets p.local.inner.relay));
 }
 regs_kept w p (Err e) quiet = tt
 
@@ -252,7 +252,7 @@ timers_kept w p (Ok t) quiet = record {
   bindings = refl;
   db = λ db di. db;
   di = λ db di. di;
-  held = sym (quiet (open_of p.local.inner.brackets p.local.inner.relay));
+  held = sym (quiet (open_in_frame p.local.inner.brackets p.local.inner.relay));
 }
 timers_kept w p (Err e) quiet = tt
 
@@ -266,7 +266,7 @@ counters_kept w p (Ok n) quiet = record {
   bindings = refl;
   db = λ db di. db;
   di = λ db di. di;
-  held = sym (quiet (open_of p.local.inner.brackets p.local.inner.relay));
+  held = sym (quiet (open_in_frame p.local.inner.brackets p.local.inner.relay));
 }
 counters_kept w p (Err e) quiet = tt
 
@@ -286,7 +286,7 @@ scene_kept w p (Ok c) quiet kept = record {
   bindings = ap (λ (i : FrameData). i.bindings) kept.inner;
   db = λ db di. open_after p.local.inner.db c.local.inner.db p.memory c.memory (ap (λ (i : FrameData). i.db) kept.inner) kept.memory db;
   di = λ db di. open_after p.local.inner.di c.local.inner.di p.memory c.memory (ap (λ (i : FrameData). i.di) kept.inner) kept.memory di;
-  held = ap (λ (i : FrameData). open_of i.brackets i.relay) kept.inner ∙ sym (quiet (open_of p.local.inner.brackets p.local.inner.relay));
+  held = ap (λ (i : FrameData). open_in_frame i.brackets i.relay) kept.inner ∙ sym (quiet (open_in_frame p.local.inner.brackets p.local.inner.relay));
 }
 scene_kept w p (Err e) quiet kept = tt
 
@@ -299,7 +299,7 @@ nesting_keeps with p = by (length p.local.inner.brackets == 7)
   where
     by : (full : Bool)
         → IfDone (Keeps (operation.Nest with) p) (on_local p (if full then Err no_operand
-        else Ok (with_brackets (entry_of with p.local.regs ∷ p.local.inner.brackets) (record p.local { regs = begun p.local.regs }))))
+        else Ok (with_open_brackets (entry_of with p.local.regs ∷ p.local.inner.brackets) (record p.local { regs = bracket_begun p.local.regs }))))
     by true = tt
     by false = record {
       memory = same_sizes p.memory;
@@ -314,7 +314,7 @@ nesting_keeps with p = by (length p.local.inner.brackets == 7)
 
 unnested_keeps :
     (p : ExecState) (brackets : List Bracket) → p.local.inner.brackets ≡ brackets
-    → IfDone (Keeps operation.Unnest p) (on_local p (unnested brackets p.local))
+    → IfDone (Keeps operation.Unnest p) (on_local p (bracket_closed brackets p.local))
 unnested_keeps p [] is = tt
 unnested_keeps p (bracket ∷ rest) is = record {
   memory = same_sizes p.memory;
@@ -335,8 +335,8 @@ unnesting_keeps p = unnested_keeps p p.local.inner.brackets refl
 
 relay_keeps :
     (w : Operation) (r : Relay) (regs : Regs) (p : ExecState)
-    → open_of p.local.inner.brackets r ≡ left_open w (open_of p.local.inner.brackets p.local.inner.relay)
-    → Keeps w p (record p { local = with_relay r (record p.local { regs = regs }) })
+    → open_in_frame p.local.inner.brackets r ≡ left_open w (open_in_frame p.local.inner.brackets p.local.inner.relay)
+    → Keeps w p (record p { local = with_frame_relay r (record p.local { regs = regs }) })
 relay_keeps w r regs p is = record {
   memory = same_sizes p.memory;
   starts = refl;
@@ -354,9 +354,9 @@ opening_zone_keeps p = by (length p.local.inner.relay.zones == most_zones)
   where
     by : (full : Bool)
         → IfDone (Keeps (operation.Relay relay.Open) p) (on_local p (if full then Err no_operand
-        else Ok (with_zones (zone_opened p.local.regs.status.rlo p.local.inner.relay) p.local)))
+        else Ok (with_relay_zones (zone_opened p.local.regs.status.rlo p.local.inner.relay) p.local)))
     by true = tt
-    by false = relay_keeps (operation.Relay relay.Open) (zone_opened p.local.regs.status.rlo p.local.inner.relay) (stored true p.local.regs) p refl
+    by false = relay_keeps (operation.Relay relay.Open) (zone_opened p.local.regs.status.rlo p.local.inner.relay) (after_store true p.local.regs) p refl
 
 outer_count : (zones : List Bool) → length (outer_zones zones) ≡ length zones - 1
 outer_count [] = refl
@@ -364,17 +364,17 @@ outer_count (value ∷ around) = omega arith
 
 ending_zone_keeps : (p : ExecState) → IfDone (Keeps (operation.Relay relay.Close) p) (on_local p (ending_zone p.local))
 unfolding ending_zone
-ending_zone_keeps p = by (is_empty p.local.inner.relay.zones)
+ending_zone_keeps p = by (is_empty_list p.local.inner.relay.zones)
   where
     by : (none : Bool)
         → IfDone (Keeps (operation.Relay relay.Close) p) (on_local p (if none then Err no_operand
-        else Ok (with_zones (zone_ended p.local.inner.relay) p.local)))
+        else Ok (with_relay_zones (zone_ended p.local.inner.relay) p.local)))
     by true = tt
-    by false = relay_keeps (operation.Relay relay.Close) (zone_ended p.local.inner.relay) (stored true p.local.regs) p
+    by false = relay_keeps (operation.Relay relay.Close) (zone_ended p.local.inner.relay) (after_store true p.local.regs) p
         (ap (λ (n : ℕ). let r : OpenAt = record { codes = codes_of p.local.inner.brackets; zones = n } in r) (outer_count p.local.inner.relay.zones))
 
 relayed_keeps :
-    (which : RelayOperation) (p : ExecState) → IfDone (Keeps (operation.Relay which) p) (on_local p (relayed which p.local))
+    (which : RelayOperation) (p : ExecState) → IfDone (Keeps (operation.Relay which) p) (on_local p (relay_effect which p.local))
 relayed_keeps relay.Activate p =
     relay_keeps (operation.Relay relay.Activate) (record p.local.inner.relay { active = true }) p.local.regs p refl
 relayed_keeps relay.Deactivate p =
@@ -385,7 +385,7 @@ relayed_keeps relay.Close p = ending_zone_keeps p
 -- ---- data blocks
 
 opened_at :
-    (w : Operation) (number : ℕ) (p : ExecState) (first : Bool) → Quiet w → is_loaded number p.memory ≡ true
+    (w : Operation) (number : ℕ) (p : ExecState) (first : Bool) → Quiet w → is_block_loaded number p.memory ≡ true
     → Keeps w p (record p {
       local = if first then record p.local { inner = record p.local.inner { db = Some number } }
           else record p.local { inner = record p.local.inner { di = Some number } };
@@ -398,7 +398,7 @@ opened_at w number p true quiet loaded = record {
   bindings = refl;
   db = λ db di. loaded;
   di = λ db di. di;
-  held = sym (quiet (open_of p.local.inner.brackets p.local.inner.relay));
+  held = sym (quiet (open_in_frame p.local.inner.brackets p.local.inner.relay));
 }
 opened_at w number p false quiet loaded = record {
   memory = same_sizes p.memory;
@@ -408,32 +408,32 @@ opened_at w number p false quiet loaded = record {
   bindings = refl;
   db = λ db di. db;
   di = λ db di. loaded;
-  held = sym (quiet (open_of p.local.inner.brackets p.local.inner.relay));
+  held = sym (quiet (open_in_frame p.local.inner.brackets p.local.inner.relay));
 }
 
 opened_keeps :
-    (w : Operation) (register number : ℕ) (p : ExecState) (loaded : Bool) → Quiet w → is_loaded number p.memory ≡ loaded
+    (w : Operation) (register number : ℕ) (p : ExecState) (loaded : Bool) → Quiet w → is_block_loaded number p.memory ≡ loaded
     → IfDone (Keeps w p) (on_local p (opened_if loaded register number p.local))
 opened_keeps w register number p true quiet is = opened_at w number p (register == 1) quiet is
 opened_keeps w register number p false quiet is = tt
 
 by_pointer_keeps :
     (w : Operation) (register : ℕ) (p : ExecState) (found : Result ℕ ℕ) → Quiet w
-    → IfDone (Keeps w p) (on_local p (then_ok found (λ number. opened_if (is_loaded number p.memory) register number p.local)))
-by_pointer_keeps w register p (Ok number) quiet = opened_keeps w register number p (is_loaded number p.memory) quiet refl
+    → IfDone (Keeps w p) (on_local p (then_ok found (λ number. opened_if (is_block_loaded number p.memory) register number p.local)))
+by_pointer_keeps w register p (Ok number) quiet = opened_keeps w register number p (is_block_loaded number p.memory) quiet refl
 by_pointer_keeps w register p (Err e) quiet = tt
 
 opening_keeps :
-    (w : Operation) (o : Operand) (p : ExecState) → Quiet w → IfDone (Keeps w p) (on_local p (opening o p.local p.memory))
-unfolding opening
+    (w : Operation) (o : Operand) (p : ExecState) → Quiet w → IfDone (Keeps w p) (on_local p (block_opened_by o p.local p.memory))
+unfolding block_opened_by
 opening_keeps w (operand.OpenBlock register number) p quiet =
-    opened_keeps w register number p (is_loaded number p.memory) quiet refl
+    opened_keeps w register number p (is_block_loaded number p.memory) quiet refl
 opening_keeps w (operand.OpenBy register from byte) p quiet =
-    by_pointer_keeps w register p (pointer from byte widths.Word p.local p.memory) quiet
+    by_pointer_keeps w register p (pointer_number from byte widths.Word p.local p.memory) quiet
 opening_keeps w _ p quiet = tt
 
-exchanged_keeps : (w : Operation) (p : ExecState) → Quiet w → Keeps w p (record p { local = exchanged p.local })
-unfolding exchanged
+exchanged_keeps : (w : Operation) (p : ExecState) → Quiet w → Keeps w p (record p { local = registers_exchanged p.local })
+unfolding registers_exchanged
 exchanged_keeps w p quiet = record {
   memory = same_sizes p.memory;
   starts = refl;
@@ -442,7 +442,7 @@ exchanged_keeps w p quiet = record {
   bindings = refl;
   db = λ db di. di;
   di = λ db di. db;
-  held = sym (quiet (open_of p.local.inner.brackets p.local.inner.relay));
+  held = sym (quiet (open_in_frame p.local.inner.brackets p.local.inner.relay));
 }
 
 -- ---- by kind of operand
@@ -455,7 +455,7 @@ set_of_keeps w (Some kind) o p quiet = counters_kept w p _ quiet
 reset_of_keeps :
     (w : Operation) (kind : Option ℕ) (o : Operand) (p : ExecState) → Quiet w → IfDone (Keeps w p) (reset_of kind o p)
 reset_of_keeps w None o p quiet = scene_kept w p (bit_set false o p.local p.memory) quiet (set_keeps false o p.local p.memory)
-reset_of_keeps w (Some kind) o p quiet = by (is_timer kind)
+reset_of_keeps w (Some kind) o p quiet = by (is_timer_kind kind)
   where
     by : (timer : Bool)
         → IfDone (Keeps w p) (if timer then on_timers p (timer_reset o p.local p.memory p.timers) else on_counters p (counter_reset o p.local p.memory p.counters))
@@ -465,7 +465,7 @@ reset_of_keeps w (Some kind) o p quiet = by (is_timer kind)
 free_of_keeps :
     (w : Operation) (kind : Option ℕ) (o : Operand) (p : ExecState) → Quiet w → IfDone (Keeps w p) (free_of kind o p)
 free_of_keeps w None o p quiet = tt
-free_of_keeps w (Some kind) o p quiet = by (is_timer kind)
+free_of_keeps w (Some kind) o p quiet = by (is_timer_kind kind)
   where
     by : (timer : Bool)
         → IfDone (Keeps w p) (if timer then on_timers p (timer_freed o p.local p.memory p.timers) else on_counters p (counter_freed o p.local p.memory p.counters))
@@ -485,9 +485,9 @@ effect_keeps operation.Unnest o p = unnesting_keeps p
 effect_keeps (operation.Relay which) o p = relayed_keeps which p
 effect_keeps operation.Load o p = regs_kept operation.Load p _ (λ held. refl)
 effect_keeps operation.Transfer o p =
-    scene_kept operation.Transfer p (transferring o p.local p.memory) (λ held. refl) (transferred_keeps (if closed p.local then 0 else p.local.regs.a1) o p.local p.memory)
+    scene_kept operation.Transfer p (transferring o p.local p.memory) (λ held. refl) (transferred_keeps (if is_writing_off p.local then 0 else p.local.regs.a1) o p.local p.memory)
 effect_keeps operation.Assign o p =
-    scene_kept operation.Assign p (assigned o p.local p.memory) (λ held. refl) (assigned_keeps o p.local p.memory)
+    scene_kept operation.Assign p (bit_assigned o p.local p.memory) (λ held. refl) (assigned_keeps o p.local p.memory)
 effect_keeps operation.Set o p = set_of_keeps operation.Set (kind_named o) o p (λ held. refl)
 effect_keeps operation.Reset o p = reset_of_keeps operation.Reset (kind_named o) o p (λ held. refl)
 effect_keeps (operation.Edge rising) o p =
@@ -501,7 +501,7 @@ effect_keeps operation.LoadStatus o p = regs_kept operation.LoadStatus p (Ok _) 
 effect_keeps operation.TransferStatus o p = regs_kept operation.TransferStatus p (Ok _) (λ held. refl)
 effect_keeps operation.LoadOpenBlock o p = regs_kept operation.LoadOpenBlock p _ (λ held. refl)
 effect_keeps (operation.Pointer what) o p =
-    scene_kept (operation.Pointer what) p (pointed what o p.local p.memory) (λ held. refl) (pointed_keeps what o p.local p.memory)
+    scene_kept (operation.Pointer what) p (pointer_effect what o p.local p.memory) (λ held. refl) (pointed_keeps what o p.local p.memory)
 effect_keeps (operation.Number what) o p = regs_kept (operation.Number what) p _ (λ held. refl)
 effect_keeps (operation.Add what) o p = regs_kept (operation.Add what) p (Ok _) (λ held. refl)
 effect_keeps (operation.CompareInt how) o p = regs_kept (operation.CompareInt how) p (Ok _) (λ held. refl)
@@ -522,7 +522,7 @@ effect_keeps operation.Pass o p = tt
 effect_keeps operation.NoOperation o p = tt
 
 opened_first :
-    (w : Operation) (number : ℕ) (p q : ExecState) → is_loaded number p.memory ≡ true → Keeps w (with_db number p) q
+    (w : Operation) (number : ℕ) (p q : ExecState) → is_block_loaded number p.memory ≡ true → Keeps w (with_db number p) q
     → Keeps w p q
 opened_first w number p q loaded kept = record {
   memory = kept.memory;
@@ -543,9 +543,9 @@ pub does_with_keeps :
     (use_db : Option ℕ) (w : Operation) (o : Operand) (p : ExecState) → IfDone (Keeps w p) (effect_with use_db w o p)
 unfolding effect_with
 does_with_keeps None w o p = effect_keeps w o p
-does_with_keeps (Some number) w o p = by (is_loaded number p.memory) refl
+does_with_keeps (Some number) w o p = by (is_block_loaded number p.memory) refl
   where
-    by : (loaded : Bool) → is_loaded number p.memory ≡ loaded
+    by : (loaded : Bool) → is_block_loaded number p.memory ≡ loaded
         → IfDone (Keeps w p) (if loaded then effect w o (with_db number p) else Err 0x3A)
     by true is =
         done_more (Keeps w (with_db number p)) (Keeps w p) (effect w o (with_db number p))

@@ -9,7 +9,7 @@ use Rattle.machine.specs.declared.outcomes.Outcome.{Outcome}
 use Rattle.machine.specs.declared.outcomes.Outcome.TheVariants as outcome
 use Rattle.machine.specs.Flat.{code_of}
 use Rattle.machine.specs.ImageLaws.{ImageLaws}
-use Rattle.machine.specs.Lasting.{FitsProgram, IsReady, Lasts, Leaves, LeavesFit}
+use Rattle.machine.specs.Lasting.{FitsProgram, IsStatementReady, Lasts, LeavesActivation, LeavesFit}
 use Rattle.machine.specs.OpenBrackets.{open_codes}
 use Rattle.machine.specs.Statement.{World, Step, Went, Ended, SyncError, SysCall, Stop, Stuck, statement, IsOutcomeOf}
 use Rattle.machine.proofs.FrameBytes.{depth_is}
@@ -17,7 +17,7 @@ use Rattle.machine.proofs.Instructions.{statement_lasts}
 use Rattle.machine.proofs.Ready.{fits_goes}
 use Rattle.machine.proofs.Sizes.{same_sizes, memory_stays}
 
-pub ready_is : (l : ImageLaws) (p : Program) (m : Areas) (a : Activation) → Verifies p → FitsProgram p m a → IsReady p a
+pub ready_is : (l : ImageLaws) (p : Program) (m : Areas) (a : Activation) → Verifies p → FitsProgram p m a → IsStatementReady p a
 ready_is l p m a verifies h = record {
   stands = h.fits.stands;
   depth = depth_is (frames_of a) a.running.locals h.fits.locals;
@@ -25,7 +25,7 @@ ready_is l p m a verifies h = record {
 }
 
 -- the same memory
-unchanged : (p : Program) (old new : World) (a : Activation) (answer : Outcome) → new ≡ old → Leaves p old.memory a answer → LeavesFit p old.memory new.memory a answer
+unchanged : (p : Program) (old new : World) (a : Activation) (answer : Outcome) → new ≡ old → LeavesActivation p old.memory a answer → LeavesFit p old.memory new.memory a answer
 unchanged p old new a answer same leaves = rw same (record { sizes = same_sizes old.memory; leaves = leaves })
 
 step_leaves :

@@ -6,22 +6,22 @@ use Rattle.timers_counters.specs.Timer.{Timer}
 use Rattle.timers_counters.specs.Counter.{Counter}
 use Rattle.frames.specs.declared.running.Running.{Running}
 use Rattle.machine.specs.ExecState.{Local, LocalMemory, exec_state_of}
-use Rattle.machine.specs.Outcomes.{Answer, Meets, Acts, Checks, Changes, Turns}
+use Rattle.machine.specs.Outcomes.{ErrorAnswer, ChangesExecState, ChangesLocalMemory, ChangesRunningRegs, ChangesRegs, ChangesLocal}
 use Rattle.machine.specs.Timing.{Times}
-use Rattle.machine.specs.Effect.{on_regs, on_local, on_local_memory, on_timers, on_counters}
+use Rattle.machine.specs.Effect.{effect_on_regs, on_local, on_local_memory, on_timers, on_counters}
 
 pub checks_meet :
-    (e : Result Regs ℕ) (old new : Running) (m : Areas) (t : List Timer) (n : List Counter) (r : Answer)
-    → Checks e old new r → Meets (on_regs (exec_state_of old m t n) e) old new m m t t n n r
+    (e : Result Regs ℕ) (old new : Running) (m : Areas) (t : List Timer) (n : List Counter) (r : ErrorAnswer)
+    → ChangesRunningRegs e old new r → ChangesExecState (effect_on_regs (exec_state_of old m t n) e) old new m m t t n n r
 checks_meet (Ok x) old new m t n (Ok answer) h = (h, refl, refl, refl)
 checks_meet (Err e) old new m t n (Err code) h = (h.0, (h.1, refl, refl, refl))
 checks_meet (Ok x) old new m t n (Err code) h = absurd h
 checks_meet (Err e) old new m t n (Ok answer) h = absurd h
 
 pub changes_meet :
-    (e : Result Regs ℕ) (old : Running) (regs : Regs) (m : Areas) (t : List Timer) (n : List Counter) (r : Answer)
-    → Changes e old.regs regs r
-    → Meets (on_regs (exec_state_of old m t n) e) old (record old { regs = regs }) m m t t n n r
+    (e : Result Regs ℕ) (old : Running) (regs : Regs) (m : Areas) (t : List Timer) (n : List Counter) (r : ErrorAnswer)
+    → ChangesRegs e old.regs regs r
+    → ChangesExecState (effect_on_regs (exec_state_of old m t n) e) old (record old { regs = regs }) m m t t n n r
 changes_meet (Ok x) old regs m t n (Ok answer) h =
     (ap (λ (z : Regs). record old { regs = z }) h, refl, refl, refl)
 changes_meet (Err e) old regs m t n (Err code) h =
@@ -30,32 +30,32 @@ changes_meet (Ok x) old regs m t n (Err code) h = absurd h
 changes_meet (Err e) old regs m t n (Ok answer) h = absurd h
 
 pub turns_meet :
-    (e : Result Local ℕ) (old new : Running) (m : Areas) (t : List Timer) (n : List Counter) (r : Answer)
-    → Turns e old new r → Meets (on_local (exec_state_of old m t n) e) old new m m t t n n r
+    (e : Result Local ℕ) (old new : Running) (m : Areas) (t : List Timer) (n : List Counter) (r : ErrorAnswer)
+    → ChangesLocal e old new r → ChangesExecState (on_local (exec_state_of old m t n) e) old new m m t t n n r
 turns_meet (Ok x) old new m t n (Ok answer) h = (h, refl, refl, refl)
 turns_meet (Err e) old new m t n (Err code) h = (h.0, (h.1, refl, refl, refl))
 turns_meet (Ok x) old new m t n (Err code) h = absurd h
 turns_meet (Err e) old new m t n (Ok answer) h = absurd h
 
 pub acts_meet :
-    (e : Result LocalMemory ℕ) (old new : Running) (m m' : Areas) (t : List Timer) (n : List Counter) (r : Answer)
-    → Acts e old new m m' r → Meets (on_local_memory (exec_state_of old m t n) e) old new m m' t t n n r
+    (e : Result LocalMemory ℕ) (old new : Running) (m m' : Areas) (t : List Timer) (n : List Counter) (r : ErrorAnswer)
+    → ChangesLocalMemory e old new m m' r → ChangesExecState (on_local_memory (exec_state_of old m t n) e) old new m m' t t n n r
 acts_meet (Ok x) old new m m' t n (Ok answer) h = (h.0, h.1, refl, refl)
 acts_meet (Err e) old new m m' t n (Err code) h = (h.0, (h.1.0, h.1.1, refl, refl))
 acts_meet (Ok x) old new m m' t n (Err code) h = absurd h
 acts_meet (Err e) old new m m' t n (Ok answer) h = absurd h
 
 pub times_meet :
-    (e : Result (List Timer) ℕ) (old new : Running) (m : Areas) (t t' : List Timer) (n : List Counter) (r : Answer)
-    → Times e old new t t' r → Meets (on_timers (exec_state_of old m t n) e) old new m m t t' n n r
+    (e : Result (List Timer) ℕ) (old new : Running) (m : Areas) (t t' : List Timer) (n : List Counter) (r : ErrorAnswer)
+    → Times e old new t t' r → ChangesExecState (on_timers (exec_state_of old m t n) e) old new m m t t' n n r
 times_meet (Ok x) old new m t t' n (Ok answer) h = (h.0, refl, h.1, refl)
 times_meet (Err e) old new m t t' n (Err code) h = (h.0, (h.1.0, refl, h.1.1, refl))
 times_meet (Ok x) old new m t t' n (Err code) h = absurd h
 times_meet (Err e) old new m t t' n (Ok answer) h = absurd h
 
 pub counts_meet :
-    (e : Result (List Counter) ℕ) (old new : Running) (m : Areas) (t : List Timer) (n n' : List Counter) (r : Answer)
-    → Times e old new n n' r → Meets (on_counters (exec_state_of old m t n) e) old new m m t t n n' r
+    (e : Result (List Counter) ℕ) (old new : Running) (m : Areas) (t : List Timer) (n n' : List Counter) (r : ErrorAnswer)
+    → Times e old new n n' r → ChangesExecState (on_counters (exec_state_of old m t n) e) old new m m t t n n' r
 counts_meet (Ok x) old new m t n n' (Ok answer) h = (h.0, refl, refl, h.1)
 counts_meet (Err e) old new m t n n' (Err code) h = (h.0, (h.1.0, refl, refl, h.1.1))
 counts_meet (Ok x) old new m t n n' (Err code) h = absurd h

@@ -8,8 +8,8 @@ use Rattle.frames.specs.declared.bindings.Binding.{Binding}
 use Rattle.frames.specs.declared.frame.Frame.{Frame}
 use Rattle.frames.specs.declared.running.Running.{Running}
 use Rattle.flat_code.specs.Programs.{Program}
-use Rattle.machine.specs.Code.{Code, Head}
-use Rattle.machine.specs.Fitting.{OpenAt, OpenCodes, IsOpen, AreBound, HasInstance, FitsBlock, FrameFits, FramesFit, LocalsFit, Fits, SameSizes, open_of}
+use Rattle.machine.specs.Code.{Code, BlockHead}
+use Rattle.machine.specs.Fitting.{OpenAt, OpenCodes, IsOpen, AreBound, HasInstance, FitsBlock, FrameFits, FramesFit, LocalsFit, ActivationFits, SameSizes, open_in_frame}
 use Rattle.machine.specs.Flat.{code_of}
 use Rattle.machine.specs.ImageLaws.{ImageLaws}
 use Rattle.machine.specs.Lasting.{FitsProgram}
@@ -37,7 +37,7 @@ pub record Stands (c : Code) (brackets : OpenCodes) (m : Areas) (a : Activation)
   pub locals : LocalsFit (a.running.frame ∷ a.below) a.running.locals
 
 pub stands_of :
-    (c : Code) (brackets : OpenCodes) (m : Areas) (a : Activation) → Fits c brackets m a → Stands c brackets m a
+    (c : Code) (brackets : OpenCodes) (m : Areas) (a : Activation) → ActivationFits c brackets m a → Stands c brackets m a
 stands_of c brackets m a fits =
     let frames = standing a.left (FramesFit c brackets m) (a.running.frame ∷ a.below) fits.stands fits.frames in
     record {
@@ -48,7 +48,7 @@ stands_of c brackets m a fits =
     }
 
 pub fits_of :
-    (c : Code) (brackets : OpenCodes) (m : Areas) (a : Activation) → Stands c brackets m a → Fits c brackets m a
+    (c : Code) (brackets : OpenCodes) (m : Areas) (a : Activation) → Stands c brackets m a → ActivationFits c brackets m a
 fits_of c brackets m a s = record {
   stands = s.left;
   frames = stood a.left (FramesFit c brackets m) (a.running.frame ∷ a.below) s.left (s.frame, s.below);
@@ -60,7 +60,7 @@ frames_are a is = rw is refl
 
 -- what is open in a frame
 abbrev pub frame_open : Frame → OpenAt
-frame_open f = open_of f.brackets f.relay
+frame_open f = open_in_frame f.brackets f.relay
 
 -- ---- a frame that goes on
 
@@ -80,9 +80,9 @@ same_block :
     → g.bindings ≡ f.bindings → g.instance ≡ f.instance → FitsBlock (c.head f.block) f below n
     → FitsBlock (c.head g.block) g below n
 same_block c f g below n block len bindings instance fits =
-    subst (λ (o : Option Head). FitsBlock o g below n) (ap (λ (k : BlockId). c.head k) (sym block)) (by (c.head f.block) fits)
+    subst (λ (o : Option BlockHead). FitsBlock o g below n) (ap (λ (k : BlockId). c.head k) (sym block)) (by (c.head f.block) fits)
   where
-    by : (h : Option Head) → FitsBlock h f below n → FitsBlock h g below n
+    by : (h : Option BlockHead) → FitsBlock h f below n → FitsBlock h g below n
     by None fits = fits
     by (Some h) fits = record {
       local_len = len ∙ fits.local_len;

@@ -12,9 +12,9 @@ use Rattle.flat_code.specs.declared.operations.Operation.TheVariants as operatio
 use Rattle.flat_code.specs.declared.operations.TheConstants.{OPERATIONS}
 use Rattle.flat_code.specs.Blocks.{prepares}
 use Rattle.flat_code.specs.Codes.{size}
-use Rattle.flat_code.specs.OpCodes.{code_of as op_code}
+use Rattle.flat_code.specs.OpCodes.{op_code_of as op_code}
 use Rattle.flat_code.specs.Ops.{OpData}
-use Rattle.flat_code.specs.Placed.{Placed, bracket_codes, opens, opened, zones_behind, inner, before_next}
+use Rattle.flat_code.specs.Placed.{Placed, bracket_codes, is_opening, brackets_after, zones_behind_op, outer_brackets, before_next}
 use Rattle.flat_code.specs.Operations.{operation_of}
 use Rattle.machine.specs.Fitting.{OpenAt}
 use Rattle.machine.specs.OpenBrackets.{check_named, checks_of, open_at}
@@ -69,7 +69,7 @@ told kind named from (w ∷ ws) (suc i) none all o =
 
 -- only A( to XN( open a bracket, and only `)` closes one
 abbrev of_brackets : ℕ → Bool
-of_brackets code = opens code || eqb code (op_code operation.Unnest)
+of_brackets code = is_opening code || eqb code (op_code operation.Unnest)
 
 brackets_told : all_told is_other of_brackets 0 OPERATIONS ≡ true
 brackets_told = refl
@@ -85,21 +85,21 @@ neither : (x y : Bool) → x ≡ false → y ≡ false → (x || y) ≡ false
 neither false y a b = b
 neither true y a b = absurd cc
 
-other_code : (code : ℕ) → opens code ≡ false → eqb code (op_code operation.Unnest) ≡ false → is_other (operation_of code) ≡ true
+other_code : (code : ℕ) → is_opening code ≡ false → eqb code (op_code operation.Unnest) ≡ false → is_other (operation_of code) ≡ true
 unfolding operation_of
 other_code code o c =
     let e : 0 + code ≡ code = omega arith in
     told is_other of_brackets 0 OPERATIONS code refl brackets_told
-    (rw (sym e) at (neither (opens code) (eqb code (op_code operation.Unnest)) o c))
+    (rw (sym e) at (neither (is_opening code) (eqb code (op_code operation.Unnest)) o c))
 
-quiet_word : (code : ℕ) (codes : List Check) → opens code ≡ false → eqb code (op_code operation.Unnest) ≡ false → codes_after (operation_of code) codes ≡ codes
+quiet_word : (code : ℕ) (codes : List Check) → is_opening code ≡ false → eqb code (op_code operation.Unnest) ≡ false → codes_after (operation_of code) codes ≡ codes
 quiet_word code codes o c = other_same (operation_of code) codes (other_code code o c)
 
 -- an operation that opens a bracket has such a code, and the one that closes has its own
-pub nest_opens : (code : ℕ) → is_other (operation_of code) ≡ false → (eqb code (op_code operation.Unnest) ≡ true → ⊥) → opens code ≡ true
-nest_opens code told_by other = by (opens code) refl
+pub nest_opens : (code : ℕ) → is_other (operation_of code) ≡ false → (eqb code (op_code operation.Unnest) ≡ true → ⊥) → is_opening code ≡ true
+nest_opens code told_by other = by (is_opening code) refl
   where
-    by : (o : Bool) → opens code ≡ o → o ≡ true
+    by : (o : Bool) → is_opening code ≡ o → o ≡ true
     by true o = refl
     by false o =
         let is = other_code code o (not_true (eqb code (op_code operation.Unnest)) other) in
@@ -109,14 +109,14 @@ nest_opens code told_by other = by (opens code) refl
         not_true true h = absurd (h refl)
         not_true false h = refl
 
-one_of_six : (code : ℕ) → opens code ≡ true → (code ≡ 0x18) ⊎ ((code ≡ 0x19) ⊎ ((code ≡ 0x1A) ⊎ ((code ≡ 0x1B) ⊎ ((code ≡ 0x1C) ⊎ (code ≡ 0x1D)))))
+one_of_six : (code : ℕ) → is_opening code ≡ true → (code ≡ 0x18) ⊎ ((code ≡ 0x19) ⊎ ((code ≡ 0x1A) ⊎ ((code ≡ 0x1B) ⊎ ((code ≡ 0x1C) ⊎ (code ≡ 0x1D)))))
 one_of_six code h =
     let parts = and_parts (leb 0x18 code) (leb code 0x1D) h in
     let low = leb-true 0x18 code parts.0 in
     let high = leb-true code 0x1D parts.1 in
     grind (arith, low, high)
 
-pub opening_word : (code : ℕ) (codes : List Check) → opens code ≡ true → codes_after (operation_of code) codes ≡ check_named code ∷ codes
+pub opening_word : (code : ℕ) (codes : List Check) → is_opening code ≡ true → codes_after (operation_of code) codes ≡ check_named code ∷ codes
 unfolding operation_of
 opening_word code codes h = by (one_of_six code h)
   where
@@ -155,29 +155,29 @@ last_of b (c ∷ bs) =
     let more = last_of c bs in
     record { front = b ∷ more.front; one = more.one; is = ap (λ (z : List OpenBracket). b ∷ z) more.is }
 
-inner_push : (bs : List OpenBracket) (b : OpenBracket) → inner (bs ++ b ∷ []) ≡ bs
+inner_push : (bs : List OpenBracket) (b : OpenBracket) → outer_brackets (bs ++ b ∷ []) ≡ bs
 inner_push bs b =
     let e = length-append bs (b ∷ []) in
     let n : length (bs ++ b ∷ []) - 1 ≡ length bs = omega (arith, e) in
     ap (λ (k : ℕ). take k (bs ++ b ∷ [])) n ∙ take-append_seam bs (b ∷ [])
 
-checks_inner : (bs : List OpenBracket) → checks_of (inner bs) ≡ codes_after operation.Unnest (checks_of bs)
+checks_inner : (bs : List OpenBracket) → checks_of (outer_brackets bs) ≡ codes_after operation.Unnest (checks_of bs)
 checks_inner [] = refl
 checks_inner (b ∷ bs) =
     let l = last_of b bs in
-    ap (λ (z : List OpenBracket). checks_of (inner z)) l.is
+    ap (λ (z : List OpenBracket). checks_of (outer_brackets z)) l.is
     ∙ ap checks_of (inner_push l.front l.one)
     ∙ sym (ap (λ (z : List OpenBracket). codes_after operation.Unnest (checks_of z)) l.is
     ∙ ap (codes_after operation.Unnest) (checks_push l.front l.one))
 
-pub checks_behind : (at code : ℕ) (bs : List OpenBracket) → checks_of (opened at code bs) ≡ codes_after (operation_of code) (checks_of bs)
-checks_behind at code bs = by (opens code) refl
+pub checks_behind : (at code : ℕ) (bs : List OpenBracket) → checks_of (brackets_after at code bs) ≡ codes_after (operation_of code) (checks_of bs)
+checks_behind at code bs = by (is_opening code) refl
   where
-    closes : (c : Bool) → opens code ≡ false → eqb code (op_code operation.Unnest) ≡ c → checks_of (cond c (inner bs) bs) ≡ codes_after (operation_of code) (checks_of bs)
+    closes : (c : Bool) → is_opening code ≡ false → eqb code (op_code operation.Unnest) ≡ c → checks_of (cond c (outer_brackets bs) bs) ≡ codes_after (operation_of code) (checks_of bs)
     closes true o e = checks_inner bs ∙ sym (closing_word code (checks_of bs) e)
     closes false o e = sym (quiet_word code (checks_of bs) o e)
 
-    by : (o : Bool) → opens code ≡ o → checks_of (cond o (bs ++ record { at = at; code = code } ∷ []) (cond (eqb code (op_code operation.Unnest)) (inner bs) bs)) ≡ codes_after (operation_of code) (checks_of bs)
+    by : (o : Bool) → is_opening code ≡ o → checks_of (cond o (bs ++ record { at = at; code = code } ∷ []) (cond (eqb code (op_code operation.Unnest)) (outer_brackets bs) bs)) ≡ codes_after (operation_of code) (checks_of bs)
     by true o = checks_push bs (record { at = at; code = code }) ∙ sym (opening_word code (checks_of bs) o)
     by false o = closes (eqb code (op_code operation.Unnest)) o refl
 
@@ -243,7 +243,7 @@ pop_count (zone ∷ zones) =
     taken [] zone = refl
     taken (z ∷ zones) zone = ap suc (taken zones z)
 
-count_behind : (at code : ℕ) (zones : List ℕ) → length (zones_behind at code zones) ≡ zones_after (operation_of code) (length zones)
+count_behind : (at code : ℕ) (zones : List ℕ) → length (zones_behind_op at code zones) ≡ zones_after (operation_of code) (length zones)
 count_behind at code zones = by (eqb code (op_code (operation.Relay relay.Open))) refl
   where
     ends : (c : Bool) → eqb code (op_code (operation.Relay relay.Open)) ≡ false → eqb code (op_code (operation.Relay relay.Close)) ≡ c
@@ -268,8 +268,8 @@ same_open codes checks zones count a b = rw (a, b) refl
 abbrev pub behind_op : Placed → OpData → List OpData → Placed
 behind_op q op rest = record {
   at = q.at + size q.op;
-  brackets = opened q.at q.op.code q.brackets;
-  zones = zones_behind q.at q.op.code q.zones;
+  brackets = brackets_after q.at q.op.code q.brackets;
+  zones = zones_behind_op q.at q.op.code q.zones;
   before = before_next q.op q.before;
   op = op;
   rest = rest;
@@ -278,24 +278,24 @@ behind_op q op rest = record {
 -- behind an op that stands behind these
 pub left_behind : (q : Placed) (op : OpData) (rest : List OpData) → open_at (behind_op q op rest) ≡ left_open (operation_of q.op.code) (open_at q)
 left_behind q op rest =
-    same_open (checks_of (opened q.at q.op.code q.brackets)) (codes_after (operation_of q.op.code) (checks_of q.brackets))
-    (length (zones_behind q.at q.op.code q.zones)) (zones_after (operation_of q.op.code) (length q.zones))
+    same_open (checks_of (brackets_after q.at q.op.code q.brackets)) (codes_after (operation_of q.op.code) (checks_of q.brackets))
+    (length (zones_behind_op q.at q.op.code q.zones)) (zones_after (operation_of q.op.code) (length q.zones))
     (checks_behind q.at q.op.code q.brackets) (count_behind q.at q.op.code q.zones)
 
 -- ops that prepare leave brackets and zones
 pub two_or_four : (code : ℕ) → prepares code ≡ true → (code ≡ 2) ⊎ (code ≡ 4)
 two_or_four code h = grind (arith, nat_tests, h)
 
-pub prepared_same : (at code : ℕ) (bs : List OpenBracket) → prepares code ≡ true → opened at code bs ≡ bs
+pub prepared_same : (at code : ℕ) (bs : List OpenBracket) → prepares code ≡ true → brackets_after at code bs ≡ bs
 prepared_same at code bs h = by (two_or_four code h)
   where
-    by : (code ≡ 2) ⊎ (code ≡ 4) → opened at code bs ≡ bs
+    by : (code ≡ 2) ⊎ (code ≡ 4) → brackets_after at code bs ≡ bs
     by (inl e) = rw e refl
     by (inr e) = rw e refl
 
-pub prepared_zones : (at code : ℕ) (zones : List ℕ) → prepares code ≡ true → zones_behind at code zones ≡ zones
+pub prepared_zones : (at code : ℕ) (zones : List ℕ) → prepares code ≡ true → zones_behind_op at code zones ≡ zones
 prepared_zones at code zones h = by (two_or_four code h)
   where
-    by : (code ≡ 2) ⊎ (code ≡ 4) → zones_behind at code zones ≡ zones
+    by : (code ≡ 2) ⊎ (code ≡ 4) → zones_behind_op at code zones ≡ zones
     by (inl e) = rw e refl
     by (inr e) = rw e refl

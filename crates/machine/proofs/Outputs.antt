@@ -13,7 +13,7 @@ use Rattle.plc_base.specs.declared.Width.TheVariants as widths
 use Rattle.plc_mem.specs.Areas.{Areas, PeripheralBytes}
 use Rattle.plc_mem.specs.BitPlace.{Region, Inputs, Outputs, BitMemory, PeripheralInputs, PeripheralOutputs, DataBlock}
 use Rattle.plc_mem.specs.Number.{region_of}
-use Rattle.plc_mem.specs.Writing.{put as put_bytes, put_peripheral, put_in_block, written, written_in}
+use Rattle.plc_mem.specs.Writing.{put_number as put_bytes, put_peripheral, put_in_block, number_written, number_written_in}
 use Rattle.plc_mem.proofs.Runs.{mapped}
 use Rattle.status_word.specs.declared.Regs.{Regs}
 use Rattle.timers_counters.specs.Timer.{Timer}
@@ -32,17 +32,17 @@ use Rattle.machine.specs.declared.places.Access.{Access}
 use Rattle.machine.specs.declared.places.Access.TheVariants.{Writing}
 use Rattle.machine.specs.declared.places.Location.{Location}
 use Rattle.machine.specs.ExecState.{Local, LocalMemory, ExecState, then_ok}
-use Rattle.machine.specs.Places.{absent, address, at_pointer, by_pointer, error_of, in_area, in_register, is_aligned, is_bit, is_local, is_peripheral, located, moved, of_binding, pointer}
-use Rattle.machine.specs.Values.{is_timer, with_locals, stored_at, write}
-use Rattle.machine.specs.BitLogic.{put_bit, bit_number, with_regs, bit_before, assigned, assigned_at, bit_set, set_at, edge, edge_at}
-use Rattle.machine.specs.Copies.{comes_in, in_instance, scene_or, put, copied, passed_to, param_in, params_in}
-use Rattle.machine.specs.Relay.{closed, relayed}
-use Rattle.machine.specs.Loads.{transferred, transferring}
+use Rattle.machine.specs.Places.{absent, register_address, at_pointer, by_pointer, error_of, open_area_location, open_block_location, is_aligned, is_bit_width, is_area_l, is_area_p, operand_location, address_moved_by, of_binding, pointer_number}
+use Rattle.machine.specs.Values.{is_timer_kind, with_locals, stored_at, write}
+use Rattle.machine.specs.BitLogic.{put_bit, bit_as_number, with_local_regs, bit_before, bit_assigned, assigned_at, bit_set, bit_set_at, edge, edge_at}
+use Rattle.machine.specs.Copies.{comes_in, in_instance, scene_or, number_put, number_copied, passed_to, param_in, params_copied_in}
+use Rattle.machine.specs.Relay.{is_writing_off, relay_effect}
+use Rattle.machine.specs.Loads.{number_transferred, transferring}
 use Rattle.machine.specs.Timing.{timer_reset, counter_reset, timer_freed, counter_freed}
-use Rattle.machine.specs.Pointers.{pointed, address_loaded, address_transferred}
-use Rattle.machine.specs.DataBlocks.{is_loaded}
-use Rattle.machine.specs.Effect.{on_regs, on_local, on_local_memory, on_timers, on_counters, kind_named, set_of, reset_of, free_of, effect, with_db, effect_with}
-use Rattle.machine.specs.Silent.{is_inside, is_bound_inside, has_place_inside, keeps_outputs}
+use Rattle.machine.specs.Pointers.{pointer_effect, address_loaded, address_transferred}
+use Rattle.machine.specs.DataBlocks.{is_block_loaded}
+use Rattle.machine.specs.Effect.{effect_on_regs, on_local, on_local_memory, on_timers, on_counters, kind_named, set_of, reset_of, free_of, effect, with_db, effect_with}
+use Rattle.machine.specs.Silent.{is_inside_area, is_bound_inside, has_place_inside, keeps_outputs}
 use Rattle.machine.proofs.Keeping.{IfDone, then_done, done_then}
 
 -- what is written outside the peripheral area
@@ -55,7 +55,7 @@ IsInsideRegion _ = Unit {0}
 
 region_stays :
     (m n : Areas) (region : Region) (byte bit : ℕ) (width : Width) (value : ℕ) → IsInsideRegion region
-    → written_in m region byte bit width value ≡ Some n → Stay m n
+    → number_written_in m region byte bit width value ≡ Some n → Stay m n
 region_stays m n Inputs byte bit width value inside done =
     let was = mapped (λ (s : List ℕ). let r : Areas = record m { inputs = s } in r) (put_bytes m.inputs byte bit width value) n done in
     rw (sym was.2) refl
@@ -77,14 +77,14 @@ region_stays m n (DataBlock k) byte bit width value inside done =
 
 if_zero :
     (m n : Areas) (region : Region) (byte bit : ℕ) (width : Width) (value : ℕ) (is_zero : Bool) → IsInsideRegion region
-    → option_and_then (λ (r : Region). written_in m r byte bit width value) (cond is_zero (Some region) None) ≡ Some n
+    → option_and_then (λ (r : Region). number_written_in m r byte bit width value) (cond is_zero (Some region) None) ≡ Some n
     → Stay m n
 if_zero m n region byte bit width value true inside done = region_stays m n region byte bit width value inside done
 if_zero m n region byte bit width value false inside done = absurd cc
 
 by_area :
-    (m n : Areas) (area : Area) (number byte bit : ℕ) (width : Width) (value : ℕ) → is_peripheral area ≡ false
-    → option_and_then (λ (r : Region). written_in m r byte bit width value) (region_of PeripheralOutputs area number) ≡ Some n
+    (m n : Areas) (area : Area) (number byte bit : ℕ) (width : Width) (value : ℕ) → is_area_p area ≡ false
+    → option_and_then (λ (r : Region). number_written_in m r byte bit width value) (region_of PeripheralOutputs area number) ≡ Some n
     → Stay m n
 by_area m n areas.I number byte bit width value inside done = if_zero m n Inputs byte bit width value (nat_eq number 0) tt done
 by_area m n areas.Q number byte bit width value inside done = if_zero m n Outputs byte bit width value (nat_eq number 0) tt done
@@ -95,9 +95,9 @@ by_area m n areas.Di number byte bit width value inside done = absurd cc
 by_area m n areas.L number byte bit width value inside done = absurd cc
 
 pub written_stays :
-    (m n : Areas) (place : Place) (width : Width) (value : ℕ) → is_peripheral place.area ≡ false
-    → written m place width value ≡ Some n → Stay m n
-unfolding written
+    (m n : Areas) (place : Place) (width : Width) (value : ℕ) → is_area_p place.area ≡ false
+    → number_written m place width value ≡ Some n → Stay m n
+unfolding number_written
 written_stays m n place width value inside done =
     by_area m n place.area place.number place.byte place.bit width value inside done
 
@@ -107,11 +107,11 @@ abbrev pub MemoryStays : Areas → LocalMemory → Type 0
 MemoryStays m c = Stay m c.memory
 
 either_stored :
-    (at : Location) (value : ℕ) (s : Local) (m : Areas) (c : LocalMemory) (local : Bool) → is_peripheral at.place.area ≡ false
+    (at : Location) (value : ℕ) (s : Local) (m : Areas) (c : LocalMemory) (local : Bool) → is_area_p at.place.area ≡ false
     → cond local
     (option_map (λ (l : LocalData). let r : LocalMemory = record { local = with_locals s l; memory = m } in r)
     (local_written s.locals at.frame at.place.byte at.place.bit at.width value))
-    (option_map (λ (n : Areas). let r : LocalMemory = record { local = s; memory = n } in r) (written m at.place at.width value))
+    (option_map (λ (n : Areas). let r : LocalMemory = record { local = s; memory = n } in r) (number_written m at.place at.width value))
     ≡ Some c
     → MemoryStays m c
 either_stored at value s m c true inside done =
@@ -119,7 +119,7 @@ either_stored at value s m c true inside done =
     (local_written s.locals at.frame at.place.byte at.place.bit at.width value) c done in
     rw (sym was.2) refl
 either_stored at value s m c false inside done =
-    let was = mapped (λ (n : Areas). let r : LocalMemory = record { local = s; memory = n } in r) (written m at.place at.width value) c done in
+    let was = mapped (λ (n : Areas). let r : LocalMemory = record { local = s; memory = n } in r) (number_written m at.place at.width value) c done in
     rw (sym was.2) (written_stays m was.0 at.place at.width value inside was.1)
 
 stored_if :
@@ -129,27 +129,27 @@ stored_if m (Some c) code h = h c refl
 stored_if m None code h = tt
 
 pub write_stays :
-    (at : Location) (value : ℕ) (s : Local) (m : Areas) → is_peripheral at.place.area ≡ false
+    (at : Location) (value : ℕ) (s : Local) (m : Areas) → is_area_p at.place.area ≡ false
     → IfDone (MemoryStays m) (write at value s m)
 unfolding write
 write_stays at value s m inside =
     stored_if m (stored_at at value s m) (absent Writing at.place.area)
-    (λ c is. either_stored at value s m c (is_local at.place.area) inside is)
+    (λ c is. either_stored at value s m c (is_area_l at.place.area) inside is)
 
 put_stays :
-    (at : Location) (bit : Bool) (r : Regs) (s : Local) (m : Areas) → is_peripheral at.place.area ≡ false
+    (at : Location) (bit : Bool) (r : Regs) (s : Local) (m : Areas) → is_area_p at.place.area ≡ false
     → IfDone (MemoryStays m) (put_bit at bit r s m)
 unfolding put_bit
 put_stays at bit r s m inside =
-    done_then (MemoryStays m) (MemoryStays m) (write at (bit_number bit) s m) (λ c. Ok (with_regs r c))
-    (write_stays at (bit_number bit) s m inside) (λ c stays. stays)
+    done_then (MemoryStays m) (MemoryStays m) (write at (bit_as_number bit) s m) (λ c. Ok (with_local_regs r c))
+    (write_stays at (bit_as_number bit) s m inside) (λ c stays. stays)
 
 -- ---- places
 
 abbrev IsPlacedInside : Location → Type 0
-IsPlacedInside at = is_peripheral at.place.area ≡ false
+IsPlacedInside at = is_area_p at.place.area ≡ false
 
-inside_is : (area : Area) → is_inside area ≡ true → is_peripheral area ≡ false
+inside_is : (area : Area) → is_inside_area area ≡ true → is_area_p area ≡ false
 inside_is areas.I h = refl
 inside_is areas.Q h = refl
 inside_is areas.M h = refl
@@ -159,14 +159,14 @@ inside_is areas.Di h = refl
 inside_is areas.L h = refl
 
 register_inside :
-    (register : Option ℕ) (error byte bit : ℕ) (width : Width) → IfDone IsPlacedInside (in_register register error byte bit width)
+    (register : Option ℕ) (error byte bit : ℕ) (width : Width) → IfDone IsPlacedInside (open_block_location register error byte bit width)
 register_inside (Some number) error byte bit width = refl
 register_inside None error byte bit width = tt
 
 area_inside :
-    (area : Area) (byte bit : ℕ) (width : Width) (s : Local) → is_inside area ≡ true
-    → IfDone IsPlacedInside (in_area area byte bit width s)
-unfolding in_area
+    (area : Area) (byte bit : ℕ) (width : Width) (s : Local) → is_inside_area area ≡ true
+    → IfDone IsPlacedInside (open_area_location area byte bit width s)
+unfolding open_area_location
 area_inside areas.I byte bit width s h = refl
 area_inside areas.Q byte bit width s h = refl
 area_inside areas.M byte bit width s h = refl
@@ -188,7 +188,7 @@ where_right true e x h = h
 where_right false e x h = tt
 
 pointer_inside :
-    (access : Access) (area : Area) (width : Width) (n : ℕ) (s : Local) → is_inside area ≡ true
+    (access : Access) (area : Area) (width : Width) (n : ℕ) (s : Local) → is_inside_area area ≡ true
     → IfDone IsPlacedInside (by_pointer access area width n s)
 unfolding by_pointer
 pointer_inside access area width n s h =
@@ -204,16 +204,16 @@ binding_inside None h = tt
 
 located_inside :
     (access : Access) (o : Operand) (s : Local) (m : Areas) → has_place_inside o s.inner.bindings ≡ true
-    → IfDone IsPlacedInside (located access o s m)
-unfolding located
+    → IfDone IsPlacedInside (operand_location access o s m)
+unfolding operand_location
 located_inside access (operand.Direct area width byte bit) s m h =
-    unless_error (is_peripheral area && is_bit width) (error_of access 0x24) (in_area area byte bit width s)
+    unless_error (is_area_p area && is_bit_width width) (error_of access 0x24) (open_area_location area byte bit width s)
     (area_inside area byte bit width s h)
 located_inside access (operand.ByMemory area width from byte) s m h =
-    then_done IsPlacedInside (pointer from byte widths.Dword s m) (λ n. by_pointer access area width n s)
+    then_done IsPlacedInside (pointer_number from byte widths.Dword s m) (λ n. by_pointer access area width n s)
     (λ n. pointer_inside access area width n s h)
 located_inside access (operand.ByRegister (Some area) width register bits) s m h =
-    pointer_inside access area width (moved (address register s) bits) s h
+    pointer_inside access area width (address_moved_by (register_address register s) bits) s h
 located_inside access (operand.ByRegister None width register bits) s m h = absurd cc
 located_inside access (operand.Parameter index width) s m h = binding_inside (slice_get s.inner.bindings index) h
 located_inside access _ s m h = tt
@@ -222,10 +222,10 @@ located_inside access _ s m h = tt
 
 assigned_stays :
     (o : Operand) (s : Local) (m : Areas) → has_place_inside o s.inner.bindings ≡ true
-    → IfDone (MemoryStays m) (assigned o s m)
-unfolding assigned
+    → IfDone (MemoryStays m) (bit_assigned o s m)
+unfolding bit_assigned
 assigned_stays o s m h =
-    done_then IsPlacedInside (MemoryStays m) (located Writing o s m) (λ at. assigned_at at s m)
+    done_then IsPlacedInside (MemoryStays m) (operand_location Writing o s m) (λ at. assigned_at at s m)
     (located_inside Writing o s m h) (λ at inside. put_stays at _ _ s m inside)
 
 set_stays :
@@ -233,10 +233,10 @@ set_stays :
     → IfDone (MemoryStays m) (bit_set value o s m)
 unfolding bit_set
 set_stays value o s m h =
-    done_then IsPlacedInside (MemoryStays m) (located Writing o s m)
-    (λ at. then_ok (bit_before at s m) (λ before. set_at value at before s m))
+    done_then IsPlacedInside (MemoryStays m) (operand_location Writing o s m)
+    (λ at. then_ok (bit_before at s m) (λ before. bit_set_at value at before s m))
     (located_inside Writing o s m h)
-    (λ at inside. then_done (MemoryStays m) (bit_before at s m) (λ before. set_at value at before s m)
+    (λ at inside. then_done (MemoryStays m) (bit_before at s m) (λ before. bit_set_at value at before s m)
     (λ before. put_stays at _ _ s m inside))
 
 edge_stays :
@@ -244,7 +244,7 @@ edge_stays :
     → IfDone (MemoryStays m) (edge rising o s m)
 unfolding edge
 edge_stays rising o s m h =
-    done_then IsPlacedInside (MemoryStays m) (located Writing o s m)
+    done_then IsPlacedInside (MemoryStays m) (operand_location Writing o s m)
     (λ at. then_ok (bit_before at s m) (λ before. edge_at rising at before s m))
     (located_inside Writing o s m h)
     (λ at inside. then_done (MemoryStays m) (bit_before at s m) (λ before. edge_at rising at before s m)
@@ -252,10 +252,10 @@ edge_stays rising o s m h =
 
 transferred_stays :
     (n : ℕ) (o : Operand) (s : Local) (m : Areas) → has_place_inside o s.inner.bindings ≡ true
-    → IfDone (MemoryStays m) (transferred n o s m)
-unfolding transferred
+    → IfDone (MemoryStays m) (number_transferred n o s m)
+unfolding number_transferred
 transferred_stays n o s m h =
-    done_then IsPlacedInside (MemoryStays m) (located Writing o s m) _
+    done_then IsPlacedInside (MemoryStays m) (operand_location Writing o s m) _
     (located_inside Writing o s m h) (λ at inside. write_stays at _ s m inside)
 
 address_stays :
@@ -280,8 +280,8 @@ address_stays n (operand.OpenBy register from byte) s m h = transferred_stays n 
 
 pointed_stays :
     (what : PointerOperation) (o : Operand) (s : Local) (m : Areas) → has_place_inside o s.inner.bindings ≡ true
-    → IfDone (MemoryStays m) (pointed what o s m)
-unfolding pointed
+    → IfDone (MemoryStays m) (pointer_effect what o s m)
+unfolding pointer_effect
 pointed_stays pointers.Lar1 o s m h = then_done (MemoryStays m) (address_loaded o s m) _ (λ n. refl)
 pointed_stays pointers.Lar2 o s m h = then_done (MemoryStays m) (address_loaded o s m) _ (λ n. refl)
 pointed_stays pointers.Tar1 o s m h = address_stays s.regs.ar1 o s m h
@@ -297,7 +297,7 @@ pointed_stays pointers.AddAr2 o s m h = refl
 abbrev pub StateStays : (p q : ExecState) → Type 0
 StateStays p q = Stay p.memory q.memory
 
-regs_stay : (p : ExecState) (r : Result Regs ℕ) → IfDone (StateStays p) (on_regs p r)
+regs_stay : (p : ExecState) (r : Result Regs ℕ) → IfDone (StateStays p) (effect_on_regs p r)
 regs_stay p (Ok r) = refl
 regs_stay p (Err e) = tt
 
@@ -327,7 +327,7 @@ reset_of_stays :
     (kind : Option ℕ) (o : Operand) (p : ExecState) → has_place_inside o p.local.inner.bindings ≡ true
     → IfDone (StateStays p) (reset_of kind o p)
 reset_of_stays None o p h = scene_stays p (bit_set false o p.local p.memory) (set_stays false o p.local p.memory h)
-reset_of_stays (Some kind) o p h = by (is_timer kind)
+reset_of_stays (Some kind) o p h = by (is_timer_kind kind)
   where
     by : (timer : Bool)
         → IfDone (StateStays p) (if timer then on_timers p (timer_reset o p.local p.memory p.timers) else on_counters p (counter_reset o p.local p.memory p.counters))
@@ -336,7 +336,7 @@ reset_of_stays (Some kind) o p h = by (is_timer kind)
 
 free_of_stays : (kind : Option ℕ) (o : Operand) (p : ExecState) → IfDone (StateStays p) (free_of kind o p)
 free_of_stays None o p = tt
-free_of_stays (Some kind) o p = by (is_timer kind)
+free_of_stays (Some kind) o p = by (is_timer_kind kind)
   where
     by : (timer : Bool)
         → IfDone (StateStays p) (if timer then on_timers p (timer_freed o p.local p.memory p.timers) else on_counters p (counter_freed o p.local p.memory p.counters))
@@ -353,10 +353,10 @@ effect_stays (operation.Check with) o p h = regs_stay p _
 effect_stays operation.OrBare o p h = refl
 effect_stays (operation.Nest with) o p h = own_stays p _
 effect_stays operation.Unnest o p h = own_stays p _
-effect_stays (operation.Relay which) o p h = own_stays p (relayed which p.local)
+effect_stays (operation.Relay which) o p h = own_stays p (relay_effect which p.local)
 effect_stays operation.Load o p h = regs_stay p _
-effect_stays operation.Transfer o p h = scene_stays p (transferring o p.local p.memory) (transferred_stays (if closed p.local then 0 else p.local.regs.a1) o p.local p.memory h)
-effect_stays operation.Assign o p h = scene_stays p (assigned o p.local p.memory) (assigned_stays o p.local p.memory h)
+effect_stays operation.Transfer o p h = scene_stays p (transferring o p.local p.memory) (transferred_stays (if is_writing_off p.local then 0 else p.local.regs.a1) o p.local p.memory h)
+effect_stays operation.Assign o p h = scene_stays p (bit_assigned o p.local p.memory) (assigned_stays o p.local p.memory h)
 effect_stays operation.Set o p h = set_of_stays (kind_named o) o p h
 effect_stays operation.Reset o p h = reset_of_stays (kind_named o) o p h
 effect_stays (operation.Edge rising) o p h = scene_stays p (edge rising o p.local p.memory) (edge_stays rising o p.local p.memory h)
@@ -368,7 +368,7 @@ effect_stays operation.LoadBcd o p h = regs_stay p _
 effect_stays operation.LoadStatus o p h = refl
 effect_stays operation.TransferStatus o p h = refl
 effect_stays operation.LoadOpenBlock o p h = regs_stay p _
-effect_stays (operation.Pointer what) o p h = scene_stays p (pointed what o p.local p.memory) (pointed_stays what o p.local p.memory h)
+effect_stays (operation.Pointer what) o p h = scene_stays p (pointer_effect what o p.local p.memory) (pointed_stays what o p.local p.memory h)
 effect_stays (operation.Number what) o p h = regs_stay p _
 effect_stays (operation.Add what) o p h = refl
 effect_stays (operation.CompareInt how) o p h = refl
@@ -393,7 +393,7 @@ pub effect_with_stays :
     → IfDone (StateStays p) (effect_with use_db w o p)
 unfolding effect_with
 effect_with_stays None w o p h = effect_stays w o p h
-effect_with_stays (Some number) w o p h = by (is_loaded number p.memory)
+effect_with_stays (Some number) w o p h = by (is_block_loaded number p.memory)
   where
     by : (loaded : Bool) → IfDone (StateStays p) (if loaded then effect w o (with_db number p) else Err 0x3A)
     by true = effect_stays w o (with_db number p) h
@@ -402,7 +402,7 @@ effect_with_stays (Some number) w o p h = by (is_loaded number p.memory)
 -- ---- parameters of a function block that come in
 
 put_in_stays :
-    (to : Location) (n : ℕ) (c : LocalMemory) → is_peripheral to.place.area ≡ false → Stay c.memory (put to n c).memory
+    (to : Location) (n : ℕ) (c : LocalMemory) → is_area_p to.place.area ≡ false → Stay c.memory (number_put to n c).memory
 put_in_stays to n c inside = by (write to (n % 2 ^ bit_count to.width) c.local c.memory) (write_stays to _ c.local c.memory inside)
   where
     by : (r : Result LocalMemory ℕ) → IfDone (MemoryStays c.memory) r → Stay c.memory (scene_or c r).memory
@@ -410,9 +410,9 @@ put_in_stays to n c inside = by (write to (n % 2 ^ bit_count to.width) c.local c
     by (Err e) stays = refl
 
 passed_stays :
-    (b : Option Binding) (to : Location) (c : LocalMemory) → is_peripheral to.place.area ≡ false
+    (b : Option Binding) (to : Location) (c : LocalMemory) → is_area_p to.place.area ≡ false
     → Stay c.memory (passed_to b to c).memory
-unfolding passed_to copied
+unfolding passed_to number_copied
 passed_stays (Some (binding.Bound place width frame)) to c inside = put_in_stays to _ c inside
 passed_stays (Some (binding.Constant value)) to c inside = put_in_stays to value c inside
 passed_stays (Some binding.Unsupplied) to c inside = refl
@@ -427,7 +427,7 @@ param_stays p b instance c = by (comes_in p)
 
 pub params_in_stay :
     (params : List Param) (index : ℕ) (bindings : List Binding) (instance : ℕ) (c : LocalMemory)
-    → Stay c.memory (params_in params index bindings instance c).memory
+    → Stay c.memory (params_copied_in params index bindings instance c).memory
 params_in_stay [] index bindings instance c = refl
 params_in_stay (p ∷ rest) index bindings instance c =
     params_in_stay rest (index + 1) bindings instance (param_in p (slice_get bindings index) instance c)

@@ -11,14 +11,14 @@ use Rattle.plc_base.specs.declared.blocks.BlockKind.TheVariants as kinds
 use Rattle.plc_mem.specs.Areas.{Areas}
 use Rattle.frames.specs.declared.Activation.{Activation}
 use Rattle.frames.specs.declared.frame.Frame.{Frame}
-use Rattle.flat_code.specs.Blocks.{Callee, callee, system_params}
-use Rattle.flat_code.specs.Image.{param_of, kind_of_number}
+use Rattle.flat_code.specs.Blocks.{CalleeSeen, callee, system_params}
+use Rattle.flat_code.specs.Image.{param_of_record, kind_of_number}
 use Rattle.flat_code.specs.Instr.{Does, Passing}
-use Rattle.flat_code.specs.Kinds.{jump_of}
+use Rattle.flat_code.specs.Kinds.{jump_of_number}
 use Rattle.flat_code.specs.Loading.{Verifies}
 use Rattle.flat_code.specs.Ops.{OpData, is_op}
 use Rattle.flat_code.specs.Table.{admits, takes_of}
-use Rattle.flat_code.specs.Placed.{op_placed, line_placed, places}
+use Rattle.flat_code.specs.Placed.{op_placed, line_placed, code_places}
 use Rattle.flat_code.specs.Programs.{CodeBlock, Program}
 use Rattle.flat_code.specs.Operations.{operation_of}
 use Rattle.flat_code.specs.declared.operands.Operand.{Operand}
@@ -26,49 +26,49 @@ use Rattle.flat_code.specs.declared.operands.Operand.TheVariants as operand
 use Rattle.flat_code.specs.declared.operations.CallOperation.{CallOperation}
 use Rattle.flat_code.specs.declared.operations.Operation.{Operation}
 use Rattle.flat_code.specs.declared.operations.Operation.TheVariants as operation
-use Rattle.image_file.specs.Readers.{block_of}
-use Rattle.image_file.specs.Verified.{place_at, IsOp, IsRead, OpsArePlaced, OpsAreOfTable, FitsCall, CallsFit, IsCalled, CalledAreThere, signatures}
-use Rattle.machine.specs.Code.{Code, Head}
-use Rattle.machine.specs.Fitting.{OpenCodes, FrameFits, FramesFit, FitsBlock, Fits}
-use Rattle.flat_code.specs.Forms.{is_callable, kind_of_code, payload_fits}
-use Rattle.machine.specs.Flat.{Run, run_at, run_with, with_op, most_ops, code_of, head_of, call_instr, instr_of, fetched_of, use_db_of, passings_of, statement_at}
+use Rattle.image_file.specs.Readers.{block_by_id}
+use Rattle.image_file.specs.Verified.{placed_at, IsVerifiedOp, IsReaderOp, OpsArePlaced, OpsAreOfTable, FitsCall, CallsFit, IsCalledBlock, CalledAreThere, block_signatures}
+use Rattle.machine.specs.Code.{Code, BlockHead}
+use Rattle.machine.specs.Fitting.{OpenCodes, FrameFits, FramesFit, FitsBlock, ActivationFits}
+use Rattle.flat_code.specs.Forms.{is_callable_number, kind_of_code, payload_fits}
+use Rattle.machine.specs.Flat.{OpRun, op_run_at, run_with, with_op, most_ops, code_of, block_head_of, call_by_number, instr_of, fetched_of, use_db_of, passings_of, statement_fetched}
 use Rattle.machine.specs.Statement.{World, statement, IsNotStuck}
 use Rattle.machine.specs.There.{is_callee, is_there, is_complete}
 use Rattle.machine.proofs.FetchLemmas.{none_some}
 use Rattle.machine.proofs.Going.{fetched_goes, jump_is_there}
 
 -- the last op of a statement stands at some offset
-abbrev HasLast : List OpData → Run → Type 0
+abbrev HasLast : List OpData → OpRun → Type 0
 HasLast ops r = (from : ℕ) × (op_placed 0 ops from ≡ Some (r.last, r.next))
 
 abbrev LastPlaced : (most : ℕ) → List OpData → Type 0
-LastPlaced most ops = (at : ℕ) (r : Run) → run_at most ops at ≡ Some r → HasLast ops r
+LastPlaced most ops = (at : ℕ) (r : OpRun) → op_run_at most ops at ≡ Some r → HasLast ops r
 
 inner_last :
-    (most : ℕ) (ops : List OpData) (p : OpData × ℕ) (inner : Option Run) (r : Run) → LastPlaced most ops
-    → run_at most ops p.1 ≡ inner → option_map (with_op p.0) inner ≡ Some r → HasLast ops r
+    (most : ℕ) (ops : List OpData) (p : OpData × ℕ) (inner : Option OpRun) (r : OpRun) → LastPlaced most ops
+    → op_run_at most ops p.1 ≡ inner → option_map (with_op p.0) inner ≡ Some r → HasLast ops r
 inner_last most ops p None r along is h = absurd (none_some r (sym h))
 inner_last most ops p (Some q) r along is h =
     rw (sym (same_Some (with_op p.0 q) r h)) (along p.1 q is)
 
 last_by :
-    (most : ℕ) (ops : List OpData) (at : ℕ) (last : Bool) (p : OpData × ℕ) (r : Run) → LastPlaced most ops
+    (most : ℕ) (ops : List OpData) (at : ℕ) (last : Bool) (p : OpData × ℕ) (r : OpRun) → LastPlaced most ops
     → op_placed 0 ops at ≡ Some p
-    → (if last then Some (record { before = []; last = p.0; next = p.1 }) else option_map (with_op p.0) (run_at most ops p.1)) ≡ Some r
+    → (if last then Some (record { before = []; last = p.0; next = p.1 }) else option_map (with_op p.0) (op_run_at most ops p.1)) ≡ Some r
     → HasLast ops r
 last_by most ops at true p r along placed h =
     rw (sym (same_Some (record { before = []; last = p.0; next = p.1 }) r h)) (at, placed)
 last_by most ops at false p r along placed h =
-    inner_last most ops p (run_at most ops p.1) r along refl h
+    inner_last most ops p (op_run_at most ops p.1) r along refl h
 
 last_with :
-    (most : ℕ) (ops : List OpData) (at : ℕ) (o : Option (OpData × ℕ)) (r : Run) → LastPlaced most ops
-    → op_placed 0 ops at ≡ o → run_with o (λ next. run_at most ops next) ≡ Some r → HasLast ops r
+    (most : ℕ) (ops : List OpData) (at : ℕ) (o : Option (OpData × ℕ)) (r : OpRun) → LastPlaced most ops
+    → op_placed 0 ops at ≡ o → run_with o (λ next. op_run_at most ops next) ≡ Some r → HasLast ops r
 last_with most ops at None r along placed h = absurd (none_some r (sym h))
 last_with most ops at (Some p) r along placed h = last_by most ops at p.0.last p r along placed h
 
 last_placed : (most : ℕ) (ops : List OpData) → LastPlaced most ops
-unfolding run_at
+unfolding op_run_at
 last_placed zero ops at r h = absurd (none_some r (sym h))
 last_placed (suc most) ops at r h =
     last_with most ops at (op_placed 0 ops at) r (last_placed most ops) refl h
@@ -85,50 +85,50 @@ There p number kind = is_callee (code_of p) (record { kind = kind; number = numb
 
 head_there :
     (p : Program) (number : ℕ) (found kind : BlockKind) (b : CodeBlock) → found ≡ kind
-    → block_of (record { kind = found; number = number }) p.code_blocks ≡ Some b
-    → is_some (option_map head_of (block_of (record { kind = kind; number = number }) p.code_blocks)) ≡ true
+    → block_by_id (record { kind = found; number = number }) p.code_blocks ≡ Some b
+    → is_some (option_map block_head_of (block_by_id (record { kind = kind; number = number }) p.code_blocks)) ≡ true
 head_there p number found kind b e h = rw (sym e) (rw h refl)
 
 fc_there :
-    (p : Program) (kind number : ℕ) (called : Callee) → CalledAreThere → kind ≡ 2
-    → callee (signatures p) kind number ≡ Some called → There p number kinds.Fc
+    (p : Program) (kind number : ℕ) (called : CalleeSeen) → CalledAreThere → kind ≡ 2
+    → callee (block_signatures p) kind number ≡ Some called → There p number kinds.Fc
 fc_there p kind number called law e h =
-    let is : IsCalled p kind number called = law p kind number called (inl e) h
+    let is : IsCalledBlock p kind number called = law p kind number called (inl e) h
     in let same : kind_of_number kind ≡ kinds.Fc = rw e refl
     in head_there p number (kind_of_number kind) kinds.Fc is.block same is.there
 
 fb_there :
-    (p : Program) (kind number : ℕ) (called : Callee) → CalledAreThere → kind ≡ 3
-    → callee (signatures p) kind number ≡ Some called → There p number kinds.Fb
+    (p : Program) (kind number : ℕ) (called : CalleeSeen) → CalledAreThere → kind ≡ 3
+    → callee (block_signatures p) kind number ≡ Some called → There p number kinds.Fb
 fb_there p kind number called law e h =
-    let is : IsCalled p kind number called = law p kind number called (inr e) h
+    let is : IsCalledBlock p kind number called = law p kind number called (inr e) h
     in let same : kind_of_number kind ≡ kinds.Fb = rw e refl
     in head_there p number (kind_of_number kind) kinds.Fb is.block same is.there
 
 sfc_there :
-    (p : Program) (kind number : ℕ) (called : Callee) → kind ≡ 5
-    → callee (signatures p) kind number ≡ Some called → There p number kinds.Sfc
+    (p : Program) (kind number : ℕ) (called : CalleeSeen) → kind ≡ 5
+    → callee (block_signatures p) kind number ≡ Some called → There p number kinds.Sfc
 unfolding callee
 sfc_there p kind number called e h =
-    some_below (system_params number) (λ params. (5, 0, params)) (map param_of) called (rw e at h)
+    some_below (system_params number) (λ params. (5, 0, params)) (map param_of_record) called (rw e at h)
 
-pub kind_callable : (code kind number instance : ℕ) → is_op code (operand.Called kind number instance) ≡ true → is_callable kind ≡ true
+pub kind_callable : (code kind number instance : ℕ) → is_op code (operand.Called kind number instance) ≡ true → is_callable_number kind ≡ true
 unfolding is_op
 kind_callable code kind number instance right =
     let fits = (and_parts (ltb code 128 && admits (takes_of code) (operand.Called kind number instance)) (payload_fits (operand.Called kind number instance)) right).1 in
-    let first = (and_parts (ltb kind 256 && is_callable kind) (ltb number 65536 && ltb instance 65536) fits).0 in
-    (and_parts (ltb kind 256) (is_callable kind) first).1
+    let first = (and_parts (ltb kind 256 && is_callable_number kind) (ltb number 65536 && ltb instance 65536) fits).0 in
+    (and_parts (ltb kind 256) (is_callable_number kind) first).1
 
 -- only functions, function blocks and system functions are called
 abbrev pub IsCallable : ℕ → Type 0
 IsCallable kind = (kind ≡ kind_number kinds.Fc) ⊎ ((kind ≡ kind_number kinds.Fb) ⊎ (kind ≡ kind_number kinds.Sfc))
 
-pub callable_kind : (kind : ℕ) → is_callable kind ≡ true → IsCallable kind
+pub callable_kind : (kind : ℕ) → is_callable_number kind ≡ true → IsCallable kind
 callable_kind kind h = grind (arith, nat_tests, h)
 
 called_there :
-    (p : Program) (kind number : ℕ) (called : Callee) (k : BlockKind) → IsCallable kind → CalledAreThere
-    → callee (signatures p) kind number ≡ Some called → kind_of_code kind ≡ Some k → There p number k
+    (p : Program) (kind number : ℕ) (called : CalleeSeen) (k : BlockKind) → IsCallable kind → CalledAreThere
+    → callee (block_signatures p) kind number ≡ Some called → kind_of_code kind ≡ Some k → There p number k
 called_there p kind number called k (inl e) law h is =
     rw (sym (same_Some kinds.Fc k (sym (ap kind_of_code e) ∙ is))) (fc_there p kind number called law e h)
 called_there p kind number called k (inr (inl e)) law h is =
@@ -143,12 +143,12 @@ CallsThere p b o =
 
 last_calls :
     (p : Program) (own : BlockId) (b : CodeBlock) (from next : ℕ) (op : OpData) → Verifies p → OpsArePlaced → OpsAreOfTable → CallsFit
-    → CalledAreThere → block_of own p.code_blocks ≡ Some b → op_placed 0 b.code from ≡ Some (op, next)
+    → CalledAreThere → block_by_id own p.code_blocks ≡ Some b → op_placed 0 b.code from ≡ Some (op, next)
     → CallsThere p b op.operand
 last_calls p own b from next op verifies placed_law table_law calls_law called_law block placed kind number instance k o is =
-    let read : IsRead b.code from op next = placed_law b.code from op next placed
-    in let there : place_at read.here.at (places b.code) ≡ Some read.here = ap (λ z. place_at z (places b.code)) read.offset ∙ read.place
-    in let isop : IsOp p b read.here = record { verifies = verifies; id = own; block = block; place = there }
+    let read : IsReaderOp b.code from op next = placed_law b.code from op next placed
+    in let there : placed_at read.here.at (code_places b.code) ≡ Some read.here = ap (λ z. placed_at z (code_places b.code)) read.offset ∙ read.place
+    in let isop : IsVerifiedOp p b read.here = record { verifies = verifies; id = own; block = block; place = there }
     in let fit : FitsCall p read.here kind number instance =
     calls_law p b read.here kind number instance isop (ap (λ (z : OpData). z.operand) read.op_is ∙ o)
     in let right : is_op read.here.op.code (operand.Called kind number instance) ≡ true =
@@ -160,7 +160,7 @@ call_by :
     (p : Program) (own : BlockId) (how : CallOperation) (k : Option BlockKind) (number instance : ℕ) (passings : List Passing)
     (use_db : Option ℕ) (w : Operation) (o : Operand)
     → ((kind : BlockKind) → k ≡ Some kind → There p number kind)
-    → is_there (code_of p) (call_instr k how number instance passings (Does use_db w o)) own ≡ true
+    → is_there (code_of p) (call_by_number k how number instance passings (Does use_db w o)) own ≡ true
 call_by p own how None number instance passings use_db w o needs = refl
 call_by p own how (Some kind) number instance passings use_db w o needs = needs kind refl
 
@@ -214,7 +214,7 @@ op_there p b own operation.Jump (operand.Parameter index width) use_db passings 
 op_there p b own operation.Jump (operand.Numbered kind number) use_db passings next ops calls head = refl
 op_there p b own operation.Jump (operand.NumberedBy kind from byte) use_db passings next ops calls head = refl
 op_there p b own operation.Jump (operand.Jump kind target) use_db passings next ops calls head =
-    jump_is_there (code_of p) own (jump_of kind) target next ops
+    jump_is_there (code_of p) own (jump_of_number kind) target next ops
 op_there p b own operation.Jump (operand.OfStatus condition) use_db passings next ops calls head = refl
 op_there p b own operation.Jump (operand.UseDb number) use_db passings next ops calls head = refl
 op_there p b own operation.Jump (operand.Pass index actual) use_db passings next ops calls head = refl
@@ -242,8 +242,8 @@ op_there p b own (operation.End how) o use_db passings next ops calls head = hea
 
 -- a statement that begins there has what it needs
 with_line :
-    (p : Program) (b : CodeBlock) (own : BlockId) (line : Option ℕ) (found : Option Run)
-    → ((r : Run) → found ≡ Some r → CallsThere p b r.last.operand) → is_some ((code_of p).head own) ≡ true
+    (p : Program) (b : CodeBlock) (own : BlockId) (line : Option ℕ) (found : Option OpRun)
+    → ((r : OpRun) → found ≡ Some r → CallsThere p b r.last.operand) → is_some ((code_of p).head own) ≡ true
     → is_some (option_and_then (λ line. option_map (fetched_of b.code line) found) line) ≡ true
     → is_complete (code_of p) (option_and_then (λ line. option_map (fetched_of b.code line) found) line) own ≡ true
 with_line p b own None found calls head there = there
@@ -254,20 +254,20 @@ with_line p b own (Some line) (Some r) calls head there =
 
 at_block :
     (p : Program) (own : BlockId) (at : ℕ) (found : Option CodeBlock) → Verifies p → OpsArePlaced → OpsAreOfTable → CallsFit
-    → CalledAreThere → block_of own p.code_blocks ≡ found
-    → is_some (option_map head_of found) ≡ true
-    → is_some (option_and_then (λ b. statement_at b at) found) ≡ true
-    → is_complete (code_of p) (option_and_then (λ b. statement_at b at) found) own ≡ true
-unfolding statement_at
+    → CalledAreThere → block_by_id own p.code_blocks ≡ found
+    → is_some (option_map block_head_of found) ≡ true
+    → is_some (option_and_then (λ b. statement_fetched b at) found) ≡ true
+    → is_complete (code_of p) (option_and_then (λ b. statement_fetched b at) found) own ≡ true
+unfolding statement_fetched
 at_block p own at None verifies placed_law table_law calls_law called_law block head there = there
 at_block p own at (Some b) verifies placed_law table_law calls_law called_law block head there =
-    with_line p b own (line_placed 0 true b.code b.lines at) (run_at most_ops b.code at)
+    with_line p b own (line_placed 0 true b.code b.lines at) (op_run_at most_ops b.code at)
     (λ r is. let last : HasLast b.code r = last_placed most_ops b.code at r is
     in last_calls p own b last.0 r.next r.last verifies placed_law table_law calls_law called_law block last.1)
     (rw block head) there
 
 block_there :
-    (h : Option Head) (f : Frame) (below : List Frame) (m : Areas) → FitsBlock h f below m → is_some h ≡ true
+    (h : Option BlockHead) (f : Frame) (below : List Frame) (m : Areas) → FitsBlock h f below m → is_some h ≡ true
 block_there (Some h) f below m fits = refl
 block_there None f below m fits = absurd fits
 
@@ -281,7 +281,7 @@ frame_goes p brackets m a w verifies placed_law table_law calls_law called_law f
     let own : BlockId = a.running.frame.block
     in let at : ℕ = a.running.frame.at
     in fetched_goes (code_of p) ((code_of p).fetch own at) a w
-    (at_block p own at (block_of own p.code_blocks) verifies placed_law table_law calls_law called_law refl
+    (at_block p own at (block_by_id own p.code_blocks) verifies placed_law table_law calls_law called_law refl
     (block_there ((code_of p).head own) a.running.frame a.below m fits.block) fits.statement)
 
 innermost_fits :
@@ -293,7 +293,7 @@ innermost_fits c brackets m a false is e fits = fits.0
 
 pub fits_goes :
     (p : Program) (brackets : OpenCodes) (m : Areas) (a : Activation) (w : World) → Verifies p
-    → OpsArePlaced → OpsAreOfTable → CallsFit → CalledAreThere → Fits (code_of p) brackets m a
+    → OpsArePlaced → OpsAreOfTable → CallsFit → CalledAreThere → ActivationFits (code_of p) brackets m a
     → IsNotStuck (statement (code_of p) a w)
 fits_goes p brackets m a w verifies placed_law table_law calls_law called_law fits =
     frame_goes p brackets m a w verifies placed_law table_law calls_law called_law

@@ -9,16 +9,16 @@ use Rattle.flat_code.specs.declared.programs.Param.{Param}
 use Rattle.flat_code.specs.Programs.{Program}
 use Rattle.machine.specs.declared.places.Location.{Location}
 use Rattle.machine.specs.ExecState.{LocalMemory, local_of, local_memory_of, with_local}
-use Rattle.machine.specs.Places.{number_in}
+use Rattle.machine.specs.Places.{location_number}
 use Rattle.machine.specs.Values.{write}
-use Rattle.machine.specs.Code.{Head}
-use Rattle.machine.specs.Copies.{comes_in, goes_out, in_instance, scene_or, put, copied, passed_to, given_to, param_in, param_out, params_in, params_out}
+use Rattle.machine.specs.Code.{BlockHead}
+use Rattle.machine.specs.Copies.{comes_in, goes_out, in_instance, scene_or, number_put, number_copied, passed_to, given_to, param_in, param_out, params_copied_in, params_out}
 use Rattle.machine.specs.Fitting.{FitsBlock}
 use Rattle.machine.specs.Flat.{code_of}
 use Rattle.machine.specs.Lasting.{FitsProgram, Lasts}
 use Rattle.machine.specs.OpenBrackets.{open_codes}
-use Rattle.machine.specs.Returning.{given_back, left, left_to, returning}
-use Rattle.machine.specs.Statement.{World, after_return, returned}
+use Rattle.machine.specs.Returning.{given_back, left, left_to, block_return}
+use Rattle.machine.specs.Statement.{World, after_return, return_made}
 use Rattle.machine.proofs.FrameBytes.{locals_kept, locals_closed}
 use Rattle.machine.proofs.Keeping.{IfDone, KeepsScene, same_scene, write_keeps}
 use Rattle.machine.proofs.Moving.{stands_of, fits_of}
@@ -42,12 +42,12 @@ scene_or_kept : (c : LocalMemory) (r : Result LocalMemory ℕ) → IfDone (Keeps
 scene_or_kept c (Ok d) kept = kept
 scene_or_kept c (Err e) kept = same_scene c.local c.memory
 
-pub put_kept : (to : Location) (n : ℕ) (c : LocalMemory) → Kept c (put to n c)
+pub put_kept : (to : Location) (n : ℕ) (c : LocalMemory) → Kept c (number_put to n c)
 put_kept to n c = scene_or_kept c (write to (n % 2 ^ bit_count to.width) c.local c.memory) (write_keeps to _ c.local c.memory)
 
-copied_kept : (from to : Location) (c : LocalMemory) → Kept c (copied from to c)
-unfolding copied
-copied_kept from to c = put_kept to (unwrap_or (number_in from c.local.locals c.memory) 0) c
+copied_kept : (from to : Location) (c : LocalMemory) → Kept c (number_copied from to c)
+unfolding number_copied
+copied_kept from to c = put_kept to (unwrap_or (location_number from c.local.locals c.memory) 0) c
 
 passed_kept : (b : Option Binding) (to : Location) (c : LocalMemory) → Kept c (passed_to b to c)
 unfolding passed_to
@@ -67,11 +67,11 @@ either_kept : (test : Bool) (c d : LocalMemory) → Kept c d → Kept c (if test
 either_kept true c d kept = kept
 either_kept false c d kept = same_scene c.local c.memory
 
-pub params_in_kept : (ps : List Param) (i : ℕ) (bs : List Binding) (instance : ℕ) (c : LocalMemory) → Kept c (params_in ps i bs instance c)
+pub params_in_kept : (ps : List Param) (i : ℕ) (bs : List Binding) (instance : ℕ) (c : LocalMemory) → Kept c (params_copied_in ps i bs instance c)
 params_in_kept [] i bs instance c = same_scene c.local c.memory
 params_in_kept (p ∷ ps) i bs instance c =
     let d : LocalMemory = param_in p (slice_get bs i) instance c in
-    kept_then c d (params_in ps (i + 1) bs instance d)
+    kept_then c d (params_copied_in ps (i + 1) bs instance d)
     (either_kept (comes_in p) c (passed_to (slice_get bs i) (in_instance p instance) c) (passed_kept (slice_get bs i) (in_instance p instance) c))
     (params_in_kept ps (i + 1) bs instance d)
 
@@ -109,8 +109,8 @@ stage_lasts p a w c (caller ∷ rest) is kept h =
 
 returning_lasts :
     (p : Program) (ps : List Param) (a : Activation) (w : World) → FitsProgram p w.memory a
-    → Lasts p w (after_return (returning ps a w.memory) w)
-unfolding returning
+    → Lasts p w (after_return (block_return ps a w.memory) w)
+unfolding block_return
 returning_lasts p ps a w h = by a.running.frame.instance
   where
     by : (o : Option ℕ) → Lasts p w (after_return (left a.below (given_back o ps a w.memory)) w)
@@ -121,10 +121,10 @@ returning_lasts p ps a w h = by a.running.frame.instance
 
 pub returned_lasts :
     (p : Program) (a : Activation) (w : World) → FitsProgram p w.memory a
-    → Lasts p w (returned ((code_of p).head a.running.frame.block) a w)
+    → Lasts p w (return_made ((code_of p).head a.running.frame.block) a w)
 returned_lasts p a w h =
     by ((code_of p).head a.running.frame.block) (stands_of (code_of p) (open_codes p) w.memory a h.fits).frame.block
   where
-    by : (o : Option Head) → FitsBlock o a.running.frame a.below w.memory → Lasts p w (returned o a w)
+    by : (o : Option BlockHead) → FitsBlock o a.running.frame a.below w.memory → Lasts p w (return_made o a w)
     by None fits = absurd fits
     by (Some head) fits = returning_lasts p head.params a w h

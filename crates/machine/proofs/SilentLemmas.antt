@@ -4,7 +4,7 @@ use Rattle.std.proofs.Common.{◌≡◌, ◌∙◌, ◌+◌, ◌<◌, ◌≤◌,
 use Rattle.plc_base.specs.Kinds.{is_system_function}
 use Rattle.plc_base.specs.declared.BlockId.{BlockId}
 use Rattle.plc_mem.specs.Areas.{Areas}
-use Rattle.frames.specs.Activations.{frames_of, refused}
+use Rattle.frames.specs.Activations.{frames_of, entry_fault}
 use Rattle.frames.specs.declared.Activation.{Activation}
 use Rattle.frames.specs.declared.bindings.Binding.{Binding}
 use Rattle.frames.specs.declared.frame.Frame.{Frame}
@@ -12,19 +12,19 @@ use Rattle.frames.specs.declared.FrameFault.{FrameFault}
 use Rattle.flat_code.specs.Instr.{Instr, Does, Jumps, JumpsByList, Calls, Returns, Passing}
 use Rattle.flat_code.specs.Programs.{CodeBlock, Program}
 use Rattle.flat_code.specs.declared.programs.Param.{Param}
-use Rattle.image_file.specs.Readers.{block_of}
+use Rattle.image_file.specs.Readers.{block_by_id}
 use Rattle.machine.specs.declared.outcomes.Outcome.{Outcome}
 use Rattle.machine.specs.declared.outcomes.Outcome.TheVariants as outcome
-use Rattle.machine.specs.Code.{Code, Fetched, Head}
+use Rattle.machine.specs.Code.{Code, Fetched, BlockHead}
 use Rattle.machine.specs.Effect.{effect_with}
-use Rattle.machine.specs.Entering.{Call, Fails, Stops, Enters, Callee, call, called_with, entered_if, supplied}
-use Rattle.machine.specs.Bindings.{bindings_of}
-use Rattle.machine.specs.Flat.{code_of, most_ops, run_at, statement_at}
-use Rattle.machine.specs.Lasting.{IsReady}
+use Rattle.machine.specs.Entering.{Call, Fails, Stops, Enters, CalledBlock, call, called_with, entered_if, instance_supplied}
+use Rattle.machine.specs.Bindings.{param_bindings}
+use Rattle.machine.specs.Flat.{code_of, most_ops, op_run_at, statement_fetched}
+use Rattle.machine.specs.Lasting.{IsStatementReady}
 use Rattle.machine.specs.ExecState.{ExecState, local_of, exec_state_of, local_memory_of}
-use Rattle.machine.specs.Silent.{GoesSilently, GoesOrStays, RunsSilently, StaysReady, goes_as, goes_on, has_caller as has_caller_of, is_next, is_silent, keeps_outputs}
-use Rattle.machine.specs.Returning.{Return, GoesOn, Ends, given_back, left, returning}
-use Rattle.machine.specs.Statement.{IsOutcomeOf, IsNotStuck, IsPerformed, Step, Went, Ended, SyncError, SysCall, Stop, Stuck, World, after_call, after_return, block_called, called, callee_of, step_found, is_called, is_ended, step_of, returned, statement, continue_with}
+use Rattle.machine.specs.Silent.{GoesSilently, GoesOrStays, RunsSilently, StaysReady, goes_as, is_going_on, has_caller as has_caller_of, is_next, is_silent, keeps_outputs}
+use Rattle.machine.specs.Returning.{Return, GoesOn, Ends, given_back, left, block_return}
+use Rattle.machine.specs.Statement.{IsOutcomeOf, IsNotStuck, IsPerformed, Step, Went, Ended, SyncError, SysCall, Stop, Stuck, World, call_step, after_return, block_called, call_made, called_block, step_found, is_call_made, is_ended, step_of, return_made, statement, continue_with}
 use Rattle.machine.specs.Walking.{Walk, fetched_at, walk_with}
 use Rattle.machine.proofs.FetchLemmas.{found_there, goes_there}
 use Rattle.machine.proofs.Keeping.{IfDone}
@@ -60,44 +60,44 @@ EnterStays m (Enters a after) = Stay m after
 EnterStays m _ = Unit {0}
 
 supplied_stays :
-    (instance : Option ℕ) (params : List Param) (a : Activation) (m : Areas) → EnterStays m (supplied instance params a m)
+    (instance : Option ℕ) (params : List Param) (a : Activation) (m : Areas) → EnterStays m (instance_supplied instance params a m)
 supplied_stays None params a m = refl
 supplied_stays (Some instance) params a m =
     params_in_stay params 0 a.running.frame.bindings instance (local_memory_of a.running m)
 
 entered_stays :
-    (fault : Option FrameFault) (called : Callee) (bindings : List Binding) (next : ℕ) (a : Activation) (m : Areas)
+    (fault : Option FrameFault) (called : CalledBlock) (bindings : List Binding) (next : ℕ) (a : Activation) (m : Areas)
     → EnterStays m (entered_if fault called bindings next a m)
 entered_stays (Some fault) called bindings next a m = tt
 entered_stays None called bindings next a m = supplied_stays called.instance called.params _ m
 
 call_bound_stays :
-    (bindings : Result (List Binding) ℕ) (called : Callee) (next : ℕ) (a : Activation) (m : Areas)
+    (bindings : Result (List Binding) ℕ) (called : CalledBlock) (next : ℕ) (a : Activation) (m : Areas)
     → EnterStays m (called_with bindings called next a m)
 call_bound_stays (Err code) called next a m = tt
 call_bound_stays (Ok bindings) called next a m =
-    entered_stays (refused called.local_len a) called bindings next a m
+    entered_stays (entry_fault called.local_len a) called bindings next a m
 
 call_stays :
-    (called : Callee) (passings : List Passing) (next : ℕ) (a : Activation) (m : Areas)
+    (called : CalledBlock) (passings : List Passing) (next : ℕ) (a : Activation) (m : Areas)
     → EnterStays m (call called passings next a m)
 unfolding call
 call_stays called passings next a m =
-    call_bound_stays (bindings_of called.params passings (local_of a.running) m) called next a m
+    call_bound_stays (param_bindings called.params passings (local_of a.running) m) called next a m
 
 after_call_stays :
-    (c : Call) (next : ℕ) (a : Activation) (w : World) → EnterStays w.memory c → StepStays w.memory (after_call c next a w)
+    (c : Call) (next : ℕ) (a : Activation) (w : World) → EnterStays w.memory c → StepStays w.memory (call_step c next a w)
 after_call_stays (Fails code) next a w stays = tt
 after_call_stays (Stops fault) next a w stays = tt
 after_call_stays (Enters to m) next a w stays = stays
 
 block_called_stays :
-    (head : Option Head) (block : BlockId) (instance : Option ℕ) (passings : List Passing) (next : ℕ) (a : Activation)
+    (head : Option BlockHead) (block : BlockId) (instance : Option ℕ) (passings : List Passing) (next : ℕ) (a : Activation)
     (w : World) → StepStays w.memory (block_called head block instance passings next a w)
 block_called_stays None block instance passings next a w = tt
 block_called_stays (Some h) block instance passings next a w =
-    after_call_stays (call (callee_of block instance h) passings next a w.memory) next a w
-    (call_stays (callee_of block instance h) passings next a w.memory)
+    after_call_stays (call (called_block block instance h) passings next a w.memory) next a w
+    (call_stays (called_block block instance h) passings next a w.memory)
 
 -- a return from a block without an instance to its caller
 abbrev ReturnStays : Areas → Return → Type 0
@@ -117,8 +117,8 @@ left_stays (caller ∷ rest) params (Some number) a m has none = absurd cc
 
 return_stays :
     (params : List Param) (a : Activation) (m : Areas) → HasCaller a.below → a.running.frame.instance ≡ None
-    → ReturnStays m (returning params a m)
-unfolding returning
+    → ReturnStays m (block_return params a m)
+unfolding block_return
 return_stays params a m has none = left_stays a.below params a.running.frame.instance a m has none
 
 after_return_stays : (r : Return) (w : World) → ReturnStays w.memory r → StepStays w.memory (after_return r w)
@@ -126,11 +126,11 @@ after_return_stays (GoesOn to m) w stays = stays
 after_return_stays (Ends regs m) w stays = absurd stays
 
 returned_stays :
-    (head : Option Head) (a : Activation) (w : World) → HasCaller a.below → a.running.frame.instance ≡ None
-    → StepStays w.memory (returned head a w)
+    (head : Option BlockHead) (a : Activation) (w : World) → HasCaller a.below → a.running.frame.instance ≡ None
+    → StepStays w.memory (return_made head a w)
 returned_stays None a w has none = tt
 returned_stays (Some h) a w has none =
-    after_return_stays (returning h.params a w.memory) w (return_stays h.params a w.memory has none)
+    after_return_stays (block_return h.params a w.memory) w (return_stays h.params a w.memory has none)
 
 caller_there : (below : List Frame) → has_caller_of below ≡ true → HasCaller below
 caller_there [] h = absurd cc
@@ -152,7 +152,7 @@ silent_stays c (Does use_db operation operand) next a w h =
 silent_stays c (Jumps operation target) next a w h = refl
 silent_stays c (JumpsByList targets otherwise) next a w h = absurd cc
 silent_stays c (Calls how block instance passings) next a w h =
-    let made = both_true (is_called how a.running.regs.status.rlo) (not (is_system_function block.kind)) h in
+    let made = both_true (is_call_made how a.running.regs.status.rlo) (not (is_system_function block.kind)) h in
     rw (made.0, is_not (is_system_function block.kind) made.1)
     (block_called_stays (c.head block) block instance passings next a w)
 silent_stays c (Returns how) next a w h =
@@ -203,27 +203,27 @@ performed_silently c f a b w v answer passed other quiet there h same =
 
 statement_is :
     (p : Program) (b : CodeBlock) (f : Fetched) (a : Activation) (w : World)
-    → block_of a.running.frame.block p.code_blocks ≡ Some b → statement_at b a.running.frame.at ≡ Some f
+    → block_by_id a.running.frame.block p.code_blocks ≡ Some b → statement_fetched b a.running.frame.at ≡ Some f
     → statement (code_of p) a w ≡ step_of (code_of p) f.instr f.next a w
 unfolding statement
 statement_is p b f a w is found = rw (is, found) refl
 
 statement_in :
-    (p : Program) (b : CodeBlock) (a : Activation) (w : World) → block_of a.running.frame.block p.code_blocks ≡ Some b
-    → statement (code_of p) a w ≡ step_found (code_of p) (statement_at b a.running.frame.at) a w
+    (p : Program) (b : CodeBlock) (a : Activation) (w : World) → block_by_id a.running.frame.block p.code_blocks ≡ Some b
+    → statement (code_of p) a w ≡ step_found (code_of p) (statement_fetched b a.running.frame.at) a w
 unfolding statement
 statement_in p b a w is = rw is refl
 
 pub there_of :
-    (p : Program) (b : CodeBlock) (a : Activation) (w : World) → block_of a.running.frame.block p.code_blocks ≡ Some b
-    → IsReady p a → is_some (statement_at b a.running.frame.at) ≡ true
+    (p : Program) (b : CodeBlock) (a : Activation) (w : World) → block_by_id a.running.frame.block p.code_blocks ≡ Some b
+    → IsStatementReady p a → is_some (statement_fetched b a.running.frame.at) ≡ true
 there_of p b a w is ready =
-    goes_there (code_of p) (statement_at b a.running.frame.at) a w (subst IsNotStuck (statement_in p b a w is) (ready.there w))
+    goes_there (code_of p) (statement_fetched b a.running.frame.at) a w (subst IsNotStuck (statement_in p b a w is) (ready.there w))
 
 -- so it has what it needs
 pub performs_there :
     (p : Program) (b : CodeBlock) (f : Fetched) (a : Activation) (w : World)
-    → block_of a.running.frame.block p.code_blocks ≡ Some b → statement_at b a.running.frame.at ≡ Some f → IsReady p a
+    → block_by_id a.running.frame.block p.code_blocks ≡ Some b → statement_fetched b a.running.frame.at ≡ Some f → IsStatementReady p a
     → IsNotStuck (step_of (code_of p) f.instr f.next a w)
 performs_there p b f a w is found ready =
     subst IsNotStuck (statement_is p b f a w is found) (ready.there w)
@@ -231,16 +231,16 @@ performs_there p b f a w is found ready =
 -- by what was found along its ops
 pub found_passes :
     (p : Program) (b : CodeBlock) (a : Activation) (w : World) (walk there : Walk) → there ≡ walk
-    → Some walk ≡ option_map (walk_with None) (run_at most_ops b.code a.running.frame.at)
-    → block_of a.running.frame.block p.code_blocks ≡ Some b → IsReady p a
-    → statement_at b a.running.frame.at ≡ Some (fetched_at b a.running.frame.at there)
+    → Some walk ≡ option_map (walk_with None) (op_run_at most_ops b.code a.running.frame.at)
+    → block_by_id a.running.frame.block p.code_blocks ≡ Some b → IsStatementReady p a
+    → statement_fetched b a.running.frame.at ≡ Some (fetched_at b a.running.frame.at there)
 found_passes p b a w walk there same h is ready =
     found_there b a.running.frame.at walk there same (there_of p b a w is ready) h
 
 -- and what came of its instruction came of it
 pub statement_passed :
     (p : Program) (b : CodeBlock) (f : Fetched) (a c : Activation) (w v : World) (answer : Bool)
-    → block_of a.running.frame.block p.code_blocks ≡ Some b → statement_at b a.running.frame.at ≡ Some f
+    → block_by_id a.running.frame.block p.code_blocks ≡ Some b → statement_fetched b a.running.frame.at ≡ Some f
     → GoesOrStays (step_of (code_of p) f.instr f.next a w) (is_silent f.instr a) a c w v answer
     → GoesOrStays (statement (code_of p) a w) (is_next is_silent (code_of p) a) a c w v answer
 unfolding statement
@@ -291,5 +291,5 @@ stops_at code kind a b w v false is goes = rw (goes.0, goes.1) goes.2
 
 pub stops_nowhere :
     (p : Program) (kind : Instr → Activation → Bool) (a : Activation) (w : World)
-    → block_of a.running.frame.block p.code_blocks ≡ None → goes_as kind (code_of p) a w ≡ false
+    → block_by_id a.running.frame.block p.code_blocks ≡ None → goes_as kind (code_of p) a w ≡ false
 stops_nowhere p kind a w none = rw none refl

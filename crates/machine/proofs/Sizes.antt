@@ -13,10 +13,10 @@ use Rattle.plc_base.specs.declared.Width.{Width}
 use Rattle.plc_base.specs.declared.Place.{Place}
 use Rattle.plc_mem.specs.Areas.{Areas, PeripheralBytes}
 use Rattle.plc_mem.specs.BitPlace.{BitPlace, Region, Inputs, Outputs, BitMemory, PeripheralInputs, PeripheralOutputs, DataBlock}
-use Rattle.plc_mem.specs.Bits.{bit_at, bit_in, bit_of, byte_at, peripheral_byte}
-use Rattle.plc_mem.specs.Fresh.{fresh}
+use Rattle.plc_mem.specs.Bits.{bit_at, bit_of_byte, is_bit_one, region_byte, peripheral_byte}
+use Rattle.plc_mem.specs.Fresh.{initial_memory}
 use Rattle.plc_mem.specs.Number.{number_at, EachBitExists, region_read, region_written, operand_bit}
-use Rattle.plc_mem.specs.Writing.{put, put_peripheral, put_in_block, written, written_in}
+use Rattle.plc_mem.specs.Writing.{put_number, put_peripheral, put_in_block, number_written, number_written_in}
 use Rattle.plc_mem.proofs.Lawful.{reads_where_each_bit_exists}
 use Rattle.plc_mem.proofs.Runs.{PartPut, part_put, block_put, length-put, chained, mapped, in_low, in_high}
 use Rattle.machine.specs.Code.{Code}
@@ -53,7 +53,7 @@ sizes_then m n o first second = record {
 pub memory_stays : (code : Code) (m n : Areas) → IsMemoryOf code m → SameSizes m n → IsMemoryOf code n
 memory_stays code m n is same = record {
   profile = is.profile;
-  sizes = sizes_then (fresh is.profile code.blocks) m n is.sizes same;
+  sizes = sizes_then (initial_memory is.profile code.blocks) m n is.sizes same;
 }
 
 -- ---- places
@@ -64,31 +64,31 @@ some_bit false x y = refl
 
 run_bits :
     (xs ys : List ℕ) (n b : ℕ) → length ys ≡ length xs
-    → is_some (bit_in (slice_get ys n) b) ≡ is_some (bit_in (slice_get xs n) b)
+    → is_some (bit_of_byte (slice_get ys n) b) ≡ is_some (bit_of_byte (slice_get xs n) b)
 run_bits xs ys n b same = by (cases_lt n (length xs))
   where
-    by : (n < length xs) ⊎ (length xs ≤ n) → is_some (bit_in (slice_get ys n) b) ≡ is_some (bit_in (slice_get xs n) b)
+    by : (n < length xs) ⊎ (length xs ≤ n) → is_some (bit_of_byte (slice_get ys n) b) ≡ is_some (bit_of_byte (slice_get xs n) b)
     by (inl within) =
-        ap (λ (o : Option ℕ). is_some (bit_in o b)) (slice_get-get_or ys n 0 (omega (arith, same, within)))
-        ∙ some_bit _ (bit_of (get_or ys n 0) b) (bit_of (get_or xs n 0) b)
-        ∙ sym (ap (λ (o : Option ℕ). is_some (bit_in o b)) (slice_get-get_or xs n 0 within))
+        ap (λ (o : Option ℕ). is_some (bit_of_byte o b)) (slice_get-get_or ys n 0 (omega (arith, same, within)))
+        ∙ some_bit _ (is_bit_one (get_or ys n 0) b) (is_bit_one (get_or xs n 0) b)
+        ∙ sym (ap (λ (o : Option ℕ). is_some (bit_of_byte o b)) (slice_get-get_or xs n 0 within))
     by (inr past) =
-        ap (λ (o : Option ℕ). is_some (bit_in o b))
+        ap (λ (o : Option ℕ). is_some (bit_of_byte o b))
         (slice_get_past ys n (omega (arith, same, past)) ∙ sym (slice_get_past xs n past))
 
 pub part_bits :
     (p q : PeripheralBytes) (n b : ℕ) → SameParts p q
-    → is_some (bit_in (peripheral_byte q n) b) ≡ is_some (bit_in (peripheral_byte p n) b)
+    → is_some (bit_of_byte (peripheral_byte q n) b) ≡ is_some (bit_of_byte (peripheral_byte p n) b)
 part_bits p q n b same = by (cases_lt n 256)
   where
-    by : (n < 256) ⊎ (256 ≤ n) → is_some (bit_in (peripheral_byte q n) b) ≡ is_some (bit_in (peripheral_byte p n) b)
+    by : (n < 256) ⊎ (256 ≤ n) → is_some (bit_of_byte (peripheral_byte q n) b) ≡ is_some (bit_of_byte (peripheral_byte p n) b)
     by (inl low) = rw (in_low p n low, in_low q n low) (run_bits p.low q.low n b same.low)
     by (inr high) = rw (in_high p n high, in_high q n high) (run_bits p.high q.high (n - 256) b same.high)
 
 block_bits :
     (o r : Option (List ℕ)) (n b : ℕ) → option_map length r ≡ option_map length o
-    → is_some (bit_in (option_and_then (λ (bytes : List ℕ). slice_get bytes n) r) b)
-    ≡ is_some (bit_in (option_and_then (λ (bytes : List ℕ). slice_get bytes n) o) b)
+    → is_some (bit_of_byte (option_and_then (λ (bytes : List ℕ). slice_get bytes n) r) b)
+    ≡ is_some (bit_of_byte (option_and_then (λ (bytes : List ℕ). slice_get bytes n) o) b)
 block_bits None None n b same = refl
 block_bits (Some xs) (Some ys) n b same = let e : length ys ≡ length xs = cc in run_bits xs ys n b e
 block_bits None (Some ys) n b same = absurd cc
@@ -96,7 +96,7 @@ block_bits (Some xs) None n b same = absurd cc
 
 region_bits :
     (m n : Areas) (region : Region) (byte bit : ℕ) → SameSizes m n
-    → is_some (bit_in (byte_at n region byte) bit) ≡ is_some (bit_in (byte_at m region byte) bit)
+    → is_some (bit_of_byte (region_byte n region byte) bit) ≡ is_some (bit_of_byte (region_byte m region byte) bit)
 region_bits m n Inputs byte bit same = run_bits m.inputs n.inputs byte bit same.inputs
 region_bits m n Outputs byte bit same = run_bits m.outputs n.outputs byte bit same.outputs
 region_bits m n BitMemory byte bit same = run_bits m.bit_memory n.bit_memory byte bit same.bit_memory
@@ -202,17 +202,17 @@ blocks_changed m blocks lens = record {
 
 pub region_sizes :
     (m n : Areas) (region : Region) (byte bit : ℕ) (width : Width) (value : ℕ)
-    → written_in m region byte bit width value ≡ Some n → SameSizes m n
+    → number_written_in m region byte bit width value ≡ Some n → SameSizes m n
 region_sizes m n Inputs byte bit width value done =
-    let was = mapped (λ (s : List ℕ). let r : Areas = record m { inputs = s } in r) (put m.inputs byte bit width value) n done in
+    let was = mapped (λ (s : List ℕ). let r : Areas = record m { inputs = s } in r) (put_number m.inputs byte bit width value) n done in
     rw (sym was.2) (changed m was.0 m.outputs m.bit_memory m.peripheral_inputs m.peripheral_outputs
     (length-put m.inputs was.0 byte bit width value was.1) refl refl (same_parts m.peripheral_inputs) (same_parts m.peripheral_outputs))
 region_sizes m n Outputs byte bit width value done =
-    let was = mapped (λ (s : List ℕ). let r : Areas = record m { outputs = s } in r) (put m.outputs byte bit width value) n done in
+    let was = mapped (λ (s : List ℕ). let r : Areas = record m { outputs = s } in r) (put_number m.outputs byte bit width value) n done in
     rw (sym was.2) (changed m m.inputs was.0 m.bit_memory m.peripheral_inputs m.peripheral_outputs
     refl (length-put m.outputs was.0 byte bit width value was.1) refl (same_parts m.peripheral_inputs) (same_parts m.peripheral_outputs))
 region_sizes m n BitMemory byte bit width value done =
-    let was = mapped (λ (s : List ℕ). let r : Areas = record m { bit_memory = s } in r) (put m.bit_memory byte bit width value) n done in
+    let was = mapped (λ (s : List ℕ). let r : Areas = record m { bit_memory = s } in r) (put_number m.bit_memory byte bit width value) n done in
     rw (sym was.2) (changed m m.inputs m.outputs was.0 m.peripheral_inputs m.peripheral_outputs
     refl refl (length-put m.bit_memory was.0 byte bit width value was.1) (same_parts m.peripheral_inputs) (same_parts m.peripheral_outputs))
 region_sizes m n PeripheralInputs byte bit width value done =
@@ -222,11 +222,11 @@ region_sizes m n PeripheralInputs byte bit width value done =
     refl refl refl (parts_put m.peripheral_inputs was.0 byte bit width value was.1) (same_parts m.peripheral_outputs))
 region_sizes m n PeripheralOutputs byte bit width value done =
     let was = mapped (λ (p : PeripheralBytes). let r : Areas = record m {
-      outputs = unwrap_or (put m.outputs byte bit width value) m.outputs;
+      outputs = unwrap_or (put_number m.outputs byte bit width value) m.outputs;
       peripheral_outputs = p;
     } in r) (put_peripheral m.peripheral_outputs byte bit width value) n done in
-    rw (sym was.2) (changed m m.inputs (unwrap_or (put m.outputs byte bit width value) m.outputs) m.bit_memory m.peripheral_inputs was.0
-    refl (or_before (put m.outputs byte bit width value) m.outputs (λ s is. length-put m.outputs s byte bit width value is)) refl
+    rw (sym was.2) (changed m m.inputs (unwrap_or (put_number m.outputs byte bit width value) m.outputs) m.bit_memory m.peripheral_inputs was.0
+    refl (or_before (put_number m.outputs byte bit width value) m.outputs (λ s is. length-put m.outputs s byte bit width value is)) refl
     (same_parts m.peripheral_inputs) (parts_put m.peripheral_outputs was.0 byte bit width value was.1))
 region_sizes m n (DataBlock k) byte bit width value done =
     let was = mapped (λ (blocks : finmap.FinMap nat_cmp (List ℕ)). let r : Areas = record m { data_blocks = blocks } in r)
@@ -234,9 +234,9 @@ region_sizes m n (DataBlock k) byte bit width value done =
     rw (sym was.2) (blocks_changed m was.0 (λ number. block_lens m.data_blocks was.0 k byte bit width value was.1 number))
 
 pub writing_sizes :
-    (m n : Areas) (place : Place) (width : Width) (value : ℕ) → written m place width value ≡ Some n
+    (m n : Areas) (place : Place) (width : Width) (value : ℕ) → number_written m place width value ≡ Some n
     → SameSizes m n
-unfolding written
+unfolding number_written
 writing_sizes m n place width value done =
-    let found = chained (λ (region : Region). written_in m region place.byte place.bit width value) (region_written place) n done in
+    let found = chained (λ (region : Region). number_written_in m region place.byte place.bit width value) (region_written place) n done in
     region_sizes m n found.0 place.byte place.bit width value found.2

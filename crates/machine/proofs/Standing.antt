@@ -11,15 +11,15 @@ use Rattle.flat_code.specs.declared.operations.Operation.TheVariants as operatio
 use Rattle.flat_code.specs.Blocks.{prepares}
 use Rattle.flat_code.specs.Codes.{size}
 use Rattle.flat_code.specs.Loading.{Verifies}
-use Rattle.flat_code.specs.OpCodes.{code_of as op_code}
+use Rattle.flat_code.specs.OpCodes.{op_code_of as op_code}
 use Rattle.flat_code.specs.Ops.{OpData}
 use Rattle.flat_code.specs.declared.operands.Operand.TheVariants as operand
-use Rattle.flat_code.specs.Placed.{Placed, placed, places, op_placed, line_placed, begins, is_empty, opened, zones_behind, before_next, ending, last_op}
+use Rattle.flat_code.specs.Placed.{Placed, ops_placed, code_places, op_placed, line_placed, begins, is_empty_list, brackets_after, zones_behind_op, before_next, ending_op, last_op}
 use Rattle.flat_code.specs.Programs.{CodeBlock, Program}
 use Rattle.flat_code.specs.Operations.{operation_of}
-use Rattle.image_file.specs.Readers.{block_of}
-use Rattle.image_file.specs.Verified.{place_at, IsOp, Next}
-use Rattle.machine.specs.Flat.{Run, run_at, with_op, most_ops, fetched_of, statement_at, code_of}
+use Rattle.image_file.specs.Readers.{block_by_id}
+use Rattle.image_file.specs.Verified.{placed_at, IsVerifiedOp, HasNext}
+use Rattle.machine.specs.Flat.{OpRun, op_run_at, with_op, most_ops, fetched_of, statement_fetched, code_of}
 use Rattle.machine.specs.ImageLaws.{ImageLaws}
 use Rattle.machine.specs.Fitting.{OpenAt}
 use Rattle.machine.specs.OpenBrackets.{check_named, checks_of, open_at, open_before, open_in, open_codes}
@@ -28,37 +28,37 @@ use Rattle.machine.proofs.OpenBehind.{same_open, prepared_same, prepared_zones, 
 
 -- ---- ops in their places
 
-pub op_here : (from : ℕ) (brackets : List OpenBracket) (zones : List ℕ) (before ops : List OpData) (at : ℕ) (q : Placed) → place_at at (placed from brackets zones before ops) ≡ Some q → op_placed from ops at ≡ Some (q.op, q.at + size q.op)
+pub op_here : (from : ℕ) (brackets : List OpenBracket) (zones : List ℕ) (before ops : List OpData) (at : ℕ) (q : Placed) → placed_at at (ops_placed from brackets zones before ops) ≡ Some q → op_placed from ops at ≡ Some (q.op, q.at + size q.op)
 op_here from brackets zones before [] at q found = absurd cc
 op_here from brackets zones before (o ∷ ops) at q found =
     by (eqb from at) found
-    (λ e. op_here (from + size o) (opened from o.code brackets) (zones_behind from o.code zones) (before_next o before) ops at q e)
+    (λ e. op_here (from + size o) (brackets_after from o.code brackets) (zones_behind_op from o.code zones) (before_next o before) ops at q e)
   where
     here : Placed
     here = record { at = from; brackets = brackets; zones = zones; before = before; op = o; rest = ops }
 
     behind : Option Placed
-    behind = place_at at (placed (from + size o) (opened from o.code brackets) (zones_behind from o.code zones) (before_next o before) ops)
+    behind = placed_at at (ops_placed (from + size o) (brackets_after from o.code brackets) (zones_behind_op from o.code zones) (before_next o before) ops)
 
     by : (t : Bool) → cond t (Some here) behind ≡ Some q → (behind ≡ Some q → op_placed (from + size o) ops at ≡ Some (q.op, q.at + size q.op)) → cond t (Some (o, from + size o)) (op_placed (from + size o) ops at) ≡ Some (q.op, q.at + size q.op)
     by true e more = ap (λ (z : Placed). Some (z.op, z.at + size z.op)) (same_Some here q e)
     by false e more = more e
 
-pub next_op : (l : ImageLaws) (p : Program) (b : CodeBlock) (q : Placed) (op : OpData) (rest : List OpData) → IsOp p b q → q.rest ≡ op ∷ rest → IsOp p b (behind_op q op rest)
+pub next_op : (l : ImageLaws) (p : Program) (b : CodeBlock) (q : Placed) (op : OpData) (rest : List OpData) → IsVerifiedOp p b q → q.rest ≡ op ∷ rest → IsVerifiedOp p b (behind_op q op rest)
 next_op l p b q op rest h is = record {
   verifies = h.verifies;
   id = h.id;
   block = h.block;
-  place = subst (λ (z : List OpData). Next b q z) is (l.goes_on p b q h);
+  place = subst (λ (z : List OpData). HasNext b q z) is (l.goes_on p b q h);
 }
 
-pub last_ends : (l : ImageLaws) (p : Program) (b : CodeBlock) (q : Placed) → IsOp p b q → q.rest ≡ [] → (q.op.code ≡ op_code (operation.End ends.Be)) × (q.op.last ≡ true)
-last_ends l p b q h is = let e = subst (λ (z : List OpData). Next b q z) is (l.goes_on p b q h) in (e.0, e.1)
+pub last_ends : (l : ImageLaws) (p : Program) (b : CodeBlock) (q : Placed) → IsVerifiedOp p b q → q.rest ≡ [] → (q.op.code ≡ op_code (operation.End ends.Be)) × (q.op.last ≡ true)
+last_ends l p b q h is = let e = subst (λ (z : List OpData). HasNext b q z) is (l.goes_on p b q h) in (e.0, e.1)
 
 -- ---- the run of a statement is there
 
-run_there : (l : ImageLaws) (p : Program) (b : CodeBlock) (most : ℕ) (q : Placed) → IsOp p b q → most + length q.before ≡ 64 → IsSome (run_at most b.code q.at)
-unfolding run_at
+run_there : (l : ImageLaws) (p : Program) (b : CodeBlock) (most : ℕ) (q : Placed) → IsVerifiedOp p b q → most + length q.before ≡ 64 → IsSome (op_run_at most b.code q.at)
+unfolding op_run_at
 run_there l p b zero q h e = let few = (l.statements p b q h).few in absurd (omega (arith, e, few))
 run_there l p b (suc most) q h e =
     rw (op_here 0 [] [] [] b.code q.at q h.place)
@@ -71,16 +71,16 @@ run_there l p b (suc most) q h e =
         ap (λ (t : Bool). length (cond t [] (q.before ++ q.op ∷ []))) is in
         omega (arith, n, e, same)
 
-    with_first : (o : Option Run) → IsSome o → IsSome (option_map (with_op q.op) o)
+    with_first : (o : Option OpRun) → IsSome o → IsSome (option_map (with_op q.op) o)
     with_first (Some r) there = refl
     with_first None there = there
 
     by : (last : Bool) → q.op.last ≡ last → (rest : List OpData) → q.rest ≡ rest
-        → ((op : OpData) (rest : List OpData) → q.rest ≡ op ∷ rest → most + length (before_next q.op q.before) ≡ 64 → IsSome (run_at most b.code (q.at + size q.op)))
-        → IsSome (cond last (Some (record { before = []; last = q.op; next = q.at + size q.op })) (option_map (with_op q.op) (run_at most b.code (q.at + size q.op))))
+        → ((op : OpData) (rest : List OpData) → q.rest ≡ op ∷ rest → most + length (before_next q.op q.before) ≡ 64 → IsSome (op_run_at most b.code (q.at + size q.op)))
+        → IsSome (cond last (Some (record { before = []; last = q.op; next = q.at + size q.op })) (option_map (with_op q.op) (op_run_at most b.code (q.at + size q.op))))
     by true is rest e more = refl
     by false is [] e more = absurd (true≢false (sym (last_ends l p b q h e).1 ∙ is))
-    by false is (op ∷ rest) e more = with_first (run_at most b.code (q.at + size q.op)) (more op rest e (longer is))
+    by false is (op ∷ rest) e more = with_first (op_run_at most b.code (q.at + size q.op)) (more op rest e (longer is))
 
 -- ---- where a run ends
 
@@ -88,11 +88,11 @@ run_there l p b (suc most) q h e =
 abbrev pub AllBefore : Program → CodeBlock → (last : OpData) → List OpData → Type 0
 AllBefore p b last [] = Unit {0}
 AllBefore p b last (op ∷ ops) =
-    ((q : Placed) × IsOp p b q × (q.op ≡ op) × (last_op q ≡ last)) × AllBefore p b last ops
+    ((q : Placed) × IsVerifiedOp p b q × (q.op ≡ op) × (last_op q ≡ last)) × AllBefore p b last ops
 
-pub record Ran (p : Program) (b : CodeBlock) (q : Placed) (r : Run) : Type 0 where
+pub record Ran (p : Program) (b : CodeBlock) (q : Placed) (r : OpRun) : Type 0 where
   pub last : Placed
-  pub op : IsOp p b last
+  pub op : IsVerifiedOp p b last
   pub same : last.op ≡ r.last
   pub next : r.next ≡ last.at + size last.op
   pub ended : last.op.last ≡ true
@@ -105,12 +105,12 @@ append_nil : (xs : List OpData) → xs ≡ xs ++ []
 append_nil [] = refl
 append_nil (x ∷ xs) = ap (λ (z : List OpData). x ∷ z) (append_nil xs)
 
-pub ends_here : (op : OpData) (rest : List OpData) → op.last ≡ true → ending op rest ≡ op
+pub ends_here : (op : OpData) (rest : List OpData) → op.last ≡ true → ending_op op rest ≡ op
 ends_here op [] is = refl
 ends_here op (n ∷ rest) is = rw is refl
 
-pub run_is : (l : ImageLaws) (p : Program) (b : CodeBlock) (most : ℕ) (q : Placed) (r : Run) → IsOp p b q → run_at most b.code q.at ≡ Some r → Ran p b q r
-unfolding run_at
+pub run_is : (l : ImageLaws) (p : Program) (b : CodeBlock) (most : ℕ) (q : Placed) (r : OpRun) → IsVerifiedOp p b q → op_run_at most b.code q.at ≡ Some r → Ran p b q r
+unfolding op_run_at
 run_is l p b zero q r h e = absurd cc
 run_is l p b (suc most) q r h e =
     by q.op.last refl q.rest refl (rw (op_here 0 [] [] [] b.code q.at q h.place) at e)
@@ -139,9 +139,9 @@ run_is l p b (suc most) q r h e =
     more_before : q.op.last ≡ false → before_next q.op q.before ≡ q.before ++ q.op ∷ []
     more_before is = ap (λ (t : Bool). cond t [] (q.before ++ q.op ∷ [])) is
 
-    longer : (op : OpData) (rest : List OpData) (s : Run) → q.op.last ≡ false → q.rest ≡ op ∷ rest → Ran p b (behind_op q op rest) s → Ran p b q (with_op q.op s)
+    longer : (op : OpData) (rest : List OpData) (s : OpRun) → q.op.last ≡ false → q.rest ≡ op ∷ rest → Ran p b (behind_op q op rest) s → Ran p b q (with_op q.op s)
     longer op rest s is split ran =
-        let ends : last_op q ≡ s.last = ap (λ (z : List OpData). ending q.op z) split ∙ ap (λ (t : Bool). cond t q.op (ending op rest)) is ∙ ran.ends in
+        let ends : last_op q ≡ s.last = ap (λ (z : List OpData). ending_op q.op z) split ∙ ap (λ (t : Bool). cond t q.op (ending_op op rest)) is ∙ ran.ends in
         record {
           last = ran.last;
           op = ran.op;
@@ -149,7 +149,7 @@ run_is l p b (suc most) q r h e =
           next = ran.next;
           ended = ran.ended;
           held = ran.held
-              ∙ same_open (checks_of (opened q.at q.op.code q.brackets)) (checks_of q.brackets) (length (zones_behind q.at q.op.code q.zones)) (length q.zones)
+              ∙ same_open (checks_of (brackets_after q.at q.op.code q.brackets)) (checks_of q.brackets) (length (zones_behind_op q.at q.op.code q.zones)) (length q.zones)
               (ap checks_of (prepared_same q.at q.op.code q.brackets (prepared is)))
               (ap length (prepared_zones q.at q.op.code q.zones (prepared is)));
           before = ran.before ∙ ap (λ (z : List OpData). z ++ s.before) (more_before is) ∙ append_assoc q.before (q.op ∷ []) s.before;
@@ -157,18 +157,18 @@ run_is l p b (suc most) q r h e =
           passes = ((q, h, refl, ends), ran.passes);
         }
 
-    found : (o : Option Run) → option_map (with_op q.op) o ≡ Some r → ((s : Run) → o ≡ Some s → Ran p b q (with_op q.op s)) → Ran p b q r
+    found : (o : Option OpRun) → option_map (with_op q.op) o ≡ Some r → ((s : OpRun) → o ≡ Some s → Ran p b q (with_op q.op s)) → Ran p b q r
     found None e f = absurd cc
-    found (Some s) e f = subst (λ (z : Run). Ran p b q z) (same_Some (with_op q.op s) r e) (f s refl)
+    found (Some s) e f = subst (λ (z : OpRun). Ran p b q z) (same_Some (with_op q.op s) r e) (f s refl)
 
     by : (last : Bool) → q.op.last ≡ last → (rest : List OpData) → q.rest ≡ rest
-        → cond last (Some (record { before = []; last = q.op; next = q.at + size q.op })) (option_map (with_op q.op) (run_at most b.code (q.at + size q.op))) ≡ Some r
-        → ((op : OpData) (rest : List OpData) → q.rest ≡ op ∷ rest → (s : Run) → run_at most b.code (q.at + size q.op) ≡ Some s → Ran p b (behind_op q op rest) s)
+        → cond last (Some (record { before = []; last = q.op; next = q.at + size q.op })) (option_map (with_op q.op) (op_run_at most b.code (q.at + size q.op))) ≡ Some r
+        → ((op : OpData) (rest : List OpData) → q.rest ≡ op ∷ rest → (s : OpRun) → op_run_at most b.code (q.at + size q.op) ≡ Some s → Ran p b (behind_op q op rest) s)
         → Ran p b q r
-    by true is rest split e more = subst (λ (z : Run). Ran p b q z) (same_Some (record { before = []; last = q.op; next = q.at + size q.op }) r e) (only is)
+    by true is rest split e more = subst (λ (z : OpRun). Ran p b q z) (same_Some (record { before = []; last = q.op; next = q.at + size q.op }) r e) (only is)
     by false is [] split e more = absurd (true≢false (sym (last_ends l p b q h split).1 ∙ is))
     by false is (op ∷ rest) split e more =
-        found (run_at most b.code (q.at + size q.op)) e (λ s s_is. longer op rest s is split (more op rest split s s_is))
+        found (op_run_at most b.code (q.at + size q.op)) e (λ s s_is. longer op rest s is split (more op rest split s s_is))
 
 -- ---- a statement begins
 
@@ -176,13 +176,13 @@ run_is l p b (suc most) q r h e =
 pub record Stood (p : Program) (block : BlockId) (at : ℕ) (held : OpenAt) : Type 0 where
   pub b : CodeBlock
   pub q : Placed
-  pub found : block_of block p.code_blocks ≡ Some b
-  pub op : IsOp p b q
+  pub found : block_by_id block p.code_blocks ≡ Some b
+  pub op : IsVerifiedOp p b q
   pub offset : q.at ≡ at
   pub begun : begins q ≡ true
   pub same : open_at q ≡ held
 
-pub none_before : (before : List OpData) → is_empty before ≡ true → before ≡ []
+pub none_before : (before : List OpData) → is_empty_list before ≡ true → before ≡ []
 none_before [] e = refl
 none_before (op ∷ before) e = absurd cc
 
@@ -190,18 +190,18 @@ none_before (op ∷ before) e = absurd cc
 pub record Statement (p : Program) (block : BlockId) (at : ℕ) (held : OpenAt) : Type 0 where
   pub stood : Stood p block at held
   pub line : ℕ
-  pub run : Run
+  pub run : OpRun
   pub fetched : (code_of p).fetch block at ≡ Some (fetched_of stood.b.code line run)
   pub ran : Ran p stood.b stood.q run
 
-run_found : (o : Option Run) → IsSome o → (r : Run) × (o ≡ Some r)
+run_found : (o : Option OpRun) → IsSome o → (r : OpRun) × (o ≡ Some r)
 run_found (Some r) there = (r, refl)
 run_found None there = absurd cc
 
 fetched_there :
-    (b : CodeBlock) (at line : ℕ) (r : Run) → line_placed 0 true b.code b.lines at ≡ Some line
-    → run_at most_ops b.code at ≡ Some r → statement_at b at ≡ Some (fetched_of b.code line r)
-unfolding statement_at
+    (b : CodeBlock) (at line : ℕ) (r : OpRun) → line_placed 0 true b.code b.lines at ≡ Some line
+    → op_run_at most_ops b.code at ≡ Some r → statement_fetched b at ≡ Some (fetched_of b.code line r)
+unfolding statement_fetched
 fetched_there b at line r has run = rw (has, run) refl
 
 pub statement_there :
@@ -209,10 +209,10 @@ pub statement_there :
     → Statement p block at held
 statement_there l p block at held s =
     let few : most_ops + length s.q.before ≡ 64 = ap (λ (z : List OpData). 64 + length z) (none_before s.q.before s.begun) in
-    let r = run_found (run_at most_ops s.b.code s.q.at) (run_there l p s.b most_ops s.q s.op few) in
+    let r = run_found (op_run_at most_ops s.b.code s.q.at) (run_there l p s.b most_ops s.q s.op few) in
     let line = l.lines p s.b s.q s.op s.begun in
-    let there : statement_at s.b at ≡ Some (fetched_of s.b.code line.line r.0) =
-    ap (statement_at s.b) (sym s.offset) ∙ fetched_there s.b s.q.at line.line r.0 line.is r.1 in
+    let there : statement_fetched s.b at ≡ Some (fetched_of s.b.code line.line r.0) =
+    ap (statement_fetched s.b) (sym s.offset) ∙ fetched_there s.b s.q.at line.line r.0 line.is r.1 in
     record {
       stood = s;
       line = line.line;
@@ -225,26 +225,26 @@ pub opens_there :
     (p : Program) (block : BlockId) (at : ℕ) (held : OpenAt) → Stood p block at held
     → open_codes p block at ≡ Some held
 opens_there p block at held s =
-    let place : place_at at (places s.b.code) ≡ Some s.q = ap (λ (k : ℕ). place_at k (places s.b.code)) (sym s.offset) ∙ s.op.place in
+    let place : placed_at at (code_places s.b.code) ≡ Some s.q = ap (λ (k : ℕ). placed_at k (code_places s.b.code)) (sym s.offset) ∙ s.op.place in
     rw (s.found, place, s.begun) (ap (λ (z : OpenAt). Some z) s.same)
 
-place_offset : (qs : List Placed) (at : ℕ) (q : Placed) → place_at at qs ≡ Some q → q.at ≡ at
+place_offset : (qs : List Placed) (at : ℕ) (q : Placed) → placed_at at qs ≡ Some q → q.at ≡ at
 place_offset [] at q found = absurd cc
 place_offset (p ∷ qs) at q found = by (eqb p.at at) refl found (λ e. place_offset qs at q e)
   where
-    by : (t : Bool) → eqb p.at at ≡ t → cond t (Some p) (place_at at qs) ≡ Some q → (place_at at qs ≡ Some q → q.at ≡ at) → q.at ≡ at
+    by : (t : Bool) → eqb p.at at ≡ t → cond t (Some p) (placed_at at qs) ≡ Some q → (placed_at at qs ≡ Some q → q.at ≡ at) → q.at ≡ at
     by true is e more = sym (ap (λ (z : Placed). z.at) (same_Some p q e)) ∙ eqb-true p.at at is
     by false is e more = more e
 
 pub stood_there :
     (p : Program) (block : BlockId) (at : ℕ) (held : OpenAt) → Verifies p → open_codes p block at ≡ Some held
     → Stood p block at held
-stood_there p block at held verifies h = by_block (block_of block p.code_blocks) refl h
+stood_there p block at held verifies h = by_block (block_by_id block p.code_blocks) refl h
   where
-    begun : (b : CodeBlock) (q : Placed) (t : Bool) → block_of block p.code_blocks ≡ Some b → place_at at (places b.code) ≡ Some q → begins q ≡ t
+    begun : (b : CodeBlock) (q : Placed) (t : Bool) → block_by_id block p.code_blocks ≡ Some b → placed_at at (code_places b.code) ≡ Some q → begins q ≡ t
         → cond t (Some (open_at q)) None ≡ Some held → Stood p block at held
     begun b q true found place is e =
-        let offset = place_offset (places b.code) at q place in
+        let offset = place_offset (code_places b.code) at q place in
         record {
           b = b;
           q = q;
@@ -253,7 +253,7 @@ stood_there p block at held verifies h = by_block (block_of block p.code_blocks)
             verifies = verifies;
             id = block;
             block = found;
-            place = ap (λ (k : ℕ). place_at k (places b.code)) offset ∙ place;
+            place = ap (λ (k : ℕ). placed_at k (code_places b.code)) offset ∙ place;
           };
           offset = offset;
           begun = is;
@@ -261,13 +261,13 @@ stood_there p block at held verifies h = by_block (block_of block p.code_blocks)
         }
     begun b q false found place is e = absurd cc
 
-    by_place : (b : CodeBlock) (o : Option Placed) → block_of block p.code_blocks ≡ Some b → place_at at (places b.code) ≡ o → open_before o ≡ Some held → Stood p block at held
+    by_place : (b : CodeBlock) (o : Option Placed) → block_by_id block p.code_blocks ≡ Some b → placed_at at (code_places b.code) ≡ o → open_before o ≡ Some held → Stood p block at held
     by_place b None found place e = absurd cc
     by_place b (Some q) found place e = begun b q (begins q) found place refl e
 
-    by_block : (o : Option CodeBlock) → block_of block p.code_blocks ≡ o → option_and_then (λ b. open_in b at) o ≡ Some held → Stood p block at held
+    by_block : (o : Option CodeBlock) → block_by_id block p.code_blocks ≡ o → option_and_then (λ b. open_in b at) o ≡ Some held → Stood p block at held
     by_block None found e = absurd cc
-    by_block (Some b) found e = by_place b (place_at at (places b.code)) found refl e
+    by_block (Some b) found e = by_place b (placed_at at (code_places b.code)) found refl e
 
 -- ---- where a statement leads
 
@@ -303,7 +303,7 @@ target_stood l p block at held s kind target is =
         verifies = s.ran.op.verifies;
         id = s.ran.op.id;
         block = s.ran.op.block;
-        place = ap (λ (k : ℕ). place_at k (places s.stood.b.code)) lands.offset ∙ lands.place;
+        place = ap (λ (k : ℕ). placed_at k (code_places s.stood.b.code)) lands.offset ∙ lands.place;
       };
       offset = lands.offset;
       begun = lands.statement;
@@ -317,7 +317,7 @@ abbrev pub nothing_open : OpenAt
 nothing_open = record { codes = []; zones = 0 }
 
 pub entry_stood :
-    (l : ImageLaws) (p : Program) (block : BlockId) (b : CodeBlock) → Verifies p → block_of block p.code_blocks ≡ Some b
+    (l : ImageLaws) (p : Program) (block : BlockId) (b : CodeBlock) → Verifies p → block_by_id block p.code_blocks ≡ Some b
     → Stood p block 0 nothing_open
 entry_stood l p block b verifies found =
     let begun = (l.blocks p b block verifies found).begins in
@@ -329,7 +329,7 @@ entry_stood l p block b verifies found =
         verifies = verifies;
         id = block;
         block = found;
-        place = ap (λ (k : ℕ). place_at k (places b.code)) begun.offset ∙ begun.place;
+        place = ap (λ (k : ℕ). placed_at k (code_places b.code)) begun.offset ∙ begun.place;
       };
       offset = begun.offset;
       begun = begun.statement;

@@ -15,8 +15,8 @@ use Rattle.frames.specs.declared.frame.Frame.{Frame}
 use Rattle.flat_code.specs.declared.programs.Param.{Param}
 use Rattle.flat_code.specs.Programs.{Program}
 use Rattle.machine.specs.declared.places.Location.{Location}
-use Rattle.machine.specs.Code.{Code, Head}
-use Rattle.machine.specs.Fitting.{OpenCodes, ExistsIn, IsBound, AreBound, IsOpen, IsLong, HasInstance, FitsBlock, FrameFits, FramesFit, Fits, SameSizes}
+use Rattle.machine.specs.Code.{Code, BlockHead}
+use Rattle.machine.specs.Fitting.{OpenCodes, ExistsIn, IsBound, AreBound, IsOpen, HasLength, HasInstance, FitsBlock, FrameFits, FramesFit, ActivationFits, SameSizes}
 use Rattle.machine.specs.Flat.{code_of}
 use Rattle.machine.specs.Lasting.{FitsProgram}
 use Rattle.machine.proofs.Sizes.{numbers_there, memory_stays}
@@ -66,13 +66,13 @@ open_still (Some number) m n same h =
     loaded_still (finmap.get m.data_blocks number) (finmap.get n.data_blocks number) (same.data_blocks number) h
 
 pub long_still :
-    (len : ℕ) (o r : Option (List ℕ)) → option_map length r ≡ option_map length o → IsLong len o → IsLong len r
+    (len : ℕ) (o r : Option (List ℕ)) → option_map length r ≡ option_map length o → HasLength len o → HasLength len r
 long_still len (Some xs) (Some ys) same h = let e : length ys ≡ length xs = cc in rw e h
 long_still len None r same h = absurd h
 long_still len (Some xs) None same h = absurd cc
 
 instance_still :
-    (kind : BlockKind) (h : Head) (m n : Areas) (o : Option ℕ) → SameSizes m n → HasInstance kind h m o
+    (kind : BlockKind) (h : BlockHead) (m n : Areas) (o : Option ℕ) → SameSizes m n → HasInstance kind h m o
     → HasInstance kind h n o
 instance_still kinds.Ob h m n None same is = is
 instance_still kinds.Fc h m n None same is = is
@@ -89,7 +89,7 @@ instance_still kinds.Sfc h m n (Some number) same is = absurd is
 instance_still kinds.Udt h m n (Some number) same is = absurd is
 
 pub block_still :
-    (h : Option Head) (f : Frame) (below : List Frame) (m n : Areas) → SameSizes m n → FitsBlock h f below m
+    (h : Option BlockHead) (f : Frame) (below : List Frame) (m n : Areas) → SameSizes m n → FitsBlock h f below m
     → FitsBlock h f below n
 block_still None f below m n same is = absurd is
 block_still (Some h) f below m n same is = record {
@@ -117,8 +117,8 @@ frames_still c brackets m n (f ∷ below) same fits =
     (frame_still c brackets m n below f same fits.0, frames_still c brackets m n below same fits.1)
 
 pub fits_still :
-    (c : Code) (brackets : OpenCodes) (m n : Areas) (a : Activation) → SameSizes m n → Fits c brackets m a
-    → Fits c brackets n a
+    (c : Code) (brackets : OpenCodes) (m n : Areas) (a : Activation) → SameSizes m n → ActivationFits c brackets m a
+    → ActivationFits c brackets n a
 fits_still c brackets m n a same fits = record {
   stands = fits.stands;
   frames = frames_still c brackets m n (frames_of a) same fits.frames;

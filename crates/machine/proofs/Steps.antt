@@ -9,10 +9,10 @@ use Rattle.frames.specs.declared.running.Running.{Running}
 use Rattle.machine.specs.declared.outcomes.Outcome.{Outcome}
 use Rattle.machine.specs.declared.outcomes.Outcome.TheVariants as outcome
 use Rattle.machine.specs.ExecState.{ExecState}
-use Rattle.machine.specs.Outcomes.{Meets}
-use Rattle.machine.specs.Entering.{Call, Fails, Stops, Enters, Calls}
+use Rattle.machine.specs.Outcomes.{ChangesExecState}
+use Rattle.machine.specs.Entering.{Call, Fails, Stops, Enters, LeavesCall}
 use Rattle.machine.specs.Returning.{Return, GoesOn, Ends, Returns}
-use Rattle.machine.specs.Statement.{Step, Went, Ended, SyncError, SysCall, Stop, Stuck, World, world, advance, cause_of, continue_with, after_call, after_return, is_error, IsNotStuck, IsOutcomeOf, IsPerformed}
+use Rattle.machine.specs.Statement.{Step, Went, Ended, SyncError, SysCall, Stop, Stuck, World, world, advance, cause_of, continue_with, call_step, after_return, is_sync_error, IsNotStuck, IsOutcomeOf, IsPerformed}
 
 abbrev pub moved_to : ℕ → Activation → Running → Activation
 moved_to next a s =
@@ -27,7 +27,7 @@ worlds a b c = cc
 
 pub went_performs :
     (e : Result ExecState ℕ) (next : ℕ) (a : Activation) (s : Running) (m m' : Areas) (t t' : List Timer) (n n' : List Counter)
-    (other : Outcome) → Meets e a.running s m m' t t' n n' (Ok tt)
+    (other : Outcome) → ChangesExecState e a.running s m m' t t' n n' (Ok tt)
     → IsPerformed (continue_with e next a) next a (moved_to next a s) (world m t n) (world m' t' n') true other
 went_performs (Ok p) next a s m m' t t' n n' other h =
     (ap (moved_to next a) h.0, worlds h.1 h.2 h.3)
@@ -35,7 +35,7 @@ went_performs (Err e) next a s m m' t t' n n' other h = absurd h
 
 pub failed_performs :
     (e : Result ExecState ℕ) (next : ℕ) (a : Activation) (s : Running) (m m' : Areas) (t t' : List Timer) (n n' : List Counter) (code : ℕ)
-    → Meets e a.running s m m' t t' n n' (Err code)
+    → ChangesExecState e a.running s m m' t t' n n' (Err code)
     → IsPerformed (continue_with e next a) next a (record a { running = s }) (world m t n) (world m' t' n') false (outcome.SyncError code)
 failed_performs (Ok p) next a s m m' t t' n n' code h = absurd h
 failed_performs (Err e) next a s m m' t t' n n' code h =
@@ -45,8 +45,8 @@ failed_performs (Err e) next a s m m' t t' n n' code h =
 
 pub call_performs :
     (c : Call) (next : ℕ) (a after : Activation) (m m' : Areas) (t : List Timer) (n : List Counter) (other : Outcome)
-    → Calls c a after m m' (Ok tt)
-    → IsPerformed (after_call c next a (world m t n)) next a after (world m t n) (world m' t n) true other
+    → LeavesCall c a after m m' (Ok tt)
+    → IsPerformed (call_step c next a (world m t n)) next a after (world m t n) (world m' t n) true other
 call_performs (Fails code) next a after m m' t n other h = absurd h
 call_performs (Stops fault) next a after m m' t n other h = absurd h
 call_performs (Enters to memory) next a after m m' t n other h =
@@ -54,8 +54,8 @@ call_performs (Enters to memory) next a after m m' t n other h =
 
 pub call_stops :
     (c : Call) (next : ℕ) (a after : Activation) (m m' : Areas) (t : List Timer) (n : List Counter) (fault : FrameFault)
-    (cause : ℕ) → cause ≡ cause_of fault → Calls c a after m m' (Err fault)
-    → IsPerformed (after_call c next a (world m t n)) next a after (world m t n) (world m' t n) false (outcome.Stop cause)
+    (cause : ℕ) → cause ≡ cause_of fault → LeavesCall c a after m m' (Err fault)
+    → IsPerformed (call_step c next a (world m t n)) next a after (world m t n) (world m' t n) false (outcome.Stop cause)
 call_stops (Fails code) next a after m m' t n fault cause is h = absurd h
 call_stops (Stops why) next a after m m' t n fault cause is h =
     (is ∙ ap cause_of h.0, h.1, ap (λ z. world z t n) h.2)
@@ -89,7 +89,7 @@ goes_comes Stuck next old new w v other there h = absurd there
 
 -- a synchronous error goes on at the next statement
 pub error_comes :
-    (step : Step) (next : ℕ) (old new : Activation) (w v : World) (other : Outcome) → is_error other ≡ true → IsNotStuck step
+    (step : Step) (next : ℕ) (old new : Activation) (w v : World) (other : Outcome) → is_sync_error other ≡ true → IsNotStuck step
     → IsPerformed step next old new w v false other → IsOutcomeOf step old (advance next new) w v other
 error_comes (Went a after) next old new w v other error there h = absurd h
 error_comes (Ended regs after) next old new w v (outcome.SyncError code) error there h = absurd h
@@ -116,7 +116,7 @@ error_comes (Stop cause) next old new w v (outcome.Stop answer) error there h = 
 error_comes Stuck next old new w v other error there h = absurd there
 
 pub other_comes :
-    (step : Step) (next : ℕ) (old new : Activation) (w v : World) (other : Outcome) → is_error other ≡ false → IsNotStuck step
+    (step : Step) (next : ℕ) (old new : Activation) (w v : World) (other : Outcome) → is_sync_error other ≡ false → IsNotStuck step
     → IsPerformed step next old new w v false other → IsOutcomeOf step old new w v other
 other_comes (Went a after) next old new w v other error there h = absurd h
 other_comes (Ended regs after) next old new w v other error there h = h

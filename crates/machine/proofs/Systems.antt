@@ -10,17 +10,17 @@ use Rattle.plc_base.specs.declared.Width.TheVariants as widths
 use Rattle.plc_base.specs.declared.blocks.BlockKind.TheVariants as kinds
 use Rattle.plc_mem.specs.Areas.{Areas}
 use Rattle.plc_mem.specs.BitPlace.{PeripheralInputs, PeripheralOutputs}
-use Rattle.plc_mem.specs.Bits.{bit_at, bit_in, byte_at}
-use Rattle.plc_mem.specs.Fresh.{fresh}
+use Rattle.plc_mem.specs.Bits.{bit_at, bit_of_byte, region_byte}
+use Rattle.plc_mem.specs.Fresh.{initial_memory}
 use Rattle.plc_mem.specs.Number.{number_at, EachBitExists, region_of, operand_bit}
 use Rattle.plc_mem.specs.Places.{HasImage}
-use Rattle.plc_mem.specs.Writing.{written}
+use Rattle.plc_mem.specs.Writing.{number_written}
 use Rattle.plc_base.specs.Widths.{bit_count}
 use Rattle.plc_mem.specs.Run.{number_over}
 use Rattle.plc_mem.proofs.Kept.{number_fits, over_fits}
 use Rattle.plc_mem.proofs.Runs.{chained}
 use Rattle.plc_mem.proofs.Lawful.{reads_where_each_bit_exists, writing_exists}
-use Rattle.frames.specs.Locals.{LocalData, lies_within, local_number, local_written}
+use Rattle.frames.specs.Locals.{LocalData, local_operand_start, local_number, local_written}
 use Rattle.frames.specs.declared.Activation.{Activation}
 use Rattle.frames.specs.declared.bindings.Binding.{Binding}
 use Rattle.frames.specs.declared.bindings.Binding.TheVariants as binding
@@ -28,9 +28,9 @@ use Rattle.frames.specs.declared.frame.Frame.{Frame}
 use Rattle.flat_code.specs.declared.programs.Param.{Param}
 use Rattle.flat_code.specs.Instr.{Passing}
 use Rattle.flat_code.specs.Programs.{CodeBlock, Program}
-use Rattle.image_file.specs.Readers.{block_of}
+use Rattle.image_file.specs.Readers.{block_by_id}
 use Rattle.machine.specs.declared.places.Location.{Location}
-use Rattle.machine.specs.Bindings.{bindings_of}
+use Rattle.machine.specs.Bindings.{param_bindings}
 use Rattle.machine.specs.Entering.{at_block, going_on}
 use Rattle.machine.specs.Fitting.{ExistsIn, IsBound, AreBound, IsMemoryOf, LocalsFit, SameParts}
 use Rattle.machine.specs.Flat.{code_of}
@@ -38,8 +38,8 @@ use Rattle.machine.specs.ImageLaws.{ImageLaws}
 use Rattle.machine.specs.Lasting.{Lasts, FitWidths, TakesResult, input_widths}
 use Rattle.machine.specs.OpenBrackets.{open_codes}
 use Rattle.machine.specs.ExecState.{Local, LocalMemory, local_of, then_ok}
-use Rattle.machine.specs.Places.{is_local, number_in}
-use Rattle.machine.specs.Statement.{World, after_system_call, system_called}
+use Rattle.machine.specs.Places.{is_area_l, location_number}
+use Rattle.machine.specs.Statement.{World, after_system_call, system_call_made}
 use Rattle.machine.specs.SystemCalls.{given_by, input_of, inputs_from, result_from, system_call, system_function}
 use Rattle.machine.specs.Values.{with_locals, stored_at}
 use Rattle.machine.proofs.BindingLemmas.{PassingsFit, is_among, bound_of}
@@ -58,7 +58,7 @@ record Written (m : Areas) : Type 0 where
   image : HasImage m
 
 of_program : (p : Program) (m : Areas) → IsMemoryOf (code_of p) m → Written m
-unfolding fresh
+unfolding initial_memory
 of_program p m is = record {
   outputs = record {
     low = is.sizes.peripheral_outputs.low ∙ sym is.sizes.peripheral_inputs.low;
@@ -69,7 +69,7 @@ of_program p m is = record {
 
 both_parts :
     (m : Areas) (byte bit : ℕ) → SameParts m.peripheral_inputs m.peripheral_outputs
-    → is_some (bit_in (byte_at m PeripheralOutputs byte) bit) ≡ is_some (bit_in (byte_at m PeripheralInputs byte) bit)
+    → is_some (bit_of_byte (region_byte m PeripheralOutputs byte) bit) ≡ is_some (bit_of_byte (region_byte m PeripheralInputs byte) bit)
 both_parts m byte bit same = part_bits m.peripheral_inputs m.peripheral_outputs byte bit same
 
 peripheral_bits :
@@ -99,7 +99,7 @@ each_writable m areas.L place width same all = all
 
 writable :
     (m : Areas) (place : Place) (width : Width) (value : ℕ) → Written m → IsSome (number_at m place width)
-    → IsSome (written m place width value)
+    → IsSome (number_written m place width value)
 writable m place width value w there =
     let reads = reads_where_each_bit_exists m place width in
     let writes = writing_exists m place width value (λ is. w.image) in
@@ -111,13 +111,13 @@ stored_there :
 stored_there frames m at value s fits w exists = by at.place.area exists
   where
     in_memory : IsSome (number_at m at.place at.width)
-        → IsSome (option_map (λ (memory : Areas). let r : LocalMemory = record { local = s; memory = memory } in r) (written m at.place at.width value))
-    in_memory there = mapped_there _ (written m at.place at.width value) (writable m at.place at.width value w there)
+        → IsSome (option_map (λ (memory : Areas). let r : LocalMemory = record { local = s; memory = memory } in r) (number_written m at.place at.width value))
+    in_memory there = mapped_there _ (number_written m at.place at.width value) (writable m at.place at.width value w there)
 
     by : (area : Area) → ExistsIn area at frames m
-        → IsSome (cond (is_local area)
+        → IsSome (cond (is_area_l area)
         (option_map (λ (l : LocalData). let r : LocalMemory = record { local = with_locals s l; memory = m } in r) (local_written s.locals at.frame at.place.byte at.place.bit at.width value))
-        (option_map (λ (memory : Areas). let r : LocalMemory = record { local = s; memory = memory } in r) (written m at.place at.width value)))
+        (option_map (λ (memory : Areas). let r : LocalMemory = record { local = s; memory = memory } in r) (number_written m at.place at.width value)))
     by areas.L exists =
         mapped_there _ (local_written s.locals at.frame at.place.byte at.place.bit at.width value)
         (lies_written frames s.locals at.frame at.place.byte at.place.bit value at.width fits exists)
@@ -140,11 +140,11 @@ local_fits :
     (l : LocalData) (frame at bit : ℕ) (width : Width) (n : ℕ) → local_number l frame at bit width ≡ Some n → n < 2 ^ bit_count width
 unfolding local_number
 local_fits l frame at bit width n is =
-    let found = chained (λ (place : ℕ). number_over (slice_get l.bytes) place bit width) (lies_within l frame at width) n is in
+    let found = chained (λ (place : ℕ). number_over (slice_get l.bytes) place bit width) (local_operand_start l frame at width) n is in
     over_fits (slice_get l.bytes) found.0 bit width (Some n) (sym found.2)
 
-place_fits : (at : Location) (l : LocalData) (m : Areas) (n : ℕ) → number_in at l m ≡ Some n → n < 2 ^ bit_count at.width
-place_fits at l m n is = by (is_local at.place.area) is
+place_fits : (at : Location) (l : LocalData) (m : Areas) (n : ℕ) → location_number at l m ≡ Some n → n < 2 ^ bit_count at.width
+place_fits at l m n is = by (is_area_l at.place.area) is
   where
     by : (local : Bool) → cond local (local_number l at.frame at.place.byte at.place.bit at.width) (number_at m at.place at.width) ≡ Some n → n < 2 ^ bit_count at.width
     by true is = local_fits l at.frame at.place.byte at.place.bit at.width n is
@@ -154,9 +154,9 @@ given_fits :
     (p : Param) (frames : List Frame) (m : Areas) (b : Binding) (s : Local) → IsBound kinds.Fc p frames m b
     → input_of (Some b) s m < 2 ^ bit_count p.width
 given_fits p frames m (binding.Bound at width frame) s is =
-    by (number_in (record { place = at; width = width; frame = frame }) s.locals m) refl
+    by (location_number (record { place = at; width = width; frame = frame }) s.locals m) refl
   where
-    by : (o : Option ℕ) → number_in (record { place = at; width = width; frame = frame }) s.locals m ≡ o → unwrap_or o 0 < 2 ^ bit_count p.width
+    by : (o : Option ℕ) → location_number (record { place = at; width = width; frame = frame }) s.locals m ≡ o → unwrap_or o 0 < 2 ^ bit_count p.width
     by None e = power_some p.width
     by (Some n) e = subst (λ (w : Width). n < 2 ^ bit_count w) is.0 (place_fits (record { place = at; width = width; frame = frame }) s.locals m n e)
 given_fits p frames m (binding.Constant value) s is = is.1
@@ -235,12 +235,12 @@ system_lasts l p a w next number ps (Ok bs) h known told bound =
 
 pub function_called_lasts :
     (l : ImageLaws) (p : Program) (a : Activation) (w : World) (next number : ℕ) (own : CodeBlock) (ps : List Param) (xs : List Passing)
-    → Caller p w.memory a next → system_function number ≡ Some ps → block_of a.running.frame.block p.code_blocks ≡ Some own
+    → Caller p w.memory a next → system_function number ≡ Some ps → block_by_id a.running.frame.block p.code_blocks ≡ Some own
     → PassingsFit a.running.frame.block.kind own.params ps xs
     → ((i : ℕ) (q : Param) → slice_get ps i ≡ Some q → is_among i xs ≡ true)
-    → Lasts p w (system_called (Some ps) number xs next a w)
+    → Lasts p w (system_call_made (Some ps) number xs next a w)
 unfolding system_call
 function_called_lasts l p a w next number own ps xs h known own_is fits each =
     let bound = caller_binds p w.memory a own ps next xs own_is h.fits fits in
-    system_lasts l p a w next number ps (bindings_of ps xs (local_of a.running) w.memory) h known (caller_told p w.memory a own ps xs own_is h.fits fits)
-    (function_bound ps (caller a next ∷ a.below) w.memory xs (bindings_of ps xs (local_of a.running) w.memory) each bound)
+    system_lasts l p a w next number ps (param_bindings ps xs (local_of a.running) w.memory) h known (caller_told p w.memory a own ps xs own_is h.fits fits)
+    (function_bound ps (caller a next ∷ a.below) w.memory xs (param_bindings ps xs (local_of a.running) w.memory) each bound)

@@ -10,8 +10,8 @@ use Rattle.flat_code.specs.declared.operands.Operand.{Operand}
 use Rattle.flat_code.specs.declared.operands.Operand.TheVariants as operand
 use Rattle.flat_code.specs.declared.programs.Param.{Param}
 use Rattle.machine.specs.ExecState.{Local, then_ok}
-use Rattle.machine.specs.Flat.{Run, run_at, run_with, use_db_of, use_db_first, list_of, listed_with, with_op}
-use Rattle.machine.specs.Walking.{Walk, walk_by, walk_with, first_of, opens_after, picked, bound_from, bound_by, bound_next}
+use Rattle.machine.specs.Flat.{OpRun, op_run_at, run_with, use_db_of, use_db_first, list_of, listed_with, with_op}
+use Rattle.machine.specs.Walking.{Walk, walk_by, walk_with, first_some, opens_after, list_jump, bound_from, binding_by, bound_next}
 
 -- what is behind a count of which some are done
 one_less : (k most : ℕ) → k < most → most - k ≡ suc (most - suc k)
@@ -20,26 +20,26 @@ one_less k most h = omega arith
 one_more : (k : ℕ) → k + 1 ≡ suc k
 one_more k = omega arith
 
-abbrev walked : Option ℕ → Option Run → Option Walk
+abbrev walked : Option ℕ → Option OpRun → Option Walk
 walked opens r = option_map (walk_with opens) r
 
 run_next :
     (most : ℕ) (ops : List OpData) (at : ℕ)
-    → run_at (suc most) ops at ≡ run_with (op_placed 0 ops at) (λ next. run_at most ops next)
-unfolding run_at
+    → op_run_at (suc most) ops at ≡ run_with (op_placed 0 ops at) (λ next. op_run_at most ops next)
+unfolding op_run_at
 run_next most ops at = refl
 
-run_none : (ops : List OpData) (at : ℕ) → run_at 0 ops at ≡ None
-unfolding run_at
+run_none : (ops : List OpData) (at : ℕ) → op_run_at 0 ops at ≡ None
+unfolding op_run_at
 run_none ops at = refl
 
-first_alone : (opens : Option ℕ) → first_of opens None ≡ opens
+first_alone : (opens : Option ℕ) → first_some opens None ≡ opens
 first_alone None = refl
 first_alone (Some number) = refl
 
 first_moves_none :
     (more : Option ℕ) (o : Operand)
-    → use_db_first o more ≡ first_of (use_db_first o None) more
+    → use_db_first o more ≡ first_some (use_db_first o None) more
 first_moves_none more (operand.UseDb number) = refl
 first_moves_none more operand.Nothing = refl
 first_moves_none more (operand.Literal value) = refl
@@ -58,20 +58,20 @@ first_moves_none more (operand.OpenBy register from byte) = refl
 
 first_moves :
     (opens more : Option ℕ) (o : Operand)
-    → first_of opens (use_db_first o more) ≡ first_of (opens_after opens o) more
+    → first_some opens (use_db_first o more) ≡ first_some (opens_after opens o) more
 first_moves (Some number) more o = refl
 first_moves None more o = first_moves_none more o
 
 -- no op begins there
 run_nowhere :
-    (most : ℕ) (ops : List OpData) (at : ℕ) → None ≡ op_placed 0 ops at → run_at most ops at ≡ None
-unfolding run_at
+    (most : ℕ) (ops : List OpData) (at : ℕ) → None ≡ op_placed 0 ops at → op_run_at most ops at ≡ None
+unfolding op_run_at
 run_nowhere zero ops at h = refl
 run_nowhere (suc most) ops at h = rw (sym h) refl
 
 pub walk_nowhere :
     (most : ℕ) (ops : List OpData) (at : ℕ) (opens : Option ℕ) → None ≡ op_placed 0 ops at
-    → None ≡ option_map (walk_with opens) (run_at most ops at)
+    → None ≡ option_map (walk_with opens) (op_run_at most ops at)
 walk_nowhere most ops at opens h = rw (run_nowhere most ops at h) refl
 
 -- no op is left
@@ -80,21 +80,21 @@ none_left most k h = omega (arith, h)
 
 pub walk_stops :
     (most k : ℕ) (ops : List OpData) (at : ℕ) (opens : Option ℕ) → k ≡ most
-    → None ≡ option_map (walk_with opens) (run_at (most - k) ops at)
+    → None ≡ option_map (walk_with opens) (op_run_at (most - k) ops at)
 walk_stops most k ops at opens h = rw (none_left most k h) (rw (run_none ops at) refl)
 
 -- the last op
 run_last :
     (most : ℕ) (ops : List OpData) (at next : ℕ) (op : OpData)
     → Some (op, next) ≡ op_placed 0 ops at → op.last ≡ true
-    → run_at (suc most) ops at ≡ Some (record { before = []; last = op; next = next })
+    → op_run_at (suc most) ops at ≡ Some (record { before = []; last = op; next = next })
 run_last most ops at next op h last = rw (run_next most ops at) (rw (sym h) (rw last refl))
 
 pub walk_ends :
     (most k : ℕ) (ops : List OpData) (at next : ℕ) (op : OpData) (opens : Option ℕ) → k < most
     → Some (op, next) ≡ op_placed 0 ops at → op.last ≡ true
     → Some (record { opens = opens; last = op; next = next })
-    ≡ option_map (walk_with opens) (run_at (most - k) ops at)
+    ≡ option_map (walk_with opens) (op_run_at (most - k) ops at)
 walk_ends most k ops at next op opens less h last =
     rw (one_less k most less) (rw (run_last (most - suc k) ops at next op h last)
     (rw (first_alone opens) refl))
@@ -103,7 +103,7 @@ walk_ends most k ops at next op opens less h last =
 pub walk_ends_there :
     (most k : ℕ) (ops : List OpData) (at next : ℕ) (op : OpData) (opens : Option ℕ) (walk : Option Walk) → k < most
     → Some (op, next) ≡ op_placed 0 ops at → op.last ≡ true → walk ≡ option_map (walk_by opens) (op_placed 0 ops at)
-    → walk ≡ option_map (walk_with opens) (run_at (most - k) ops at)
+    → walk ≡ option_map (walk_with opens) (op_run_at (most - k) ops at)
 walk_ends_there most k ops at next op opens walk less h last is =
     is ∙ sym (ap (option_map (walk_by opens)) h) ∙ walk_ends most k ops at next op opens less h last
 
@@ -111,18 +111,18 @@ walk_ends_there most k ops at next op opens walk less h last is =
 run_more :
     (most : ℕ) (ops : List OpData) (at next : ℕ) (op : OpData)
     → Some (op, next) ≡ op_placed 0 ops at → op.last ≡ false
-    → run_at (suc most) ops at ≡ option_map (with_op op) (run_at most ops next)
+    → op_run_at (suc most) ops at ≡ option_map (with_op op) (op_run_at most ops next)
 run_more most ops at next op h more = rw (run_next most ops at) (rw (sym h) (rw more refl))
 
 walk_with_op :
-    (op : OpData) (opens : Option ℕ) (r : Run)
+    (op : OpData) (opens : Option ℕ) (r : OpRun)
     → walk_with opens (with_op op r) ≡ walk_with (opens_after opens op.operand) r
 walk_with_op op opens r =
     ap (λ (z : Option ℕ). record { opens = z; last = r.last; next = r.next })
     (first_moves opens (use_db_of r.before) op.operand)
 
 walks_with_op :
-    (op : OpData) (opens : Option ℕ) (r : Option Run)
+    (op : OpData) (opens : Option ℕ) (r : Option OpRun)
     → option_map (walk_with opens) (option_map (with_op op) r)
     ≡ option_map (walk_with (opens_after opens op.operand)) r
 walks_with_op op opens None = refl
@@ -131,30 +131,30 @@ walks_with_op op opens (Some r) = ap (λ z. Some z) (walk_with_op op opens r)
 pub walk_goes_on :
     (most k : ℕ) (ops : List OpData) (at next : ℕ) (op : OpData) (opens : Option ℕ) → k < most
     → Some (op, next) ≡ op_placed 0 ops at → op.last ≡ false
-    → option_map (walk_with opens) (run_at (most - k) ops at)
-    ≡ option_map (walk_with (opens_after opens op.operand)) (run_at (most - (k + 1)) ops next)
+    → option_map (walk_with opens) (op_run_at (most - k) ops at)
+    ≡ option_map (walk_with (opens_after opens op.operand)) (op_run_at (most - (k + 1)) ops next)
 walk_goes_on most k ops at next op opens less h more =
     rw (one_more k) (rw (one_less k most less) (rw (run_more (most - suc k) ops at next op h more)
-    (walks_with_op op opens (run_at (most - suc k) ops next))))
+    (walks_with_op op opens (op_run_at (most - suc k) ops next))))
 
 -- the first op of a statement, which is its last one in most
 pub first_ends :
     (ops : List OpData) (at next : ℕ) (op : OpData) → Some (op, next) ≡ op_placed 0 ops at → op.last ≡ true
-    → Some (record { opens = None; last = op; next = next }) ≡ option_map (walk_with None) (run_at 64 ops at)
+    → Some (record { opens = None; last = op; next = next }) ≡ option_map (walk_with None) (op_run_at 64 ops at)
 first_ends ops at next op h last = walk_ends 64 0 ops at next op None (omega arith) h last
 
 pub first_leads_on :
     (r : OpData × ℕ) (ops : List OpData) (at : ℕ) (opens : Option ℕ) → Some r ≡ op_placed 0 ops at → r.0.last ≡ false
     → opens ≡ opens_after None r.0.operand
-    → option_map (walk_with None) (run_at 64 ops at) ≡ option_map (walk_with opens) (run_at 63 ops r.1)
+    → option_map (walk_with None) (op_run_at 64 ops at) ≡ option_map (walk_with opens) (op_run_at 63 ops r.1)
 first_leads_on r ops at opens h more is =
     walk_goes_on 64 0 ops at r.1 r.0 None (omega arith) h more
-    ∙ ap (λ (z : Option ℕ). option_map (walk_with z) (run_at 63 ops r.1)) (sym is)
+    ∙ ap (λ (z : Option ℕ). option_map (walk_with z) (op_run_at 63 ops r.1)) (sym is)
 
 pub first_goes_on :
     (ops : List OpData) (at next : ℕ) (op : OpData) (walk : Option Walk) → Some (op, next) ≡ op_placed 0 ops at → op.last ≡ false
-    → walk ≡ option_map (walk_with (opens_after None op.operand)) (run_at 63 ops next)
-    → walk ≡ option_map (walk_with None) (run_at 64 ops at)
+    → walk ≡ option_map (walk_with (opens_after None op.operand)) (op_run_at 63 ops next)
+    → walk ≡ option_map (walk_with None) (op_run_at 64 ops at)
 first_goes_on ops at next op walk h more is = is ∙ sym (first_leads_on (op, next) ops at (opens_after None op.operand) h more refl)
 
 -- the bindings along the ops
@@ -202,14 +202,14 @@ bound_more :
     (most : ℕ) (ops : List OpData) (at next : ℕ) (op : OpData) (params : List Param) (bindings : List Binding) (s : Local) (m : Areas)
     → Some (op, next) ≡ op_placed 0 ops at → op.last ≡ false
     → bound_from (suc most) ops at params bindings s m
-    ≡ then_ok (bound_by op.operand params bindings s m) (λ bound. bound_from most ops next params bound s m)
+    ≡ then_ok (binding_by op.operand params bindings s m) (λ bound. bound_from most ops next params bound s m)
 bound_more most ops at next op params bindings s m h more =
     rw (bound_step most ops at params bindings s m) (rw (sym h) (rw more refl))
 
 pub bound_goes_on :
     (k : ℕ) (ops : List OpData) (at next : ℕ) (op : OpData) (params : List Param) (bindings bound : List Binding) (s : Local) (m : Areas)
     → k < 64 → Some (op, next) ≡ op_placed 0 ops at → op.last ≡ false
-    → bound_by op.operand params bindings s m ≡ Ok bound
+    → binding_by op.operand params bindings s m ≡ Ok bound
     → bound_from (64 - k) ops at params bindings s m ≡ bound_from (64 - (k + 1)) ops next params bound s m
 bound_goes_on k ops at next op params bindings bound s m less h more b =
     rw (one_more k) (rw (one_less k 64 less)
@@ -218,7 +218,7 @@ bound_goes_on k ops at next op params bindings bound s m less h more b =
 pub bound_fails :
     (k : ℕ) (ops : List OpData) (at next : ℕ) (op : OpData) (params : List Param) (bindings : List Binding) (s : Local) (m : Areas) (code : ℕ)
     → k < 64 → Some (op, next) ≡ op_placed 0 ops at → op.last ≡ false
-    → bound_by op.operand params bindings s m ≡ Err code
+    → binding_by op.operand params bindings s m ≡ Err code
     → bound_from (64 - k) ops at params bindings s m ≡ Err code
 bound_fails k ops at next op params bindings s m code less h more b =
     rw (one_less k 64 less)
@@ -265,7 +265,7 @@ picked_empty list target number h = rw h refl
 
 pub picked_end :
     (most : ℕ) (ops : List OpData) (target at number : ℕ) → at ≡ target
-    → picked most ops target at number ≡ target
+    → list_jump most ops target at number ≡ target
 picked_end most ops target at number h = picked_empty _ target number (list_end most ops target at h)
 
 none_below : (r : Option (OpData × ℕ)) → None ≡ option_map (λ (r : OpData × ℕ). r.1) r → None ≡ r
@@ -275,12 +275,12 @@ none_below (Some r) h = cc
 pub picked_nowhere :
     (most : ℕ) (ops : List OpData) (target at number : ℕ)
     → None ≡ option_map (λ (r : OpData × ℕ). r.1) (op_placed 0 ops at)
-    → picked most ops target at number ≡ target
+    → list_jump most ops target at number ≡ target
 picked_nowhere most ops target at number h =
     picked_empty _ target number (list_nowhere most ops target at (none_below (op_placed 0 ops at) h))
 
 pub picked_zero :
-    (ops : List OpData) (target at number : ℕ) → picked 0 ops target at number ≡ target
+    (ops : List OpData) (target at number : ℕ) → list_jump 0 ops target at number ≡ target
 picked_zero ops target at number = picked_empty _ target number (list_none ops target at)
 
 -- a jump of the list is passed over
@@ -317,7 +317,7 @@ pub picked_on :
     (most less : ℕ) (ops : List OpData) (target at next number left : ℕ) → (at ≡ target → ⊥)
     → Some next ≡ option_map (λ (r : OpData × ℕ). r.1) (op_placed 0 ops at)
     → number ≡ suc less → left ≡ suc most
-    → picked left ops target at number ≡ picked most ops target next less
+    → list_jump left ops target at number ≡ list_jump most ops target next less
 picked_on most less ops target at next number left other h n l =
     rw n (rw l (picked_suc _ _ target at less
     (list_on_next most ops target at next (op_placed 0 ops at) other refl h)))
@@ -325,7 +325,7 @@ picked_on most less ops target at next number left other h n l =
 pub picked_here :
     (number left : ℕ) (ops : List OpData) (target at next : ℕ) → (at ≡ target → ⊥)
     → Some next ≡ option_map (λ (r : OpData × ℕ). r.1) (op_placed 0 ops at)
-    → left ≡ 0 → number < 255 → picked (255 - number + left) ops target at left ≡ at
+    → left ≡ 0 → number < 255 → list_jump (255 - number + left) ops target at left ≡ at
 picked_here number left ops target at next other h l less =
     rw l (rw (some_room number less) (picked_first _ _ target at
     (list_on_next (254 - number) ops target at next (op_placed 0 ops at) other refl h)))

@@ -3,7 +3,7 @@ use Rattle.std.specs.Prelude.{ℕ, ◌==◌, List, [], ◌∷◌, length, replic
 use Rattle.plc_base.specs.ErrorCodes as errors
 use Rattle.plc_base.specs.declared.Area.TheVariants as areas
 use Rattle.plc_mem.specs.Areas.{Areas}
-use Rattle.frames.specs.Bound.{set_at}
+use Rattle.frames.specs.Bound.{binding_set}
 use Rattle.frames.specs.declared.bindings.Binding.{Binding}
 use Rattle.frames.specs.declared.bindings.Binding.TheVariants as binding
 use Rattle.flat_code.specs.declared.operands.Passed.{Passed}
@@ -15,12 +15,12 @@ use Rattle.machine.specs.declared.places.Access.{Access}
 use Rattle.machine.specs.declared.places.Access.TheVariants.{Reading, Writing}
 use Rattle.machine.specs.declared.places.Location.{Location}
 use Rattle.machine.specs.ExecState.{Local, then_ok}
-use Rattle.machine.specs.Places.{bound_at, placed, number_in, absent, no_operand}
-use Rattle.machine.specs.DataBlocks.{is_loaded}
+use Rattle.machine.specs.Places.{location_at, area_location, location_number, absent, no_operand}
+use Rattle.machine.specs.DataBlocks.{is_block_loaded}
 
 -- of the sections of a declaration OUT alone is tested as a place that is written
-abbrev pub access_of : Param → Access
-access_of p = if p.section == section_out then Writing else Reading
+abbrev pub param_access : Param → Access
+param_access p = if p.section == section_out then Writing else Reading
 
 -- a place is bound if it exists
 abbrev pub bound_if : Access → Location → Option ℕ → Result Binding ℕ
@@ -29,7 +29,7 @@ bound_if access at (Some n) = Ok (binding.Bound at.place at.width at.frame)
 
 -- a place exists where a number is read, for OUT too; else 22, 23, in the peripheral area 42, 43
 unfoldable pub bound_place : Access → Location → Local → Areas → Result Binding ℕ
-bound_place access at s m = bound_if access at (number_in at s.locals m)
+bound_place access at s m = bound_if access at (location_number at s.locals m)
 
 -- a parameter that is passed on stands for what it stands for in the caller
 abbrev pub passed_on : Option Binding → Result Binding ℕ
@@ -41,16 +41,16 @@ passed_on None = Err no_operand
 unfoldable pub bound_actual : Access → Passed → Local → Areas → Result Binding ℕ
 bound_actual access (passed.Literal value) s m = Ok (binding.Constant value)
 bound_actual access (passed.Direct area width byte bit) s m =
-    then_ok (placed access area byte bit width s) (λ at. bound_place access at s m)
+    then_ok (area_location access area byte bit width s) (λ at. bound_place access at s m)
 bound_actual access (passed.Parameter index width) s m =
     passed_on (slice_get s.inner.bindings index)
 bound_actual access (passed.InBlock number area width byte bit) s m =
-    if is_loaded number m then bound_place access (bound_at areas.Db number byte bit width 0) s m
+    if is_block_loaded number m then bound_place access (location_at areas.Db number byte bit width 0) s m
     else Err errors.no_data_block
 
 -- for a parameter of the called block; one that it lacks is passed in no program that is loaded
 abbrev pub bound_for : Option Param → Passed → Local → Areas → Result Binding ℕ
-bound_for (Some p) actual s m = bound_actual (access_of p) actual s m
+bound_for (Some p) actual s m = bound_actual (param_access p) actual s m
 bound_for None actual s m = Err no_operand
 
 -- one after another, each passing sets what its parameter stands for
@@ -59,12 +59,12 @@ abbrev pub bound_params :
 bound_params params [] bindings s m = Ok bindings
 bound_params params (passing ∷ rest) bindings s m =
     then_ok (bound_for (slice_get params passing.index) passing.actual s m) (λ b.
-    bound_params params rest (set_at bindings passing.index b) s m)
+    bound_params params rest (binding_set bindings passing.index b) s m)
 
 -- before, none is supplied
-abbrev pub unsupplied : List Param → List Binding
-unsupplied params = replicate (length params) binding.Unsupplied
+abbrev pub no_bindings : List Param → List Binding
+no_bindings params = replicate (length params) binding.Unsupplied
 
 -- what the parameters of a block stand for
-unfoldable pub bindings_of : List Param → List Passing → Local → Areas → Result (List Binding) ℕ
-bindings_of params passings s m = bound_params params passings (unsupplied params) s m
+unfoldable pub param_bindings : List Param → List Passing → Local → Areas → Result (List Binding) ℕ
+param_bindings params passings s m = bound_params params passings (no_bindings params) s m

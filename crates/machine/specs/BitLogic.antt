@@ -4,71 +4,71 @@ use Rattle.std.specs.Prelude.{ℕ, ◌==◌, Bool, if◌then◌else◌, List, Re
 use Rattle.plc_base.specs.declared.Check.{Check}
 use Rattle.plc_mem.specs.Areas.{Areas}
 use Rattle.status_word.specs.declared.Regs.{Regs}
-use Rattle.status_word.specs.Check.{checked}
-use Rattle.status_word.specs.Store.{stored}
-use Rattle.status_word.specs.Edge.{edged}
+use Rattle.status_word.specs.Check.{after_check}
+use Rattle.status_word.specs.Store.{after_store}
+use Rattle.status_word.specs.Edge.{after_edge}
 use Rattle.timers_counters.specs.Timer.{Timer}
 use Rattle.timers_counters.specs.Counter.{Counter}
 use Rattle.flat_code.specs.declared.operands.Operand.{Operand}
 use Rattle.machine.specs.declared.places.Access.TheVariants.{Writing}
 use Rattle.machine.specs.declared.places.Location.{Location}
 use Rattle.machine.specs.ExecState.{Local, LocalMemory, then_ok}
-use Rattle.machine.specs.Places.{located, number_in, absent}
-use Rattle.machine.specs.Values.{tested, write}
+use Rattle.machine.specs.Places.{operand_location, location_number, absent}
+use Rattle.machine.specs.Values.{checked_bit, write}
 use Rattle.machine.specs.Relay.{power_flow}
 
 -- A AN O ON X XN
 unfoldable pub checking : Check → Operand → Local → Areas → List Timer → List Counter → Result Regs ℕ
 checking with o s m t n =
-    then_ok (tested o s m t n) (λ bit. Ok (checked with bit s.regs))
+    then_ok (checked_bit o s m t n) (λ bit. Ok (after_check with bit s.regs))
 
 -- the number of a bit operand: 1 where the bit is true, else 0
-abbrev pub bit_number : Bool → ℕ
-bit_number bit = if bit then 1 else 0
+abbrev pub bit_as_number : Bool → ℕ
+bit_as_number bit = if bit then 1 else 0
 
 -- other registers; memory and all else of the activation stay
-abbrev pub with_regs : Regs → LocalMemory → LocalMemory
-with_regs r c = record c { local = record c.local { regs = r } }
+abbrev pub with_local_regs : Regs → LocalMemory → LocalMemory
+with_local_regs r c = record c { local = record c.local { regs = r } }
 
 -- a bit written to a place, and other registers
 unfoldable pub put_bit : Location → Bool → Regs → Local → Areas → Result LocalMemory ℕ
-put_bit at bit r s m = then_ok (write at (bit_number bit) s m) (λ c. Ok (with_regs r c))
+put_bit at bit r s m = then_ok (write at (bit_as_number bit) s m) (λ c. Ok (with_local_regs r c))
 
 -- the bit at a place that is written; its errors are those of writing
 unfoldable pub bit_before : Location → Local → Areas → Result Bool ℕ
 bit_before at s m =
-    then_ok (ok_or (number_in at s.locals m) (absent Writing at.place.area)) (λ n. Ok (n == 1))
+    then_ok (ok_or (location_number at s.locals m) (absent Writing at.place.area)) (λ n. Ok (n == 1))
 
 -- =: RLO, and 0 while the relay is closed, to the bit and to STA
 abbrev pub assigned_at : Location → Local → Areas → Result LocalMemory ℕ
-assigned_at at s m = put_bit at (power_flow s) (stored (power_flow s) s.regs) s m
+assigned_at at s m = put_bit at (power_flow s) (after_store (power_flow s) s.regs) s m
 
 -- the place of its operand is sought as one that is written, whatever is written
-unfoldable pub assigned : Operand → Local → Areas → Result LocalMemory ℕ
-assigned o s m = then_ok (located Writing o s m) (λ at. assigned_at at s m)
+unfoldable pub bit_assigned : Operand → Local → Areas → Result LocalMemory ℕ
+bit_assigned o s m = then_ok (operand_location Writing o s m) (λ at. assigned_at at s m)
 
 -- the bit after S (value 1) and R (value 0): with RLO 0, and while the relay is closed, it stays
-abbrev pub bit_after : (flow value before : Bool) → Bool
-bit_after flow value before = if flow then value else before
+abbrev pub bit_after_set : (flow value before : Bool) → Bool
+bit_after_set flow value before = if flow then value else before
 
 -- S and R of a bit
-abbrev pub set_at : (value : Bool) → Location → (before : Bool) → Local → Areas → Result LocalMemory ℕ
-set_at value at before s m =
-    put_bit at (bit_after (power_flow s) value before)
-    (stored (bit_after (power_flow s) value before) s.regs) s m
+abbrev pub bit_set_at : (value : Bool) → Location → (before : Bool) → Local → Areas → Result LocalMemory ℕ
+bit_set_at value at before s m =
+    put_bit at (bit_after_set (power_flow s) value before)
+    (after_store (bit_after_set (power_flow s) value before) s.regs) s m
 
 -- S (true) and R (false) of an operand: its place is tested as one that is written, where the bit stays too
 unfoldable pub bit_set : (value : Bool) → Operand → Local → Areas → Result LocalMemory ℕ
 bit_set value o s m =
-    then_ok (located Writing o s m) (λ at.
-    then_ok (bit_before at s m) (λ before. set_at value at before s m))
+    then_ok (operand_location Writing o s m) (λ at.
+    then_ok (bit_before at s m) (λ before. bit_set_at value at before s m))
 
 -- FP (rising) and FN: the edge bit gets the RLO as it was before
 abbrev pub edge_at : (rising : Bool) → Location → (before : Bool) → Local → Areas → Result LocalMemory ℕ
-edge_at rising at before s m = put_bit at s.regs.status.rlo (edged rising before s.regs) s m
+edge_at rising at before s m = put_bit at s.regs.status.rlo (after_edge rising before s.regs) s m
 
 -- the operand is the edge bit; its place is tested as one that is written
 unfoldable pub edge : (rising : Bool) → Operand → Local → Areas → Result LocalMemory ℕ
 edge rising o s m =
-    then_ok (located Writing o s m) (λ at.
+    then_ok (operand_location Writing o s m) (λ at.
     then_ok (bit_before at s m) (λ before. edge_at rising at before s m))

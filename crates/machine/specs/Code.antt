@@ -12,7 +12,7 @@ pub record Fetched : Type 0 where
   pub line : ℕ
 
 -- the head of a code block: its local bytes, the bytes of its instance, its parameters
-pub record Head : Type 0 where
+pub record BlockHead : Type 0 where
   pub local_len : ℕ
   pub instance_len : ℕ
   pub params : List Param
@@ -21,5 +21,5 @@ pub record Head : Type 0 where
 -- bytes with which they begin
 pub record Code : Type 0 where
   pub fetch : BlockId → ℕ → Option Fetched
-  pub head : BlockId → Option Head
+  pub head : BlockId → Option BlockHead
   pub blocks : List (ℕ × List ℕ)

@@ -9,7 +9,7 @@ use Rattle.flat_code.specs.declared.programs.Param.{Param}
 use Rattle.flat_code.specs.Records.{section_in, section_in_out, section_out}
 use Rattle.machine.specs.declared.places.Location.{Location}
 use Rattle.machine.specs.ExecState.{LocalMemory}
-use Rattle.machine.specs.Places.{bound_at, number_in}
+use Rattle.machine.specs.Places.{location_at, location_number}
 use Rattle.machine.specs.Values.{write}
 
 -- IN and IN_OUT come in, OUT and IN_OUT go out
@@ -22,7 +22,7 @@ goes_out p = p.section == section_out || p.section == section_in_out
 
 -- the place of a parameter in an instance
 abbrev pub in_instance : Param → (instance : ℕ) → Location
-in_instance p instance = bound_at areas.Db instance p.byte p.bit p.width 0
+in_instance p instance = location_at areas.Db instance p.byte p.bit p.width 0
 
 -- what comes of writing to a place; where it doesn't exist all is as before
 abbrev pub scene_or : LocalMemory → Result LocalMemory ℕ → LocalMemory
@@ -30,24 +30,24 @@ scene_or before (Ok after) = after
 scene_or before (Err e) = before
 
 -- a number to a place
-abbrev pub put : Location → ℕ → LocalMemory → LocalMemory
-put to n c = scene_or c (write to (n % 2 ^ bit_count to.width) c.local c.memory)
+abbrev pub number_put : Location → ℕ → LocalMemory → LocalMemory
+number_put to n c = scene_or c (write to (n % 2 ^ bit_count to.width) c.local c.memory)
 
 -- the number at a place to a place
-unfoldable pub copied : (from to : Location) → LocalMemory → LocalMemory
-copied from to c = put to (unwrap_or (number_in from c.local.locals c.memory) 0) c
+unfoldable pub number_copied : (from to : Location) → LocalMemory → LocalMemory
+number_copied from to c = number_put to (unwrap_or (location_number from c.local.locals c.memory) 0) c
 
 -- what was passed to a place; a parameter that isn't supplied keeps its value
 unfoldable pub passed_to : Option Binding → Location → LocalMemory → LocalMemory
 passed_to (Some (binding.Bound place width frame)) to c =
-    copied (record { place = place; width = width; frame = frame }) to c
-passed_to (Some (binding.Constant value)) to c = put to value c
+    number_copied (record { place = place; width = width; frame = frame }) to c
+passed_to (Some (binding.Constant value)) to c = number_put to value c
 passed_to _ to c = c
 
 -- a place to what was passed
 unfoldable pub given_to : Location → Option Binding → LocalMemory → LocalMemory
 given_to from (Some (binding.Bound place width frame)) c =
-    copied from (record { place = place; width = width; frame = frame }) c
+    number_copied from (record { place = place; width = width; frame = frame }) c
 given_to from _ c = c
 
 -- an IN or IN_OUT parameter gets in its instance what was passed; an OUT parameter keeps its value
@@ -59,10 +59,10 @@ abbrev pub param_out : Param → Option Binding → (instance : ℕ) → LocalMe
 param_out p b instance c = if goes_out p then given_to (in_instance p instance) b c else c
 
 -- each sees what those before it wrote
-abbrev pub params_in : List Param → (index : ℕ) → List Binding → (instance : ℕ) → LocalMemory → LocalMemory
-params_in [] index bindings instance c = c
-params_in (p ∷ rest) index bindings instance c =
-    params_in rest (index + 1) bindings instance
+abbrev pub params_copied_in : List Param → (index : ℕ) → List Binding → (instance : ℕ) → LocalMemory → LocalMemory
+params_copied_in [] index bindings instance c = c
+params_copied_in (p ∷ rest) index bindings instance c =
+    params_copied_in rest (index + 1) bindings instance
     (param_in p (slice_get bindings index) instance c)
 
 -- out of the instance, from an index on; of two bound to one place the later one stays there

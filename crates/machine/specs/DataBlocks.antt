@@ -10,35 +10,35 @@ use Rattle.frames.specs.FrameData.{FrameData}
 use Rattle.flat_code.specs.declared.operands.Operand.{Operand}
 use Rattle.flat_code.specs.declared.operands.Operand.TheVariants as operand
 use Rattle.machine.specs.ExecState.{Local, then_ok}
-use Rattle.machine.specs.Places.{pointer, no_operand}
-use Rattle.machine.specs.Loads.{with_loaded}
+use Rattle.machine.specs.Places.{pointer_number, no_operand}
+use Rattle.machine.specs.Loads.{with_accu_loaded}
 
 -- the data block of a number is loaded
-abbrev pub is_loaded : ℕ → Areas → Bool
-is_loaded number m = is_some (map.get m.data_blocks number)
+abbrev pub is_block_loaded : ℕ → Areas → Bool
+is_block_loaded number m = is_some (map.get m.data_blocks number)
 
 -- the data block opened in the DB (1) or DI (2) register
-abbrev pub opened : (register number : ℕ) → Local → Local
-opened register number s =
+abbrev pub block_opened : (register number : ℕ) → Local → Local
+block_opened register number s =
     if register == 1 then record s { inner = record s.inner { db = Some number } }
     else record s { inner = record s.inner { di = Some number } }
 
 -- 3A: the data block isn't loaded
 abbrev pub opened_if : Bool → (register number : ℕ) → Local → Result Local ℕ
-opened_if loaded register number s = if loaded then Ok (opened register number s) else Err errors.no_data_block
+opened_if loaded register number s = if loaded then Ok (block_opened register number s) else Err errors.no_data_block
 
 -- OPN of a number, or of the number in a word of memory
-unfoldable pub opening : Operand → Local → Areas → Result Local ℕ
-opening (operand.OpenBlock register number) s m =
-    opened_if (is_loaded number m) register number s
-opening (operand.OpenBy register from byte) s m =
-    then_ok (pointer from byte widths.Word s m) (λ number.
-    opened_if (is_loaded number m) register number s)
-opening _ s m = Err no_operand
+unfoldable pub block_opened_by : Operand → Local → Areas → Result Local ℕ
+block_opened_by (operand.OpenBlock register number) s m =
+    opened_if (is_block_loaded number m) register number s
+block_opened_by (operand.OpenBy register from byte) s m =
+    then_ok (pointer_number from byte widths.Word s m) (λ number.
+    opened_if (is_block_loaded number m) register number s)
+block_opened_by _ s m = Err no_operand
 
 -- CDB: DB and DI register exchanged
-unfoldable pub exchanged : Local → Local
-exchanged s = record s { inner = record s.inner { db = s.inner.di; di = s.inner.db } }
+unfoldable pub registers_exchanged : Local → Local
+registers_exchanged s = record s { inner = record s.inner { db = s.inner.di; di = s.inner.db } }
 
 -- the number of an opened data block, and its length in bytes, in the 32 bits of an accumulator; 0
 -- where none is open
@@ -66,5 +66,5 @@ open_block_fact which f m =
 -- L DBLG, L DBNO, L DILG, L DINO
 unfoldable pub loading_open_block : Operand → Local → Areas → Result Regs ℕ
 loading_open_block (operand.Literal which) s m =
-    Ok (with_loaded (open_block_fact which s.inner m) s.regs)
+    Ok (with_accu_loaded (open_block_fact which s.inner m) s.regs)
 loading_open_block _ s m = Err no_operand

@@ -3,7 +3,7 @@ use Rattle.std.specs.Prelude.{ℕ, true, false, List, Option, Some, None, if◌t
 use Rattle.plc_base.specs.ErrorCodes as errors
 use Rattle.status_word.specs.declared.Regs.{Regs}
 use Rattle.status_word.specs.BareOr.{or_bare}
-use Rattle.status_word.specs.SetClear.{set, clr, negated, saved}
+use Rattle.status_word.specs.SetClear.{rlo_set_to_1, clr, rlo_negated, rlo_saved_in_br}
 use Rattle.alu.specs.Comparison.{compared}
 use Rattle.timers_counters.specs.Timer.{Timer}
 use Rattle.timers_counters.specs.Counter.{Counter}
@@ -13,20 +13,20 @@ use Rattle.flat_code.specs.declared.operations.Operation.{Operation}
 use Rattle.flat_code.specs.declared.operations.Operation.TheVariants as operation
 use Rattle.machine.specs.ExecState.{Local, LocalMemory, ExecState}
 use Rattle.machine.specs.Places.{no_operand}
-use Rattle.machine.specs.Values.{is_timer}
-use Rattle.machine.specs.BitLogic.{checking, assigned, bit_set, edge}
+use Rattle.machine.specs.Values.{is_timer_kind}
+use Rattle.machine.specs.BitLogic.{checking, bit_assigned, bit_set, edge}
 use Rattle.machine.specs.Nesting.{nesting, unnesting}
-use Rattle.machine.specs.Relay.{relayed}
+use Rattle.machine.specs.Relay.{relay_effect}
 use Rattle.machine.specs.Loads.{loading, loading_bcd, transferring, status_loaded, status_transferred}
-use Rattle.machine.specs.Numbers.{counted, with_constant, combined, shifted}
-use Rattle.machine.specs.Timing.{string_ended, starting, timer_reset, timer_freed, counting_up, counting_down, counter_set, counter_reset, counter_freed}
-use Rattle.machine.specs.Pointers.{pointed}
-use Rattle.machine.specs.DataBlocks.{is_loaded, opened, opening, exchanged, loading_open_block}
+use Rattle.machine.specs.Numbers.{number_effect, with_constant, word_logic_effect, shift_effect}
+use Rattle.machine.specs.Timing.{logic_string_ended, timer_start, timer_reset, timer_freed, counting_up, counting_down, counter_set, counter_reset, counter_freed}
+use Rattle.machine.specs.Pointers.{pointer_effect}
+use Rattle.machine.specs.DataBlocks.{is_block_loaded, block_opened, block_opened_by, registers_exchanged, loading_open_block}
 
 -- an effect on the registers, on all that an activation has of its own, and on memory besides
-abbrev pub on_regs : ExecState → Result Regs ℕ → Result ExecState ℕ
-on_regs p (Ok r) = Ok (record p { local = record p.local { regs = r } })
-on_regs p (Err e) = Err e
+abbrev pub effect_on_regs : ExecState → Result Regs ℕ → Result ExecState ℕ
+effect_on_regs p (Ok r) = Ok (record p { local = record p.local { regs = r } })
+effect_on_regs p (Err e) = Err e
 
 -- registers, local bytes and what the innermost frame holds; memory, timers and counters stay
 abbrev pub on_local : ExecState → Result Local ℕ → Result ExecState ℕ
@@ -41,13 +41,13 @@ on_local_memory p (Err e) = Err e
 -- an effect on timers, on counters: the logic string ends
 abbrev pub on_timers : ExecState → Result (List Timer) ℕ → Result ExecState ℕ
 on_timers p (Ok all) =
-    Ok (record p { local = record p.local { regs = string_ended p.local.regs }; timers = all })
+    Ok (record p { local = record p.local { regs = logic_string_ended p.local.regs }; timers = all })
 on_timers p (Err e) = Err e
 
 -- of counters: OR 0 and /FC 0 come with the effect, and not after an error
 abbrev pub on_counters : ExecState → Result (List Counter) ℕ → Result ExecState ℕ
 on_counters p (Ok all) =
-    Ok (record p { local = record p.local { regs = string_ended p.local.regs }; counters = all })
+    Ok (record p { local = record p.local { regs = logic_string_ended p.local.regs }; counters = all })
 on_counters p (Err e) = Err e
 
 -- the kind of an operand that is a timer (1) or counter (2)
@@ -65,52 +65,52 @@ set_of (Some kind) o p = on_counters p (counter_set o p.local p.memory p.counter
 abbrev pub reset_of : Option ℕ → Operand → ExecState → Result ExecState ℕ
 reset_of None o p = on_local_memory p (bit_set false o p.local p.memory)
 reset_of (Some kind) o p =
-    if is_timer kind then on_timers p (timer_reset o p.local p.memory p.timers)
+    if is_timer_kind kind then on_timers p (timer_reset o p.local p.memory p.timers)
     else on_counters p (counter_reset o p.local p.memory p.counters)
 
 -- FR of a timer or a counter
 abbrev pub free_of : Option ℕ → Operand → ExecState → Result ExecState ℕ
 free_of None o p = Err no_operand
 free_of (Some kind) o p =
-    if is_timer kind then on_timers p (timer_freed o p.local p.memory p.timers)
+    if is_timer_kind kind then on_timers p (timer_freed o p.local p.memory p.timers)
     else on_counters p (counter_freed o p.local p.memory p.counters)
 
 -- each instruction word with its operand: what it makes of the parts, or its synchronous error
 unfoldable pub effect : Operation → Operand → ExecState → Result ExecState ℕ
 effect operation.Nop o p = Ok p
 effect operation.Bld o p = Ok p
-effect (operation.Check with) o p = on_regs p (checking with o p.local p.memory p.timers p.counters)
-effect operation.OrBare o p = on_regs p (Ok (or_bare p.local.regs))
+effect (operation.Check with) o p = effect_on_regs p (checking with o p.local p.memory p.timers p.counters)
+effect operation.OrBare o p = effect_on_regs p (Ok (or_bare p.local.regs))
 effect (operation.Nest with) o p = on_local p (nesting with p.local)
 effect operation.Unnest o p = on_local p (unnesting p.local)
-effect (operation.Relay which) o p = on_local p (relayed which p.local)
-effect operation.Load o p = on_regs p (loading o p.local p.memory p.timers p.counters)
+effect (operation.Relay which) o p = on_local p (relay_effect which p.local)
+effect operation.Load o p = effect_on_regs p (loading o p.local p.memory p.timers p.counters)
 effect operation.Transfer o p = on_local_memory p (transferring o p.local p.memory)
-effect operation.Assign o p = on_local_memory p (assigned o p.local p.memory)
+effect operation.Assign o p = on_local_memory p (bit_assigned o p.local p.memory)
 effect operation.Set o p = set_of (kind_named o) o p
 effect operation.Reset o p = reset_of (kind_named o) o p
 effect (operation.Edge rising) o p = on_local_memory p (edge rising o p.local p.memory)
-effect operation.SetRlo o p = on_regs p (Ok (set p.local.regs))
-effect operation.ClearRlo o p = on_regs p (Ok (clr p.local.regs))
-effect operation.NegateRlo o p = on_regs p (Ok (negated p.local.regs))
-effect operation.SaveRlo o p = on_regs p (Ok (saved p.local.regs))
-effect operation.LoadBcd o p = on_regs p (loading_bcd o p.local p.memory p.timers p.counters)
-effect operation.LoadStatus o p = on_regs p (Ok (status_loaded p.local.regs))
-effect operation.TransferStatus o p = on_regs p (Ok (status_transferred p.local.regs))
-effect operation.LoadOpenBlock o p = on_regs p (loading_open_block o p.local p.memory)
-effect (operation.Pointer what) o p = on_local_memory p (pointed what o p.local p.memory)
-effect (operation.Number what) o p = on_regs p (counted what p.local.regs)
-effect (operation.Add what) o p = on_regs p (Ok (with_constant what o p.local.regs))
-effect (operation.CompareInt how) o p = on_regs p (Ok (compared 16 how p.local.regs))
-effect (operation.CompareDint how) o p = on_regs p (Ok (compared 32 how p.local.regs))
-effect (operation.Logic what) o p = on_regs p (Ok (combined what o p.local.regs))
-effect (operation.Shift what) o p = on_regs p (Ok (shifted what o p.local.regs))
-effect (operation.Start how) o p = on_timers p (starting how o p.local p.memory p.timers)
+effect operation.SetRlo o p = effect_on_regs p (Ok (rlo_set_to_1 p.local.regs))
+effect operation.ClearRlo o p = effect_on_regs p (Ok (clr p.local.regs))
+effect operation.NegateRlo o p = effect_on_regs p (Ok (rlo_negated p.local.regs))
+effect operation.SaveRlo o p = effect_on_regs p (Ok (rlo_saved_in_br p.local.regs))
+effect operation.LoadBcd o p = effect_on_regs p (loading_bcd o p.local p.memory p.timers p.counters)
+effect operation.LoadStatus o p = effect_on_regs p (Ok (status_loaded p.local.regs))
+effect operation.TransferStatus o p = effect_on_regs p (Ok (status_transferred p.local.regs))
+effect operation.LoadOpenBlock o p = effect_on_regs p (loading_open_block o p.local p.memory)
+effect (operation.Pointer what) o p = on_local_memory p (pointer_effect what o p.local p.memory)
+effect (operation.Number what) o p = effect_on_regs p (number_effect what p.local.regs)
+effect (operation.Add what) o p = effect_on_regs p (Ok (with_constant what o p.local.regs))
+effect (operation.CompareInt how) o p = effect_on_regs p (Ok (compared 16 how p.local.regs))
+effect (operation.CompareDint how) o p = effect_on_regs p (Ok (compared 32 how p.local.regs))
+effect (operation.Logic what) o p = effect_on_regs p (Ok (word_logic_effect what o p.local.regs))
+effect (operation.Shift what) o p = effect_on_regs p (Ok (shift_effect what o p.local.regs))
+effect (operation.Start how) o p = on_timers p (timer_start how o p.local p.memory p.timers)
 effect operation.Free o p = free_of (kind_named o) o p
 effect operation.CountUp o p = on_counters p (counting_up o p.local p.memory p.counters)
 effect operation.CountDown o p = on_counters p (counting_down o p.local p.memory p.counters)
-effect operation.OpenBlock o p = on_local p (opening o p.local p.memory)
-effect operation.Exchange o p = on_local p (Ok (exchanged p.local))
+effect operation.OpenBlock o p = on_local p (block_opened_by o p.local p.memory)
+effect operation.Exchange o p = on_local p (Ok (registers_exchanged p.local))
 -- jumps, calls and ends go by the statement; the others stand before the last op of one
 effect operation.Jump o p = Err no_operand
 effect (operation.Call how) o p = Err no_operand
@@ -121,10 +121,10 @@ effect operation.NoOperation o p = Err no_operand
 
 -- a statement that opens a data block first: 3A where it isn't loaded; after an error it isn't open
 abbrev pub with_db : ℕ → ExecState → ExecState
-with_db number p = record p { local = opened 1 number p.local }
+with_db number p = record p { local = block_opened 1 number p.local }
 
 -- USEDB: 3A comes before every error of the operand; without USEDB the instruction alone
 unfoldable pub effect_with : Option ℕ → Operation → Operand → ExecState → Result ExecState ℕ
 effect_with None w o p = effect w o p
 effect_with (Some number) w o p =
-    if is_loaded number p.memory then effect w o (with_db number p) else Err errors.no_data_block
+    if is_block_loaded number p.memory then effect w o (with_db number p) else Err errors.no_data_block

@@ -4,7 +4,7 @@ use Rattle.std.specs.Prelude.{ℕ, ◌≡◌, true, false, List, Option, Some, N
 use Rattle.plc_base.specs.declared.BlockId.{BlockId}
 use Rattle.plc_mem.specs.Areas.{Areas}
 use Rattle.status_word.specs.declared.Regs.{Regs}
-use Rattle.frames.specs.Activations.{entered, frame_begun, refused}
+use Rattle.frames.specs.Activations.{block_entered, frame_begun, entry_fault}
 use Rattle.frames.specs.declared.Activation.{Activation}
 use Rattle.frames.specs.declared.FrameFault.{FrameFault}
 use Rattle.frames.specs.declared.bindings.Binding.{Binding}
@@ -12,8 +12,8 @@ use Rattle.frames.specs.declared.frame.Frame.{Frame}
 use Rattle.flat_code.specs.declared.programs.Param.{Param}
 use Rattle.flat_code.specs.Instr.{Passing}
 use Rattle.machine.specs.ExecState.{LocalMemory, local_of, local_memory_of, with_local}
-use Rattle.machine.specs.Bindings.{bindings_of}
-use Rattle.machine.specs.Copies.{params_in}
+use Rattle.machine.specs.Bindings.{param_bindings}
+use Rattle.machine.specs.Copies.{params_copied_in}
 
 -- OS 0, OR 0, STA 1, /FC 0: at each call and return
 abbrev pub at_block : Regs → Regs
@@ -21,7 +21,7 @@ at_block r =
     record r { status = record r.status { os = false; or = false; sta = true; fc = false } }
 
 -- a block that is called: its instance, if one is named, its local bytes and its parameters
-pub record Callee : Type 0 where
+pub record CalledBlock : Type 0 where
   pub block : BlockId
   pub instance : Option ℕ
   pub local_len : ℕ
@@ -34,7 +34,7 @@ di_of (Some instance) di = Some instance
 
 -- the frame of the called block: it begins with the caller's data blocks, no open bracket, and its own
 -- relay, which is inactive
-abbrev pub fresh : Callee → List Binding → Frame → Frame
+abbrev pub fresh : CalledBlock → List Binding → Frame → Frame
 fresh called bindings caller =
     record (frame_begun called.block called.local_len) {
       db = caller.db;
@@ -65,33 +65,33 @@ abbrev pub with_scene : Activation → LocalMemory → Call
 with_scene a c = Enters (record a { running = with_local a.running c.local }) c.memory
 
 -- IN and IN_OUT parameters are copied into the instance; a call that names none copies nothing
-abbrev pub supplied : Option ℕ → List Param → Activation → Areas → Call
-supplied None params a m = Enters a m
-supplied (Some instance) params a m =
-    with_scene a (params_in params 0 a.running.frame.bindings instance (local_memory_of a.running m))
+abbrev pub instance_supplied : Option ℕ → List Param → Activation → Areas → Call
+instance_supplied None params a m = Enters a m
+instance_supplied (Some instance) params a m =
+    with_scene a (params_copied_in params 0 a.running.frame.bindings instance (local_memory_of a.running m))
 
 -- a stop by depth or local data sets and copies nothing; else the caller stands behind the call
 abbrev pub entered_if :
-    Option FrameFault → Callee → List Binding → (next : ℕ) → Activation → Areas → Call
+    Option FrameFault → CalledBlock → List Binding → (next : ℕ) → Activation → Areas → Call
 entered_if (Some fault) called bindings next a m = Stops fault
 entered_if None called bindings next a m =
-    supplied called.instance called.params
-    (entered (fresh called bindings a.running.frame) (caller_at next a)) m
+    instance_supplied called.instance called.params
+    (block_entered (fresh called bindings a.running.frame) (caller_at next a)) m
 
 -- a parameter that can't be bound is a synchronous error, and comes before depth and local data
-abbrev pub called_with : Result (List Binding) ℕ → Callee → (next : ℕ) → Activation → Areas → Call
+abbrev pub called_with : Result (List Binding) ℕ → CalledBlock → (next : ℕ) → Activation → Areas → Call
 called_with (Err code) called next a m = Fails code
 called_with (Ok bindings) called next a m =
-    entered_if (refused called.local_len a) called bindings next a m
+    entered_if (entry_fault called.local_len a) called bindings next a m
 
 -- after the call the caller goes on at `next`
-unfoldable pub call : Callee → List Passing → (next : ℕ) → Activation → Areas → Call
+unfoldable pub call : CalledBlock → List Passing → (next : ℕ) → Activation → Areas → Call
 call called passings next a m =
-    called_with (bindings_of called.params passings (local_of a.running) m) called next a m
+    called_with (param_bindings called.params passings (local_of a.running) m) called next a m
 
 -- a call whose parameters are bound leaves its arguments as that says; after a stop as they were
-abbrev pub Calls :
+abbrev pub LeavesCall :
     Call → (old new : Activation) (m m' : Areas) → Result (Unit {0}) FrameFault → Type 0
-Calls (Stops fault) old new m m' (Err why) = (why ≡ fault) × (new ≡ old) × (m' ≡ m)
-Calls (Enters a after) old new m m' (Ok answer) = (new ≡ a) × (m' ≡ after)
-Calls call old new m m' answer = ⊥
+LeavesCall (Stops fault) old new m m' (Err why) = (why ≡ fault) × (new ≡ old) × (m' ≡ m)
+LeavesCall (Enters a after) old new m m' (Ok answer) = (new ≡ a) × (m' ≡ after)
+LeavesCall call old new m m' answer = ⊥

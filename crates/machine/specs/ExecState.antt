@@ -4,7 +4,7 @@ use Rattle.status_word.specs.declared.Regs.{Regs}
 use Rattle.plc_mem.specs.Areas.{Areas}
 use Rattle.timers_counters.specs.Timer.{Timer}
 use Rattle.timers_counters.specs.Counter.{Counter}
-use Rattle.frames.specs.FrameData.{FrameData, inner_of, with_inner}
+use Rattle.frames.specs.FrameData.{FrameData, frame_data_of, with_frame_data}
 use Rattle.frames.specs.Locals.{LocalData}
 use Rattle.frames.specs.declared.running.Running.{Running}
 
@@ -29,7 +29,7 @@ pub record ExecState : Type 0 where
 
 -- of the running block, all but which block it is, its position and how many local bytes it has
 abbrev pub local_of : Running → Local
-local_of s = record { regs = s.regs; inner = inner_of s.frame; locals = s.locals }
+local_of s = record { regs = s.regs; inner = frame_data_of s.frame; locals = s.locals }
 
 -- a running block and the memory that its instructions read and write
 abbrev pub local_memory_of : Running → Areas → LocalMemory
@@ -41,7 +41,7 @@ exec_state_of s m t n = record { local = local_of s; memory = m; timers = t; cou
 
 -- the running block with these parts; its block and position stay
 abbrev pub with_local : Running → Local → Running
-with_local s o = record s { regs = o.regs; frame = with_inner s.frame o.inner; locals = o.locals }
+with_local s o = record s { regs = o.regs; frame = with_frame_data s.frame o.inner; locals = o.locals }
 
 -- what comes of a first result, or its error
 abbrev pub then_ok : {A B : Type 0} → Result A ℕ → (A → Result B ℕ) → Result B ℕ

@@ -13,7 +13,7 @@ use Rattle.plc_base.specs.declared.Width.{Width}
 use Rattle.plc_base.specs.declared.Width.TheVariants as widths
 use Rattle.plc_base.specs.Widths.{bit_count, byte_count}
 use Rattle.plc_mem.specs.Areas.{Areas, PeripheralBytes}
-use Rattle.plc_mem.specs.Fresh.{fresh}
+use Rattle.plc_mem.specs.Fresh.{initial_memory}
 use Rattle.plc_mem.specs.Number.{number_at}
 use Rattle.status_word.specs.declared.Bracket.{Bracket}
 use Rattle.status_word.specs.declared.Check.{Check}
@@ -27,7 +27,7 @@ use Rattle.frames.specs.declared.relay.Relay.{Relay}
 use Rattle.flat_code.specs.declared.programs.Param.{Param}
 use Rattle.flat_code.specs.Records.{section_in}
 use Rattle.machine.specs.declared.places.Location.{Location}
-use Rattle.machine.specs.Code.{Code, Head}
+use Rattle.machine.specs.Code.{Code, BlockHead}
 
 -- what stands open in the text: the function codes of the brackets, the innermost first, and how many
 -- zones of the master control relay
@@ -83,25 +83,25 @@ IsOpen None m = Unit {0}
 IsOpen (Some number) m = IsSome (finmap.get m.data_blocks number)
 
 -- bytes that are there, and not shorter
-abbrev pub IsLong : (len : ℕ) → Option (List ℕ) → Type 0
-IsLong len None = ⊥
-IsLong len (Some bytes) = len ≤ length bytes
+abbrev pub HasLength : (len : ℕ) → Option (List ℕ) → Type 0
+HasLength len None = ⊥
+HasLength len (Some bytes) = len ≤ length bytes
 
 -- an instance is given to a function block alone, and always where it has parameters
-abbrev pub HasInstance : BlockKind → Head → Areas → Option ℕ → Type 0
+abbrev pub HasInstance : BlockKind → BlockHead → Areas → Option ℕ → Type 0
 HasInstance kinds.Fb h m None = h.params ≡ []
 HasInstance kind h m None = Unit {0}
-HasInstance kinds.Fb h m (Some number) = IsLong h.instance_len (finmap.get m.data_blocks number)
+HasInstance kinds.Fb h m (Some number) = HasLength h.instance_len (finmap.get m.data_blocks number)
 HasInstance kind h m (Some number) = ⊥
 
 -- what is open in a frame fits the head of its block
-pub record FitsHead (h : Head) (f : Frame) (below : List Frame) (m : Areas) : Type 0 where
+pub record FitsHead (h : BlockHead) (f : Frame) (below : List Frame) (m : Areas) : Type 0 where
   pub local_len : f.local_len ≡ h.local_len
   pub bindings : AreBound f.block.kind h.params below m f.bindings
   pub instance : HasInstance f.block.kind h m f.instance
 
 -- the same where the block is there
-abbrev pub FitsBlock : Option Head → Frame → (below : List Frame) → Areas → Type 0
+abbrev pub FitsBlock : Option BlockHead → Frame → (below : List Frame) → Areas → Type 0
 FitsBlock None f below m = ⊥
 FitsBlock (Some h) f below m = FitsHead h f below m
 
@@ -110,8 +110,8 @@ abbrev pub codes_of : List Bracket → List Check
 codes_of brackets = map (λ (b : Bracket). b.code) brackets
 
 -- what is open in a frame with these brackets and this relay
-abbrev pub open_of : List Bracket → Relay → OpenAt
-open_of brackets relay = record { codes = codes_of brackets; zones = length relay.zones }
+abbrev pub open_in_frame : List Bracket → Relay → OpenAt
+open_in_frame brackets relay = record { codes = codes_of brackets; zones = length relay.zones }
 
 -- a frame stands at a statement of a block that is there, with the brackets and zones that are open
 -- before it
@@ -119,7 +119,7 @@ pub record FrameFits
     (code : Code) (brackets : OpenCodes) (m : Areas) (below : List Frame) (f : Frame)
     : Type 0 where
   pub statement : IsSome (code.fetch f.block f.at)
-  pub open_brackets : brackets f.block f.at ≡ Some (open_of f.brackets f.relay)
+  pub open_brackets : brackets f.block f.at ≡ Some (open_in_frame f.brackets f.relay)
   pub block : FitsBlock (code.head f.block) f below m
   pub db : IsOpen f.db m
   pub di : IsOpen f.di m
@@ -131,9 +131,9 @@ FramesFit code brackets m (f ∷ below) =
     FrameFits code brackets m below f × FramesFit code brackets m below
 
 -- where the local bytes of frames begin, the outermost one first, each behind those before it
-abbrev pub starts_from : (at : ℕ) → List Frame → List ℕ
-starts_from at [] = []
-starts_from at (f ∷ rest) = at ∷ starts_from (at + f.local_len) rest
+abbrev pub local_starts_from : (at : ℕ) → List Frame → List ℕ
+local_starts_from at [] = []
+local_starts_from at (f ∷ rest) = at ∷ local_starts_from (at + f.local_len) rest
 
 -- how many local bytes frames have together
 abbrev pub bytes_together : List Frame → ℕ
@@ -142,11 +142,11 @@ bytes_together (f ∷ rest) = f.local_len + bytes_together rest
 
 -- the local bytes are those of the frames
 pub record LocalsFit (frames : List Frame) (locals : LocalData) : Type 0 where
-  pub starts : locals.starts ≡ starts_from 0 (reverse frames)
+  pub starts : locals.starts ≡ local_starts_from 0 (reverse frames)
   pub len : length locals.bytes ≡ bytes_together frames
 
 -- an activation fits: a frame stands, and each frame fits
-pub record Fits (code : Code) (brackets : OpenCodes) (m : Areas) (a : Activation) : Type 0 where
+pub record ActivationFits (code : Code) (brackets : OpenCodes) (m : Areas) (a : Activation) : Type 0 where
   pub stands : a.left ≡ false
   pub frames : FramesFit code brackets m (frames_of a)
   pub locals : LocalsFit (frames_of a) a.running.locals
@@ -172,4 +172,4 @@ pub record SameSizes (m n : Areas) : Type 0 where
 -- a memory of a program: the areas of some profile, and the program's data blocks with their lengths
 pub record IsMemoryOf (code : Code) (m : Areas) : Type 0 where
   pub profile : Profile
-  pub sizes : SameSizes (fresh profile code.blocks) m
+  pub sizes : SameSizes (initial_memory profile code.blocks) m

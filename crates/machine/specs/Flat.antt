@@ -5,7 +5,7 @@ use Rattle.std.specs.Option.{option_map, option_and_then}
 use Rattle.plc_base.specs.declared.blocks.BlockKind.{BlockKind}
 use Rattle.flat_code.specs.Instr.{Instr, Does, Jumps, JumpsByList, Calls, Returns, Passing}
 use Rattle.flat_code.specs.Forms.{kind_of_code}
-use Rattle.flat_code.specs.Kinds.{jump_of}
+use Rattle.flat_code.specs.Kinds.{jump_of_number}
 use Rattle.flat_code.specs.Ops.{OpData}
 use Rattle.flat_code.specs.Placed.{op_placed, line_placed}
 use Rattle.flat_code.specs.Programs.{CodeBlock, DataBlock, Program}
@@ -17,30 +17,30 @@ use Rattle.flat_code.specs.declared.operands.Operand.TheVariants as operand
 use Rattle.flat_code.specs.declared.operations.CallOperation.{CallOperation}
 use Rattle.flat_code.specs.declared.operations.Operation.{Operation}
 use Rattle.flat_code.specs.declared.operations.Operation.TheVariants as operation
-use Rattle.image_file.specs.Readers.{block_of}
-use Rattle.machine.specs.Code.{Code, Fetched, Head}
+use Rattle.image_file.specs.Readers.{block_by_id}
+use Rattle.machine.specs.Code.{Code, Fetched, BlockHead}
 
 -- the ops of a statement: those that prepare, the last one, and the offset behind it
-pub record Run : Type 0 where
+pub record OpRun : Type 0 where
   pub before : List OpData
   pub last : OpData
   pub next : ℕ
 
 -- one more op that prepares, before those of the run
-abbrev pub with_op : OpData → Run → Run
+abbrev pub with_op : OpData → OpRun → OpRun
 with_op op r = record r { before = op ∷ r.before }
 
 -- the run from an op on that has the offset `next` behind it
-abbrev pub run_with : Option (OpData × ℕ) → (ℕ → Option Run) → Option Run
+abbrev pub run_with : Option (OpData × ℕ) → (ℕ → Option OpRun) → Option OpRun
 run_with None more = None
 run_with (Some r) more =
     if r.0.last then Some (record { before = []; last = r.0; next = r.1 })
     else option_map (with_op r.0) (more r.1)
 
 -- the run of at most so many ops from an offset on
-unfoldable pub run_at : (most : ℕ) → List OpData → ℕ → Option Run
-run_at zero ops at = None
-run_at (suc most) ops at = run_with (op_placed 0 ops at) (λ next. run_at most ops next)
+unfoldable pub op_run_at : (most : ℕ) → List OpData → ℕ → Option OpRun
+op_run_at zero ops at = None
+op_run_at (suc most) ops at = run_with (op_placed 0 ops at) (λ next. op_run_at most ops next)
 
 -- a statement has at most 64 ops
 abbrev pub most_ops : ℕ
@@ -89,8 +89,8 @@ is_jl jump.Jl = true
 is_jl _ = false
 
 -- the list of a JL stands between the offset behind it and its target, where it else goes on
-abbrev pub jump_instr : JumpOperation → (target next : ℕ) → List OpData → Instr
-jump_instr operation target next ops =
+abbrev pub jump_by_operation : JumpOperation → (target next : ℕ) → List OpData → Instr
+jump_by_operation operation target next ops =
     if is_jl operation then JumpsByList (list_of most_listed ops target next) target
     else Jumps operation target
 
@@ -99,10 +99,10 @@ abbrev pub instance_named : ℕ → Option ℕ
 instance_named number = if number == 0 then None else Some number
 
 -- a call of a block by the number of its kind; a number that names none is called in no program
-abbrev pub call_instr :
+abbrev pub call_by_number :
     Option BlockKind → CallOperation → (number instance : ℕ) → List Passing → (other : Instr) → Instr
-call_instr None how number instance passings other = other
-call_instr (Some kind) how number instance passings other =
+call_by_number None how number instance passings other = other
+call_by_number (Some kind) how number instance passings other =
     Calls how (record { kind = kind; number = number }) (instance_named instance) passings
 
 -- the instruction of a statement: that of its last op, with what the ops before it prepare. `next`
@@ -110,15 +110,15 @@ call_instr (Some kind) how number instance passings other =
 abbrev pub instr_of :
     Operation → Operand → (use_db : Option ℕ) → List Passing → (next : ℕ) → List OpData → Instr
 instr_of operation.Jump (operand.Jump kind target) use_db passings next ops =
-    jump_instr (jump_of kind) target next ops
+    jump_by_operation (jump_of_number kind) target next ops
 instr_of (operation.Call how) (operand.Called kind number instance) use_db passings next ops =
-    call_instr (kind_of_code kind) how number instance passings
+    call_by_number (kind_of_code kind) how number instance passings
     (Does use_db (operation.Call how) (operand.Called kind number instance))
 instr_of (operation.End how) o use_db passings next ops = Returns how
 instr_of w o use_db passings next ops = Does use_db w o
 
 -- the statement that a run of ops is; the ops of the whole block give the list of a JL
-abbrev pub fetched_of : List OpData → (line : ℕ) → Run → Fetched
+abbrev pub fetched_of : List OpData → (line : ℕ) → OpRun → Fetched
 fetched_of ops line r = record {
   instr = instr_of (operation_of r.last.code) r.last.operand (use_db_of r.before) (passings_of r.before)
       r.next ops;
@@ -127,14 +127,14 @@ fetched_of ops line r = record {
 }
 
 -- the statement of a block that begins at an offset
-unfoldable pub statement_at : CodeBlock → ℕ → Option Fetched
-statement_at b at =
-    option_and_then (λ line. option_map (fetched_of b.code line) (run_at most_ops b.code at))
+unfoldable pub statement_fetched : CodeBlock → ℕ → Option Fetched
+statement_fetched b at =
+    option_and_then (λ line. option_map (fetched_of b.code line) (op_run_at most_ops b.code at))
     (line_placed 0 true b.code b.lines at)
 
 -- of a code block all but its kind, number, ops and source lines
-abbrev pub head_of : CodeBlock → Head
-head_of b = record {
+abbrev pub block_head_of : CodeBlock → BlockHead
+block_head_of b = record {
   local_len = b.local_len;
   instance_len = b.instance_len;
   params = b.params;
@@ -148,7 +148,7 @@ numbered_bytes (d ∷ rest) = (d.number, d.bytes) ∷ numbered_bytes rest
 -- the code of a program
 abbrev pub code_of : Program → Code
 code_of p = record {
-  fetch = λ block at. option_and_then (λ b. statement_at b at) (block_of block p.code_blocks);
-  head = λ block. option_map head_of (block_of block p.code_blocks);
+  fetch = λ block at. option_and_then (λ b. statement_fetched b at) (block_by_id block p.code_blocks);
+  head = λ block. option_map block_head_of (block_by_id block p.code_blocks);
   blocks = numbered_bytes p.data_blocks;
 }

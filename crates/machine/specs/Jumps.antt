@@ -13,26 +13,26 @@ abbrev pub counted_down : Regs → Regs
 counted_down r = increased 16 65535 r
 
 -- by the registers as they stand before the jump; LOOP tests what it leaves in ACCU 1-L
-unfoldable pub is_taken : JumpOperation → Regs → Bool
-is_taken jump.Ju r = true
-is_taken jump.Jc r = r.status.rlo
-is_taken jump.Jcn r = not r.status.rlo
-is_taken jump.Jcb r = r.status.rlo
-is_taken jump.Jnb r = not r.status.rlo
-is_taken jump.Jbi r = r.status.br
-is_taken jump.Jnbi r = not r.status.br
-is_taken jump.Jo r = r.status.ov
-is_taken jump.Jos r = r.status.os
-is_taken jump.Jz r = flag_value flag.EqZero r.status
-is_taken jump.Jn r = flag_value flag.NeZero r.status
-is_taken jump.Jp r = flag_value flag.GtZero r.status
-is_taken jump.Jm r = flag_value flag.LtZero r.status
-is_taken jump.Jpz r = flag_value flag.GeZero r.status
-is_taken jump.Jmz r = flag_value flag.LeZero r.status
-is_taken jump.Juo r = flag_value flag.Uo r.status
-is_taken jump.Loop r = not ((counted_down r).a1 % 2 ^ 16 == 0)
--- the list of a JL goes by `listed`
-is_taken jump.Jl r = false
+unfoldable pub is_jump_taken : JumpOperation → Regs → Bool
+is_jump_taken jump.Ju r = true
+is_jump_taken jump.Jc r = r.status.rlo
+is_jump_taken jump.Jcn r = not r.status.rlo
+is_jump_taken jump.Jcb r = r.status.rlo
+is_jump_taken jump.Jnb r = not r.status.rlo
+is_jump_taken jump.Jbi r = r.status.br
+is_jump_taken jump.Jnbi r = not r.status.br
+is_jump_taken jump.Jo r = r.status.ov
+is_jump_taken jump.Jos r = r.status.os
+is_jump_taken jump.Jz r = flag_value flag.EqZero r.status
+is_jump_taken jump.Jn r = flag_value flag.NeZero r.status
+is_jump_taken jump.Jp r = flag_value flag.GtZero r.status
+is_jump_taken jump.Jm r = flag_value flag.LtZero r.status
+is_jump_taken jump.Jpz r = flag_value flag.GeZero r.status
+is_jump_taken jump.Jmz r = flag_value flag.LeZero r.status
+is_jump_taken jump.Juo r = flag_value flag.Uo r.status
+is_jump_taken jump.Loop r = not ((counted_down r).a1 % 2 ^ 16 == 0)
+-- the list of a JL goes by `list_goal`
+is_jump_taken jump.Jl r = false
 
 -- JC JCN JCB JNB: RLO 1, STA 1, OR 0, /FC 0
 abbrev pub rlo_tested : Regs → Regs
@@ -52,22 +52,22 @@ abbrev pub os_reset : Regs → Regs
 os_reset r = record r { status = record r.status { os = false } }
 
 -- the jumps that change registers do so whether they are taken or not; the others change none
-unfoldable pub after_jump : JumpOperation → Regs → Regs
-after_jump jump.Jc r = rlo_tested r
-after_jump jump.Jcn r = rlo_tested r
-after_jump jump.Jcb r = rlo_tested (rlo_saved r)
-after_jump jump.Jnb r = rlo_tested (rlo_saved r)
-after_jump jump.Jbi r = br_tested r
-after_jump jump.Jnbi r = br_tested r
-after_jump jump.Jos r = os_reset r
-after_jump jump.Loop r = counted_down r
-after_jump _ r = r
+unfoldable pub regs_after_jump : JumpOperation → Regs → Regs
+regs_after_jump jump.Jc r = rlo_tested r
+regs_after_jump jump.Jcn r = rlo_tested r
+regs_after_jump jump.Jcb r = rlo_tested (rlo_saved r)
+regs_after_jump jump.Jnb r = rlo_tested (rlo_saved r)
+regs_after_jump jump.Jbi r = br_tested r
+regs_after_jump jump.Jnbi r = br_tested r
+regs_after_jump jump.Jos r = os_reset r
+regs_after_jump jump.Loop r = counted_down r
+regs_after_jump _ r = r
 
 -- where a jump goes on
-abbrev pub goes_to : Bool → (target next : ℕ) → ℕ
-goes_to taken target next = if taken then target else next
+abbrev pub jump_goal : Bool → (target next : ℕ) → ℕ
+jump_goal taken target next = if taken then target else next
 
 -- JL goes on at the jump of its list that the lowest byte of accumulator 1 names, from 0, or
 -- behind the list where there is none
-unfoldable pub listed : List ℕ → (otherwise : ℕ) → Regs → ℕ
-listed targets otherwise r = unwrap_or (slice_get targets (r.a1 % 2 ^ 8)) otherwise
+unfoldable pub list_goal : List ℕ → (otherwise : ℕ) → Regs → ℕ
+list_goal targets otherwise r = unwrap_or (slice_get targets (r.a1 % 2 ^ 8)) otherwise

@@ -19,7 +19,7 @@ use Rattle.machine.specs.ExecState.{local_of}
 use Rattle.machine.specs.declared.outcomes.Outcome.{Outcome}
 use Rattle.machine.specs.declared.outcomes.Outcome.TheVariants as outcome
 use Rattle.machine.specs.Values.{stored_at}
-use Rattle.machine.specs.Fitting.{IsMemoryOf, SameSizes, Fits}
+use Rattle.machine.specs.Fitting.{IsMemoryOf, SameSizes, ActivationFits}
 use Rattle.machine.specs.Flat.{code_of}
 use Rattle.machine.specs.OpenBrackets.{open_codes}
 use Rattle.machine.specs.SystemCalls.{system_function}
@@ -28,11 +28,11 @@ use Rattle.machine.specs.Statement.{World, Step, Went, Ended, SyncError, SysCall
 -- an activation fits a program and its memory
 pub record FitsProgram (p : Program) (m : Areas) (a : Activation) : Type 0 where
   pub memory : IsMemoryOf (code_of p) m
-  pub fits : Fits (code_of p) (open_codes p) m a
+  pub fits : ActivationFits (code_of p) (open_codes p) m a
 
 -- what a call of a statement asks for: a frame stands, as many frames have local data as stand, and
 -- nothing that the statement needs is missing
-pub record IsReady (p : Program) (a : Activation) : Type 0 where
+pub record IsStatementReady (p : Program) (a : Activation) : Type 0 where
   pub stands : a.left ≡ false
   pub depth : length a.running.locals.starts ≡ length (frames_of a)
   pub there : (w : World) → IsNotStuck (statement (code_of p) a w)
@@ -46,7 +46,7 @@ abbrev pub first_frame : (ob local_len : ℕ) → Frame
 first_frame ob local_len = frame_begun (ob_block ob) local_len
 
 -- no area and no data block has become longer or shorter, and the activation fits
-pub record GoesOn (p : Program) (old new : Areas) (a : Activation) : Type 0 where
+pub record GoesOnFitting (p : Program) (old new : Areas) (a : Activation) : Type 0 where
   pub sizes : SameSizes old new
   pub fits : FitsProgram p new a
 
@@ -84,7 +84,7 @@ is_error_code code =
 
 -- what comes of a statement of an activation that fits: it fits again
 abbrev pub Lasts : Program → World → Step → Type 0
-Lasts p w (Went a after) = GoesOn p w.memory after.memory a
+Lasts p w (Went a after) = GoesOnFitting p w.memory after.memory a
 Lasts p w (Ended regs after) = SameSizes w.memory after.memory
 Lasts p w (SyncError code a) = (is_error_code code ≡ true) × FitsProgram p w.memory a
 Lasts p w (SysCall number given a) =
@@ -94,17 +94,17 @@ Lasts p w (Stop cause) = (cause ≡ causes.block_depth) ⊎ (cause ≡ causes.lo
 Lasts p w Stuck = ⊥
 
 -- the same of what a call of a statement answers and leaves
-abbrev pub Leaves : Program → Areas → Activation → Outcome → Type 0
-Leaves p m a outcome.Went = FitsProgram p m a
-Leaves p m a outcome.Ended = IsMemoryOf (code_of p) m
-Leaves p m a (outcome.SyncError code) = (is_error_code code ≡ true) × FitsProgram p m a
-Leaves p m a (outcome.SysCall number inputs result) =
+abbrev pub LeavesActivation : Program → Areas → Activation → Outcome → Type 0
+LeavesActivation p m a outcome.Went = FitsProgram p m a
+LeavesActivation p m a outcome.Ended = IsMemoryOf (code_of p) m
+LeavesActivation p m a (outcome.SyncError code) = (is_error_code code ≡ true) × FitsProgram p m a
+LeavesActivation p m a (outcome.SysCall number inputs result) =
     TakesInputs (system_function number) inputs × TakesResult result a m × FitsProgram p m a
-Leaves p m a (outcome.Stop cause) =
+LeavesActivation p m a (outcome.Stop cause) =
     ((cause ≡ causes.block_depth) ⊎ (cause ≡ causes.local_data)) × FitsProgram p m a
 
 -- what a call leaves. No area and no data block becomes longer or shorter, so activations that wait
 -- fit as before
 pub record LeavesFit (p : Program) (old new : Areas) (a : Activation) (answer : Outcome) : Type 0 where
   pub sizes : SameSizes old new
-  pub leaves : Leaves p new a answer
+  pub leaves : LeavesActivation p new a answer

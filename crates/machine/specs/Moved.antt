@@ -34,8 +34,8 @@ abbrev pub moved_frame : (BlockId → ℕ → ℕ) → Frame → Frame
 moved_frame f frame = record frame { at = f frame.block frame.at }
 
 -- an activation with all its frames at the positions of the other code
-abbrev pub moved : (BlockId → ℕ → ℕ) → Activation → Activation
-moved f a =
+abbrev pub moved_activation : (BlockId → ℕ → ℕ) → Activation → Activation
+moved_activation f a =
     record a {
       running = record a.running { frame = moved_frame f a.running.frame };
       below = map (moved_frame f) a.below;
@@ -43,10 +43,10 @@ moved f a =
 
 -- of the activation that comes of a statement the frames move; codes, causes and memory stay
 abbrev pub moved_step : (BlockId → ℕ → ℕ) → Step → Step
-moved_step f (Went a w) = Went (moved f a) w
+moved_step f (Went a w) = Went (moved_activation f a) w
 moved_step f (Ended regs w) = Ended regs w
-moved_step f (SyncError code a) = SyncError code (moved f a)
-moved_step f (SysCall number given a) = SysCall number given (moved f a)
+moved_step f (SyncError code a) = SyncError code (moved_activation f a)
+moved_step f (SysCall number given a) = SysCall number given (moved_activation f a)
 moved_step f (Stop cause) = Stop cause
 moved_step f Stuck = Stuck
 
@@ -54,4 +54,4 @@ moved_step f Stuck = Stuck
 abbrev pub StatementsMove : Type 0
 StatementsMove =
     (f : BlockId → ℕ → ℕ) (c d : Code) (a : Activation) (w : World) → Follows f c d
-    → statement d (moved f a) w ≡ moved_step f (statement c a w)
+    → statement d (moved_activation f a) w ≡ moved_step f (statement c a w)

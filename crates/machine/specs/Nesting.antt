@@ -2,28 +2,28 @@
 -- Siemens, Statement List (STL): Bit Logic Instructions, "Nesting Open" and "Nesting Closed".
 use Rattle.std.specs.Prelude.{ℕ, ◌==◌, length, if◌then◌else◌, List, [], ◌∷◌, Result, Ok, Err}
 use Rattle.plc_base.specs.declared.Check.{Check}
-use Rattle.status_word.specs.Brackets.{entry_of, begun, closed}
+use Rattle.status_word.specs.Brackets.{entry_of, bracket_begun, bracket_ended}
 use Rattle.status_word.specs.declared.Bracket.{Bracket}
 use Rattle.machine.specs.ExecState.{Local}
 use Rattle.machine.specs.Places.{no_operand}
 
 -- these brackets are open in the innermost frame
-abbrev pub with_brackets : List Bracket → Local → Local
-with_brackets brackets s = record s { inner = record s.inner { brackets = brackets } }
+abbrev pub with_open_brackets : List Bracket → Local → Local
+with_open_brackets brackets s = record s { inner = record s.inner { brackets = brackets } }
 
 -- A( to XN(; an eighth bracket stands in no program that is loaded
 unfoldable pub nesting : Check → Local → Result Local ℕ
 nesting with s =
     if length s.inner.brackets == 7 then Err no_operand
-    else Ok (with_brackets (entry_of with s.regs ∷ s.inner.brackets)
-    (record s { regs = begun s.regs }))
+    else Ok (with_open_brackets (entry_of with s.regs ∷ s.inner.brackets)
+    (record s { regs = bracket_begun s.regs }))
 
 -- ); nor does one without an open bracket
-abbrev pub unnested : List Bracket → Local → Result Local ℕ
-unnested [] s = Err no_operand
-unnested (bracket ∷ rest) s =
-    Ok (with_brackets rest (record s { regs = closed bracket s.regs }))
+abbrev pub bracket_closed : List Bracket → Local → Result Local ℕ
+bracket_closed [] s = Err no_operand
+bracket_closed (bracket ∷ rest) s =
+    Ok (with_open_brackets rest (record s { regs = bracket_ended bracket s.regs }))
 
 -- of the open brackets of the innermost frame it closes the one that was opened last
 unfoldable pub unnesting : Local → Result Local ℕ
-unnesting s = unnested s.inner.brackets s
+unnesting s = bracket_closed s.inner.brackets s

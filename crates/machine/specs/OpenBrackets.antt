@@ -4,22 +4,22 @@ use Rattle.std.specs.Option.{option_and_then}
 use Rattle.status_word.specs.declared.Check.{Check}
 use Rattle.status_word.specs.declared.Check.TheVariants as check
 use Rattle.flat_code.specs.declared.image_fields.OpenBracket.{OpenBracket}
-use Rattle.flat_code.specs.OpCodes.{code_of}
+use Rattle.flat_code.specs.OpCodes.{op_code_of}
 use Rattle.flat_code.specs.declared.operations.Operation.TheVariants as operation
-use Rattle.flat_code.specs.Placed.{Placed, places, begins, bracket_codes}
+use Rattle.flat_code.specs.Placed.{Placed, code_places, begins, bracket_codes}
 use Rattle.flat_code.specs.Programs.{CodeBlock, Program}
-use Rattle.image_file.specs.Readers.{block_of}
-use Rattle.image_file.specs.Verified.{place_at}
+use Rattle.image_file.specs.Readers.{block_by_id}
+use Rattle.image_file.specs.Verified.{placed_at}
 use Rattle.machine.specs.Fitting.{OpenAt, OpenCodes}
 
 -- the function code of a bracket by the op that opens it
 abbrev pub check_named : (code : ℕ) → Check
 check_named code =
-    if code == code_of (operation.Nest check.A) then check.A
-    else if code == code_of (operation.Nest check.An) then check.An
-    else if code == code_of (operation.Nest check.O) then check.O
-    else if code == code_of (operation.Nest check.On) then check.On
-    else if code == code_of (operation.Nest check.X) then check.X
+    if code == op_code_of (operation.Nest check.A) then check.A
+    else if code == op_code_of (operation.Nest check.An) then check.An
+    else if code == op_code_of (operation.Nest check.O) then check.O
+    else if code == op_code_of (operation.Nest check.On) then check.On
+    else if code == op_code_of (operation.Nest check.X) then check.X
     else check.Xn
 
 -- those of open brackets, the innermost first
@@ -37,8 +37,8 @@ open_before (Some q) = if begins q then Some (open_at q) else None
 
 -- before the statement of a block that begins at an offset
 abbrev pub open_in : CodeBlock → (at : ℕ) → Option OpenAt
-open_in b at = open_before (place_at at (places b.code))
+open_in b at = open_before (placed_at at (code_places b.code))
 
 -- the same of the blocks of a program
 abbrev pub open_codes : Program → OpenCodes
-open_codes p = λ block at. option_and_then (λ b. open_in b at) (block_of block p.code_blocks)
+open_codes p = λ block at. option_and_then (λ b. open_in b at) (block_by_id block p.code_blocks)

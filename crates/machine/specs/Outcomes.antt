@@ -8,41 +8,41 @@ use Rattle.frames.specs.declared.running.Running.{Running}
 use Rattle.machine.specs.ExecState.{Local, LocalMemory, ExecState, with_local}
 
 -- the answer of a call: done, or the code of a synchronous error
-abbrev pub Answer : Type 0
-Answer = Result (Unit {0}) ℕ
+abbrev pub ErrorAnswer : Type 0
+ErrorAnswer = Result (Unit {0}) ℕ
 
 -- what a call leaves: what its effect says, or the effect's error and all as it was
-abbrev pub IsDone : {A : Type 0} → Result A ℕ → (done : A → Type 0) → (unchanged : Type 0) → Answer → Type 0
+abbrev pub IsDone : {A : Type 0} → Result A ℕ → (done : A → Type 0) → (unchanged : Type 0) → ErrorAnswer → Type 0
 IsDone (Ok x) done unchanged (Ok answer) = done x
 IsDone (Err e) done unchanged (Err code) = (code ≡ e) × unchanged
 IsDone effect done unchanged answer = ⊥
 
 -- an effect on registers, given by themselves
-abbrev pub Changes : Result Regs ℕ → (old new : Regs) → Answer → Type 0
-Changes effect old new answer = IsDone effect (λ r. new ≡ r) (new ≡ old) answer
+abbrev pub ChangesRegs : Result Regs ℕ → (old new : Regs) → ErrorAnswer → Type 0
+ChangesRegs effect old new answer = IsDone effect (λ r. new ≡ r) (new ≡ old) answer
 
 -- an effect on the registers of a running block
-abbrev pub Checks : Result Regs ℕ → (old new : Running) → Answer → Type 0
-Checks effect old new answer = IsDone effect (λ r. new ≡ record old { regs = r }) (new ≡ old) answer
+abbrev pub ChangesRunningRegs : Result Regs ℕ → (old new : Running) → ErrorAnswer → Type 0
+ChangesRunningRegs effect old new answer = IsDone effect (λ r. new ≡ record old { regs = r }) (new ≡ old) answer
 
 -- an effect on all that an activation has of its own
-abbrev pub Turns : Result Local ℕ → (old new : Running) → Answer → Type 0
-Turns effect old new answer = IsDone effect (λ s. new ≡ with_local old s) (new ≡ old) answer
+abbrev pub ChangesLocal : Result Local ℕ → (old new : Running) → ErrorAnswer → Type 0
+ChangesLocal effect old new answer = IsDone effect (λ s. new ≡ with_local old s) (new ≡ old) answer
 
 -- an effect on that and memory, which can't fail
-abbrev pub Becomes : LocalMemory → (old new : Running) (m' : Areas) → Type 0
-Becomes c old new m' = (new ≡ with_local old c.local) × (m' ≡ c.memory)
+abbrev pub BecomesLocalMemory : LocalMemory → (old new : Running) (m' : Areas) → Type 0
+BecomesLocalMemory c old new m' = (new ≡ with_local old c.local) × (m' ≡ c.memory)
 
 -- the same where it can
-abbrev pub Acts : Result LocalMemory ℕ → (old new : Running) (m m' : Areas) → Answer → Type 0
-Acts effect old new m m' answer =
-    IsDone effect (λ c. Becomes c old new m') ((new ≡ old) × (m' ≡ m)) answer
+abbrev pub ChangesLocalMemory : Result LocalMemory ℕ → (old new : Running) (m m' : Areas) → ErrorAnswer → Type 0
+ChangesLocalMemory effect old new m m' answer =
+    IsDone effect (λ c. BecomesLocalMemory c old new m') ((new ≡ old) × (m' ≡ m)) answer
 
 -- an effect on all
-abbrev pub Meets :
+abbrev pub ChangesExecState :
     Result ExecState ℕ → (old new : Running) (m m' : Areas) (t t' : List Timer) (n n' : List Counter)
-    → Answer → Type 0
-Meets effect old new m m' t t' n n' answer =
+    → ErrorAnswer → Type 0
+ChangesExecState effect old new m m' t t' n n' answer =
     IsDone effect
     (λ p. (new ≡ with_local old p.local) × (m' ≡ p.memory) × (t' ≡ p.timers) × (n' ≡ p.counters))
     ((new ≡ old) × (m' ≡ m) × (t' ≡ t) × (n' ≡ n)) answer

@@ -7,7 +7,7 @@ use Rattle.plc_base.specs.declared.Width.{Width}
 use Rattle.plc_base.specs.declared.Width.TheVariants as widths
 use Rattle.plc_base.specs.declared.Place.{Place}
 use Rattle.plc_base.specs.ErrorCodes as errors
-use Rattle.plc_base.specs.Pointer.{place_of}
+use Rattle.plc_base.specs.Pointer.{place_at_pointer}
 use Rattle.plc_mem.specs.Areas.{Areas}
 use Rattle.plc_mem.specs.Number.{number_at}
 use Rattle.frames.specs.Locals.{LocalData, local_number}
@@ -26,8 +26,8 @@ error_of Reading code = code
 error_of Writing code = code + 1
 
 -- a place with its width; the number is that of a data block or 0, and the frame counts in L alone
-abbrev pub bound_at : Area → (number byte bit : ℕ) → Width → (frame : ℕ) → Location
-bound_at area number byte bit width frame = record {
+abbrev pub location_at : Area → (number byte bit : ℕ) → Width → (frame : ℕ) → Location
+location_at area number byte bit width frame = record {
   place = record { area = area; number = number; byte = byte; bit = bit };
   width = width;
   frame = frame;
@@ -38,16 +38,16 @@ abbrev pub innermost : Local → ℕ
 innermost s = length s.locals.starts - 1
 
 -- a place in the data block of the DB or DI register; an error where none is open
-abbrev pub in_register : Option ℕ → (error byte bit : ℕ) → Width → Result Location ℕ
-in_register (Some number) error byte bit width = Ok (bound_at areas.Db number byte bit width 0)
-in_register None error byte bit width = Err error
+abbrev pub open_block_location : Option ℕ → (error byte bit : ℕ) → Width → Result Location ℕ
+open_block_location (Some number) error byte bit width = Ok (location_at areas.Db number byte bit width 0)
+open_block_location None error byte bit width = Err error
 
 -- a place of an area: 32 where no DB is open, 33 where no DI is
-unfoldable pub in_area : Area → (byte bit : ℕ) → Width → Local → Result Location ℕ
-in_area areas.Db byte bit width s = in_register s.inner.db errors.no_db_open byte bit width
-in_area areas.Di byte bit width s = in_register s.inner.di errors.no_di_open byte bit width
-in_area areas.L byte bit width s = Ok (bound_at areas.L 0 byte bit width (innermost s))
-in_area area byte bit width s = Ok (bound_at area 0 byte bit width 0)
+unfoldable pub open_area_location : Area → (byte bit : ℕ) → Width → Local → Result Location ℕ
+open_area_location areas.Db byte bit width s = open_block_location s.inner.db errors.no_db_open byte bit width
+open_area_location areas.Di byte bit width s = open_block_location s.inner.di errors.no_di_open byte bit width
+open_area_location areas.L byte bit width s = Ok (location_at areas.L 0 byte bit width (innermost s))
+open_area_location area byte bit width s = Ok (location_at area 0 byte bit width 0)
 
 -- a place that doesn't exist: 22 reading, 23 writing; in the peripheral area 42 and 43
 abbrev pub absent : Access → Area → ℕ
@@ -55,33 +55,33 @@ absent access areas.P = error_of access errors.no_peripheral
 absent access _ = error_of access errors.no_place
 
 -- L: local bytes, which belong to a frame and are no part of memory
-abbrev pub is_local : Area → Bool
-is_local areas.L = true
-is_local _ = false
+abbrev pub is_area_l : Area → Bool
+is_area_l areas.L = true
+is_area_l _ = false
 
 -- the number at a place, if each of its bits exists
-abbrev pub number_in : Location → LocalData → Areas → Option ℕ
-number_in at locals memory =
-    if is_local at.place.area
+abbrev pub location_number : Location → LocalData → Areas → Option ℕ
+location_number at locals memory =
+    if is_area_l at.place.area
     then local_number locals at.frame at.place.byte at.place.bit at.width
     else number_at memory at.place at.width
 
 -- the number that is read there; where the place doesn't exist 22, in the peripheral area 42
 unfoldable pub read : Location → Local → Areas → Result ℕ ℕ
-read at s m = ok_or (number_in at s.locals m) (absent Reading at.place.area)
+read at s m = ok_or (location_number at s.locals m) (absent Reading at.place.area)
 
 -- the number at a place of an area
-unfoldable pub direct : Area → (byte bit : ℕ) → Width → Local → Areas → Result ℕ ℕ
-direct area byte bit width s m = then_ok (in_area area byte bit width s) (λ at. read at s m)
+unfoldable pub direct_number : Area → (byte bit : ℕ) → Width → Local → Areas → Result ℕ ℕ
+direct_number area byte bit width s m = then_ok (open_area_location area byte bit width s) (λ at. read at s m)
 
 -- what stands at a pointer's own place: a double word, or a word for a timer, counter or data block
-abbrev pub pointer : Area → (byte : ℕ) → Width → Local → Areas → Result ℕ ℕ
-pointer from byte width s m = direct from byte 0 width s m
+abbrev pub pointer_number : Area → (byte : ℕ) → Width → Local → Areas → Result ℕ ℕ
+pointer_number from byte width s m = direct_number from byte 0 width s m
 
 -- a bit operand, which the peripheral area doesn't have
-abbrev pub is_bit : Width → Bool
-is_bit widths.Bit = true
-is_bit _ = false
+abbrev pub is_bit_width : Width → Bool
+is_bit_width widths.Bit = true
+is_bit_width _ = false
 
 -- a pointer to a byte, word or double word has bit 0
 abbrev pub is_aligned : Width → ℕ → Bool
@@ -90,7 +90,7 @@ is_aligned _ n = n % 2 ^ 3 == 0
 
 -- a pointer has the bit in bits 0 to 2 and the byte in bits 3 to 18
 abbrev pub at_pointer : Area → Width → ℕ → Local → Result Location ℕ
-at_pointer area width n s = in_area area (n / 2 ^ 3 % 2 ^ 16) (n % 2 ^ 3) width s
+at_pointer area width n s = open_area_location area (n / 2 ^ 3 % 2 ^ 16) (n % 2 ^ 3) width s
 
 -- the place of a pointer within an area: 28 and 29 where it isn't aligned
 unfoldable pub by_pointer : Access → Area → Width → ℕ → Local → Result Location ℕ
@@ -98,42 +98,42 @@ by_pointer access area width n s =
     if is_aligned width n then at_pointer area width n s else Err (error_of access errors.unaligned)
 
 -- P: read as peripheral inputs, written as peripheral outputs
-abbrev pub is_peripheral : Area → Bool
-is_peripheral areas.P = true
-is_peripheral _ = false
+abbrev pub is_area_p : Area → Bool
+is_area_p areas.P = true
+is_area_p _ = false
 
 -- a place of an area that is named: 24 and 25 for a bit in the peripheral area
-abbrev pub placed : Access → Area → (byte bit : ℕ) → Width → Local → Result Location ℕ
-placed access area byte bit width s =
-    if is_peripheral area && is_bit width then Err (error_of access errors.bad_area)
-    else in_area area byte bit width s
+abbrev pub area_location : Access → Area → (byte bit : ℕ) → Width → Local → Result Location ℕ
+area_location access area byte bit width s =
+    if is_area_p area && is_bit_width width then Err (error_of access errors.bad_area)
+    else open_area_location area byte bit width s
 
 -- 24 and 25, too, where the pointer names no area
 abbrev pub in_named : Access → Option Place → Width → ℕ → Local → Result Location ℕ
 in_named access None width n s = Err (error_of access errors.bad_area)
 in_named access (Some named) width n s =
-    placed access named.area (n / 2 ^ 3 % 2 ^ 16) (n % 2 ^ 3) width s
+    area_location access named.area (n / 2 ^ 3 % 2 ^ 16) (n % 2 ^ 3) width s
 
 -- the place of a pointer that names the area itself (manual: area-crossing)
 unfoldable pub by_crossing : Access → Width → (address n : ℕ) → Local → Result Location ℕ
 by_crossing access width address n s =
-    if is_aligned width n then in_named access (place_of address) width n s
+    if is_aligned width n then in_named access (place_at_pointer address) width n s
     else Err (error_of access errors.unaligned)
 
 -- what address register 1 or 2 holds
-abbrev pub address : ℕ → Local → ℕ
-address register s = if register == 1 then s.regs.ar1 else s.regs.ar2
+abbrev pub register_address : ℕ → Local → ℕ
+register_address register s = if register == 1 then s.regs.ar1 else s.regs.ar2
 
 -- the offset is added in bits 0 to 18
-abbrev pub moved : (address bits : ℕ) → ℕ
-moved address bits = (address % 2 ^ 19 + bits % 2 ^ 19) % 2 ^ 19
+abbrev pub address_moved_by : (address bits : ℕ) → ℕ
+address_moved_by address bits = (address % 2 ^ 19 + bits % 2 ^ 19) % 2 ^ 19
 
 -- register-indirect; with no area it is that of the address register
-abbrev pub by_register : Access → Option Area → Width → (address bits : ℕ) → Local → Result Location ℕ
-by_register access (Some area) width address bits s =
-    by_pointer access area width (moved address bits) s
-by_register access None width address bits s =
-    by_crossing access width address (moved address bits) s
+abbrev pub register_location : Access → Option Area → Width → (address bits : ℕ) → Local → Result Location ℕ
+register_location access (Some area) width address bits s =
+    by_pointer access area width (address_moved_by address bits) s
+register_location access None width address bits s =
+    by_crossing access width address (address_moved_by address bits) s
 
 -- of an operand that the instruction doesn't take: never in a program that is loaded
 abbrev pub no_operand : ℕ
@@ -146,11 +146,11 @@ of_binding (Some (binding.Bound place width frame)) =
 of_binding _ = Err no_operand
 
 -- the place of an operand that is to be read or written
-unfoldable pub located : Access → Operand → Local → Areas → Result Location ℕ
-located access (operand.Direct area width byte bit) s m = placed access area byte bit width s
-located access (operand.ByMemory area width from byte) s m =
-    then_ok (pointer from byte widths.Dword s m) (λ n. by_pointer access area width n s)
-located access (operand.ByRegister area width register bits) s m =
-    by_register access area width (address register s) bits s
-located access (operand.Parameter index width) s m = of_binding (slice_get s.inner.bindings index)
-located access _ s m = Err no_operand
+unfoldable pub operand_location : Access → Operand → Local → Areas → Result Location ℕ
+operand_location access (operand.Direct area width byte bit) s m = area_location access area byte bit width s
+operand_location access (operand.ByMemory area width from byte) s m =
+    then_ok (pointer_number from byte widths.Dword s m) (λ n. by_pointer access area width n s)
+operand_location access (operand.ByRegister area width register bits) s m =
+    register_location access area width (register_address register s) bits s
+operand_location access (operand.Parameter index width) s m = of_binding (slice_get s.inner.bindings index)
+operand_location access _ s m = Err no_operand

@@ -10,13 +10,13 @@ use Rattle.flat_code.specs.declared.operands.Operand.TheVariants as operand
 use Rattle.flat_code.specs.declared.operations.PointerOperation.{PointerOperation}
 use Rattle.flat_code.specs.declared.operations.PointerOperation.TheVariants as word
 use Rattle.machine.specs.ExecState.{Local, LocalMemory, then_ok}
-use Rattle.machine.specs.Values.{number}
-use Rattle.machine.specs.Loads.{with_loaded, transferred}
+use Rattle.machine.specs.Values.{operand_number}
+use Rattle.machine.specs.Loads.{with_accu_loaded, number_transferred}
 
 -- what LAR1 and LAR2 load: accumulator 1 without operand, a pointer constant, a double word
 abbrev pub address_loaded : Operand → Local → Areas → Result ℕ ℕ
 address_loaded operand.Nothing s m = Ok s.regs.a1
-address_loaded o s m = number o s m
+address_loaded o s m = operand_number o s m
 
 -- other registers, in a scene that else stays
 abbrev pub regs_set : Regs → Local → Areas → LocalMemory
@@ -25,8 +25,8 @@ regs_set r s m = record { local = record s { regs = r }; memory = m }
 -- TAR1 and TAR2 of a register: to accumulator 1, whose contents go to accumulator 2, or to a double
 -- word, and then the accumulators stay
 abbrev pub address_transferred : ℕ → Operand → Local → Areas → Result LocalMemory ℕ
-address_transferred n operand.Nothing s m = Ok (regs_set (with_loaded n s.regs) s m)
-address_transferred n o s m = transferred n o s m
+address_transferred n operand.Nothing s m = Ok (regs_set (with_accu_loaded n s.regs) s m)
+address_transferred n o s m = number_transferred n o s m
 
 -- an integer of 16 bits in 24 bits: its sign fills the bits above it
 abbrev pub sign_extended : (word : ℕ) → ℕ
@@ -38,22 +38,22 @@ offset_added (operand.Literal value) r = value
 offset_added _ r = sign_extended (r.a1 % 2 ^ 16)
 
 -- they add in bits 0 to 23
-unfoldable pub address_after : (address offset : ℕ) → ℕ
-address_after address offset = with_low 24 address ((address + offset) % 2 ^ 24)
+unfoldable pub address_added : (address offset : ℕ) → ℕ
+address_added address offset = with_low 24 address ((address + offset) % 2 ^ 24)
 
 -- each by its operation; of them only TAR1 and TAR2 without operand change the accumulators
-unfoldable pub pointed : PointerOperation → Operand → Local → Areas → Result LocalMemory ℕ
-pointed word.Lar1 o s m =
+unfoldable pub pointer_effect : PointerOperation → Operand → Local → Areas → Result LocalMemory ℕ
+pointer_effect word.Lar1 o s m =
     then_ok (address_loaded o s m) (λ n. Ok (regs_set (record s.regs { ar1 = n }) s m))
-pointed word.Lar2 o s m =
+pointer_effect word.Lar2 o s m =
     then_ok (address_loaded o s m) (λ n. Ok (regs_set (record s.regs { ar2 = n }) s m))
-pointed word.Tar1 o s m = address_transferred s.regs.ar1 o s m
-pointed word.Tar2 o s m = address_transferred s.regs.ar2 o s m
-pointed word.Lar1Ar2 o s m = Ok (regs_set (record s.regs { ar1 = s.regs.ar2 }) s m)
-pointed word.Tar1Ar2 o s m = Ok (regs_set (record s.regs { ar2 = s.regs.ar1 }) s m)
-pointed word.Car o s m =
+pointer_effect word.Tar1 o s m = address_transferred s.regs.ar1 o s m
+pointer_effect word.Tar2 o s m = address_transferred s.regs.ar2 o s m
+pointer_effect word.Lar1Ar2 o s m = Ok (regs_set (record s.regs { ar1 = s.regs.ar2 }) s m)
+pointer_effect word.Tar1Ar2 o s m = Ok (regs_set (record s.regs { ar2 = s.regs.ar1 }) s m)
+pointer_effect word.Car o s m =
     Ok (regs_set (record s.regs { ar1 = s.regs.ar2; ar2 = s.regs.ar1 }) s m)
-pointed word.AddAr1 o s m =
-    Ok (regs_set (record s.regs { ar1 = address_after s.regs.ar1 (offset_added o s.regs) }) s m)
-pointed word.AddAr2 o s m =
-    Ok (regs_set (record s.regs { ar2 = address_after s.regs.ar2 (offset_added o s.regs) }) s m)
+pointer_effect word.AddAr1 o s m =
+    Ok (regs_set (record s.regs { ar1 = address_added s.regs.ar1 (offset_added o s.regs) }) s m)
+pointer_effect word.AddAr2 o s m =
+    Ok (regs_set (record s.regs { ar2 = address_added s.regs.ar2 (offset_added o s.regs) }) s m)

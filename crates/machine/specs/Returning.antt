@@ -4,7 +4,7 @@ use Rattle.std.specs.Prelude.{ℕ, ◌≡◌, Bool, true, false, List, [], ◌�
 use Rattle.plc_mem.specs.Areas.{Areas}
 use Rattle.status_word.specs.declared.Regs.{Regs}
 use Rattle.frames.specs.Activations.{frames_of}
-use Rattle.frames.specs.Locals.{closed}
+use Rattle.frames.specs.Locals.{close_locals}
 use Rattle.frames.specs.declared.Activation.{Activation}
 use Rattle.frames.specs.declared.frame.Frame.{Frame}
 use Rattle.flat_code.specs.declared.programs.Param.{Param}
@@ -37,13 +37,13 @@ left_to caller rest a =
       running = record a.running {
         regs = at_block a.running.regs;
         frame = caller;
-        locals = closed a.running.locals;
+        locals = close_locals a.running.locals;
       };
       below = rest;
     }
 
 -- an activation that has ended: its registers are those of the return, and no frame stands
-pub record HasEnded (old new : Activation) (regs : Regs) : Type 0 where
+pub record HasReturnedLast (old new : Activation) (regs : Regs) : Type 0 where
   pub frames : frames_of new ≡ []
   pub regs_are : new.running.regs ≡ regs
   pub class : new.class ≡ old.class
@@ -61,12 +61,12 @@ left [] s = Ends (at_block s.activation.running.regs) s.memory
 left (caller ∷ rest) s = GoesOn (left_to caller rest s.activation) s.memory
 
 -- the innermost block returns: the parameters of its head are copied out, then its frame is left
-unfoldable pub returning : List Param → Activation → Areas → Return
-returning params a m = left a.below (given_back a.running.frame.instance params a m)
+unfoldable pub block_return : List Param → Activation → Areas → Return
+block_return params a m = left a.below (given_back a.running.frame.instance params a m)
 
 -- the innermost block is left; the answer says whether the caller goes on
 abbrev pub LeavesTo : List Frame → (old new : Activation) → Bool → Type 0
-LeavesTo [] old new false = HasEnded old new (at_block old.running.regs)
+LeavesTo [] old new false = HasReturnedLast old new (at_block old.running.regs)
 LeavesTo (caller ∷ rest) old new true = new ≡ left_to caller rest old
 LeavesTo below old new answer = ⊥
 
@@ -77,5 +77,5 @@ Left old new answer = LeavesTo old.below old new answer
 -- the same of a return
 abbrev pub Returns : Return → (old new : Activation) (m' : Areas) → Bool → Type 0
 Returns (GoesOn a m) old new m' true = (new ≡ a) × (m' ≡ m)
-Returns (Ends regs m) old new m' false = HasEnded old new regs × (m' ≡ m)
+Returns (Ends regs m) old new m' false = HasReturnedLast old new regs × (m' ≡ m)
 Returns r old new m' answer = ⊥

@@ -17,9 +17,9 @@ use Rattle.machine.specs.Code.{Code, Fetched}
 use Rattle.machine.specs.declared.running.Silent.{Silent}
 use Rattle.machine.specs.declared.running.Silent.TheVariants as silent
 use Rattle.machine.specs.Flat.{code_of}
-use Rattle.machine.specs.Lasting.{IsReady}
-use Rattle.machine.specs.Places.{is_peripheral}
-use Rattle.machine.specs.Statement.{World, Step, Went, is_called, is_ended, statement}
+use Rattle.machine.specs.Lasting.{IsStatementReady}
+use Rattle.machine.specs.Places.{is_area_p}
+use Rattle.machine.specs.Statement.{World, Step, Went, is_call_made, is_ended, statement}
 
 -- the activation goes on, with no change of the peripheral outputs
 pub record GoesSilently (step : Step) (w : World) (next : Activation) (after : World) : Type 0 where
@@ -37,7 +37,7 @@ RunsSilently code (suc count) a b w after =
 abbrev pub StaysReady : Program → Activation → World → Type 0
 StaysReady p a w =
     (count : ℕ) (b : Activation) (after : World)
-    → RunsSilently (code_of p) count a b w after → IsReady p b
+    → RunsSilently (code_of p) count a b w after → IsStatementReady p b
 
 -- the instructions that write to the place of their operand
 abbrev pub may_write : Operation → Bool
@@ -50,24 +50,24 @@ may_write (operation.Pointer what) = true
 may_write _ = false
 
 -- an area that is not the peripheral one
-abbrev pub is_inside : Area → Bool
-is_inside area = not (is_peripheral area)
+abbrev pub is_inside_area : Area → Bool
+is_inside_area area = not (is_area_p area)
 
 -- what a parameter stands for: no peripheral place; a constant has no place at all
 abbrev pub is_bound_inside : Option Binding → Bool
-is_bound_inside (Some (binding.Bound place width frame)) = is_inside place.area
+is_bound_inside (Some (binding.Bound place width frame)) = is_inside_area place.area
 is_bound_inside _ = true
 
 -- without an area in the operand the address register names it, so nothing is sure
 abbrev pub is_named_inside : Option Area → Bool
-is_named_inside (Some area) = is_inside area
+is_named_inside (Some area) = is_inside_area area
 is_named_inside None = false
 
 -- whether it is sure, by the operand and what parameters stand for, that no place in the peripheral
 -- area is written
 abbrev pub has_place_inside : Operand → List Binding → Bool
-has_place_inside (operand.Direct area width byte bit) bindings = is_inside area
-has_place_inside (operand.ByMemory area width from byte) bindings = is_inside area
+has_place_inside (operand.Direct area width byte bit) bindings = is_inside_area area
+has_place_inside (operand.ByMemory area width from byte) bindings = is_inside_area area
 has_place_inside (operand.ByRegister area width register bits) bindings = is_named_inside area
 has_place_inside (operand.Parameter index width) bindings =
     is_bound_inside (slice_get bindings index)
@@ -80,9 +80,9 @@ keeps_outputs w o bindings = not (may_write w) || has_place_inside o bindings
 -- ---- before which statements it stops
 
 -- not after a synchronous error, a system function, a stop or the end of the organization block
-abbrev pub goes_on : Step → Bool
-goes_on (Went a w) = true
-goes_on _ = false
+abbrev pub is_going_on : Step → Bool
+is_going_on (Went a w) = true
+is_going_on _ = false
 
 -- an instruction that jumps, calls or returns
 abbrev pub moves : Operation → Bool
@@ -103,7 +103,7 @@ abbrev pub is_silent : Instr → Activation → Bool
 is_silent (Does use_db w o) a = not (moves w) && keeps_outputs w o a.running.frame.bindings
 is_silent (Jumps w target) a = true
 is_silent (Calls how block instance passings) a =
-    is_called how a.running.regs.status.rlo && not (is_system_function block.kind)
+    is_call_made how a.running.regs.status.rlo && not (is_system_function block.kind)
 is_silent (Returns how) a =
     is_ended how a.running.regs.status.rlo && not (is_some a.running.frame.instance)
     && has_caller a.below
@@ -126,13 +126,13 @@ is_next kind code a = is_of kind (code.fetch a.running.frame.block a.running.fra
 
 -- and the activation goes on after it
 abbrev pub goes_as : (Instr → Activation → Bool) → Code → Activation → World → Bool
-goes_as kind code a w = is_next kind code a && goes_on (statement code a w)
+goes_as kind code a w = is_next kind code a && is_going_on (statement code a w)
 
 -- one such statement was executed, or nothing was done, since it isn't of the kind or doesn't go on
 abbrev pub GoesOrStays : Step → (kind : Bool) → (old new : Activation) (w after : World) → Bool → Type 0
 GoesOrStays step kind old new w after true = GoesSilently step w new after
 GoesOrStays step kind old new w after false =
-    (new ≡ old) × (after ≡ w) × ((kind && goes_on step) ≡ false)
+    (new ≡ old) × (after ≡ w) × ((kind && is_going_on step) ≡ false)
 
 -- what came of a statement that was tried: whether it was executed
 abbrev pub shows_nothing : Silent → Bool

@@ -19,11 +19,11 @@ use Rattle.flat_code.specs.declared.operations.EndOperation.TheVariants as ends
 use Rattle.flat_code.specs.declared.programs.Param.{Param}
 use Rattle.machine.specs.ExecState.{ExecState, local_of, exec_state_of, with_local}
 use Rattle.machine.specs.Effect.{effect_with}
-use Rattle.machine.specs.Jumps.{is_taken, after_jump, goes_to, listed, rlo_tested}
-use Rattle.machine.specs.Entering.{Call, Fails, Stops, Enters, Callee, at_block, call, going_on}
-use Rattle.machine.specs.Returning.{Return, GoesOn, Ends, returning, HasEnded}
+use Rattle.machine.specs.Jumps.{is_jump_taken, regs_after_jump, jump_goal, list_goal, rlo_tested}
+use Rattle.machine.specs.Entering.{Call, Fails, Stops, Enters, CalledBlock, at_block, call, going_on}
+use Rattle.machine.specs.Returning.{Return, GoesOn, Ends, block_return, HasReturnedLast}
 use Rattle.machine.specs.SystemCalls.{Given, system_function, system_call}
-use Rattle.machine.specs.Code.{Code, Fetched, Head}
+use Rattle.machine.specs.Code.{Code, Fetched, BlockHead}
 use Rattle.machine.specs.declared.outcomes.Outcome.{Outcome}
 use Rattle.machine.specs.declared.outcomes.Outcome.TheVariants as outcome
 
@@ -79,20 +79,20 @@ continue_with (Ok p) next a = Went (advance next (with_exec_state p a)) (world_o
 continue_with (Err code) next a = SyncError code (advance next a)
 
 -- a jump but JL goes on at its target where it is taken, else at the next statement
-abbrev pub jumped : JumpOperation → (target next : ℕ) → Activation → World → Step
-jumped operation target next a w =
-    Went (going_on (goes_to (is_taken operation a.running.regs) target next)
-    (after_jump operation a.running.regs) a) w
+abbrev pub jump_step : JumpOperation → (target next : ℕ) → Activation → World → Step
+jump_step operation target next a w =
+    Went (going_on (jump_goal (is_jump_taken operation a.running.regs) target next)
+    (regs_after_jump operation a.running.regs) a) w
 
 -- a call of a function or function block
-abbrev pub after_call : Call → (next : ℕ) → Activation → World → Step
-after_call (Fails code) next a w = SyncError code (advance next a)
-after_call (Stops fault) next a w = Stop (cause_of fault)
-after_call (Enters after m) next a w = Went after (with_memory m w)
+abbrev pub call_step : Call → (next : ℕ) → Activation → World → Step
+call_step (Fails code) next a w = SyncError code (advance next a)
+call_step (Stops fault) next a w = Stop (cause_of fault)
+call_step (Enters after m) next a w = Went after (with_memory m w)
 
 -- a block of the program, by its head, with the instance that the call names
-abbrev pub callee_of : BlockId → Option ℕ → Head → Callee
-callee_of block instance h = record {
+abbrev pub called_block : BlockId → Option ℕ → BlockHead → CalledBlock
+called_block block instance h = record {
   block = block;
   instance = instance;
   local_len = h.local_len;
@@ -101,10 +101,10 @@ callee_of block instance h = record {
 
 -- a call of a function or function block, by its head; stuck where the program has none
 abbrev pub block_called :
-    Option Head → BlockId → Option ℕ → List Passing → (next : ℕ) → Activation → World → Step
+    Option BlockHead → BlockId → Option ℕ → List Passing → (next : ℕ) → Activation → World → Step
 block_called None block instance passings next a w = Stuck
 block_called (Some h) block instance passings next a w =
-    after_call (call (callee_of block instance h) passings next a w.memory) next a w
+    call_step (call (called_block block instance h) passings next a w.memory) next a w
 
 -- a call of a system function; the four bits are set as at each call
 abbrev pub after_system_call : Result Given ℕ → (number next : ℕ) → Activation → Step
@@ -113,24 +113,24 @@ after_system_call (Ok given) number next a =
     SysCall number given (going_on next (at_block a.running.regs) a)
 
 -- a call of a system function, by its parameters; stuck where the number is none of the nine
-abbrev pub system_called :
+abbrev pub system_call_made :
     Option (List Param) → (number : ℕ) → List Passing → (next : ℕ) → Activation → World → Step
-system_called None number passings next a w = Stuck
-system_called (Some params) number passings next a w =
+system_call_made None number passings next a w = Stuck
+system_call_made (Some params) number passings next a w =
     after_system_call (system_call params passings (local_of a.running) w.memory) number next a
 
 -- a call that is made: of a system function by its number, of each other block by its head
-abbrev pub called :
+abbrev pub call_made :
     Code → BlockId → Option ℕ → List Passing → (next : ℕ) → Activation → World → Step
-called code block instance passings next a w =
+call_made code block instance passings next a w =
     if is_system_function block.kind
-    then system_called (system_function block.number) block.number passings next a w
+    then system_call_made (system_function block.number) block.number passings next a w
     else block_called (code.head block) block instance passings next a w
 
 -- CC calls where RLO is 1; else it sets the four bits, and RLO 1
-abbrev pub is_called : CallOperation → (rlo : Bool) → Bool
-is_called calls.Cc rlo = rlo
-is_called _ rlo = true
+abbrev pub is_call_made : CallOperation → (rlo : Bool) → Bool
+is_call_made calls.Cc rlo = rlo
+is_call_made _ rlo = true
 
 -- CC with RLO 0: OS 0, OR 0, STA 1, /FC 0 and RLO 1
 abbrev pub not_called : Regs → Regs
@@ -142,9 +142,9 @@ after_return (GoesOn a m) w = Went a (with_memory m w)
 after_return (Ends regs m) w = Ended regs (with_memory m w)
 
 -- a return that is made, by the head of the running block; stuck where the program has none
-abbrev pub returned : Option Head → Activation → World → Step
-returned None a w = Stuck
-returned (Some h) a w = after_return (returning h.params a w.memory) w
+abbrev pub return_made : Option BlockHead → Activation → World → Step
+return_made None a w = Stuck
+return_made (Some h) a w = after_return (block_return h.params a w.memory) w
 
 -- BEC returns where RLO is 1; else RLO 1, OR 0, STA 1, /FC 0, and the block goes on
 abbrev pub is_ended : EndOperation → (rlo : Bool) → Bool
@@ -155,14 +155,14 @@ is_ended _ rlo = true
 abbrev pub step_of : Code → Instr → (next : ℕ) → Activation → World → Step
 step_of code (Does use_db operation operand) next a w =
     continue_with (effect_with use_db operation operand (exec_state_of a.running w.memory w.timers w.counters)) next a
-step_of code (Jumps operation target) next a w = jumped operation target next a w
+step_of code (Jumps operation target) next a w = jump_step operation target next a w
 step_of code (JumpsByList targets otherwise) next a w =
-    Went (advance (listed targets otherwise a.running.regs) a) w
+    Went (advance (list_goal targets otherwise a.running.regs) a) w
 step_of code (Calls how block instance passings) next a w =
-    if is_called how a.running.regs.status.rlo then called code block instance passings next a w
+    if is_call_made how a.running.regs.status.rlo then call_made code block instance passings next a w
     else Went (going_on next (not_called a.running.regs) a) w
 step_of code (Returns how) next a w =
-    if is_ended how a.running.regs.status.rlo then returned (code.head a.running.frame.block) a w
+    if is_ended how a.running.regs.status.rlo then return_made (code.head a.running.frame.block) a w
     else Went (going_on next (rlo_tested a.running.regs) a) w
 
 -- what comes of the statement that was found; stuck where none begins at the position
@@ -183,7 +183,7 @@ IsNotStuck _ = Unit {0}
 -- what a call of a statement answers, and what it leaves
 abbrev pub IsOutcomeOf : Step → (old new : Activation) (w w' : World) → Outcome → Type 0
 IsOutcomeOf (Went a after) old new w w' outcome.Went = (new ≡ a) × (w' ≡ after)
-IsOutcomeOf (Ended regs after) old new w w' outcome.Ended = HasEnded old new regs × (w' ≡ after)
+IsOutcomeOf (Ended regs after) old new w w' outcome.Ended = HasReturnedLast old new regs × (w' ≡ after)
 IsOutcomeOf (SyncError code a) old new w w' (outcome.SyncError answer) =
     (answer ≡ code) × (new ≡ a) × (w' ≡ w)
 IsOutcomeOf (SysCall number given a) old new w w' (outcome.SysCall function inputs result) =
@@ -192,9 +192,9 @@ IsOutcomeOf (Stop cause) old new w w' (outcome.Stop answer) = (answer ≡ cause)
 IsOutcomeOf step old new w w' answer = ⊥
 
 -- the answer is a synchronous error
-abbrev pub is_error : Outcome → Bool
-is_error (outcome.SyncError code) = true
-is_error _ = false
+abbrev pub is_sync_error : Outcome → Bool
+is_sync_error (outcome.SyncError code) = true
+is_sync_error _ = false
 
 -- whether the activation goes on once an instruction was performed, what else came of it, and what
 -- that left: a synchronous error nothing at all, so that the next statement is still to be gone to. Of

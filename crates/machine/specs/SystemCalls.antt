@@ -8,16 +8,16 @@ use Rattle.frames.specs.declared.bindings.Binding.{Binding}
 use Rattle.frames.specs.declared.bindings.Binding.TheVariants as binding
 use Rattle.flat_code.specs.declared.programs.Param.{Param}
 use Rattle.flat_code.specs.Blocks.{system_params}
-use Rattle.flat_code.specs.Image.{param_of}
+use Rattle.flat_code.specs.Image.{param_of_record}
 use Rattle.flat_code.specs.Instr.{Passing}
 use Rattle.flat_code.specs.Records.{section_in, section_out}
 use Rattle.machine.specs.ExecState.{Local, local_of, then_ok}
-use Rattle.machine.specs.Places.{number_in}
-use Rattle.machine.specs.Bindings.{bindings_of}
+use Rattle.machine.specs.Places.{location_number}
+use Rattle.machine.specs.Bindings.{param_bindings}
 
 -- the parameters of a system function: IN by their order, then RET_VAL if it has one
 abbrev pub system_function : ℕ → Option (List Param)
-system_function number = option_map (map param_of) (system_params number)
+system_function number = option_map (map param_of_record) (system_params number)
 
 -- a system call: the numbers of its IN parameters, and what RET_VAL is bound to
 pub record Given : Type 0 where
@@ -28,7 +28,7 @@ pub record Given : Type 0 where
 abbrev pub input_of : Option Binding → Local → Areas → ℕ
 input_of (Some (binding.Bound place width frame)) s m =
     unwrap_or
-    (number_in (record { place = place; width = width; frame = frame }) s.locals m) 0
+    (location_number (record { place = place; width = width; frame = frame }) s.locals m) 0
 input_of (Some (binding.Constant value)) s m = value
 input_of _ s m = 0
 
@@ -65,4 +65,4 @@ given_now params bindings a m = given_by params bindings (local_of a.running) m
 -- parameters are bound as in each call: the error is that of the first that can't be bound
 unfoldable pub system_call : List Param → List Passing → Local → Areas → Result Given ℕ
 system_call params passings s m =
-    then_ok (bindings_of params passings s m) (λ bindings. Ok (given_by params bindings s m))
+    then_ok (param_bindings params passings s m) (λ bindings. Ok (given_by params bindings s m))

@@ -5,28 +5,28 @@ use Rattle.plc_base.specs.ErrorCodes as errors
 use Rattle.plc_base.specs.declared.TimerKind.{TimerKind}
 use Rattle.plc_mem.specs.Areas.{Areas}
 use Rattle.status_word.specs.declared.Regs.{Regs}
-use Rattle.timers_counters.specs.Numbered.{change, change_always}
-use Rattle.timers_counters.specs.Timer.{Timer, started, reset_timer, freed_timer}
-use Rattle.timers_counters.specs.Counter.{Counter, counted_up, counted_down, set_to, reset_counter, freed_counter}
+use Rattle.timers_counters.specs.Numbered.{change_at_number, change_always}
+use Rattle.timers_counters.specs.Timer.{Timer, start_timer, reset_timer, free_timer}
+use Rattle.timers_counters.specs.Counter.{Counter, count_up, count_down, set_counter, reset_counter, free_counter}
 use Rattle.frames.specs.declared.running.Running.{Running}
 use Rattle.flat_code.specs.declared.operands.Operand.{Operand}
 use Rattle.machine.specs.ExecState.{Local, then_ok}
-use Rattle.machine.specs.Outcomes.{Answer, IsDone}
+use Rattle.machine.specs.Outcomes.{ErrorAnswer, IsDone}
 use Rattle.machine.specs.Values.{faulty, number_named}
 
 -- the instructions on timers and counters end the logic string: OR 0, /FC 0
-abbrev pub string_ended : Regs → Regs
-string_ended r = record r { status = record r.status { or = false; fc = false } }
+abbrev pub logic_string_ended : Regs → Regs
+logic_string_ended r = record r { status = record r.status { or = false; fc = false } }
 
 -- the word that a start instruction and S take: the low word of accumulator 1
-abbrev pub operation_of : Local → ℕ
-operation_of s = s.regs.a1 % 2 ^ 16
+abbrev pub start_word : Local → ℕ
+start_word s = s.regs.a1 % 2 ^ 16
 
 -- SP SE SD SS SF: the timers afterwards; 26 where there is none of the number, 21 for a bad digit
-unfoldable pub starting : TimerKind → Operand → Local → Areas → List Timer → Result (List Timer) ℕ
-starting how o s m t =
+unfoldable pub timer_start : TimerKind → Operand → Local → Areas → List Timer → Result (List Timer) ℕ
+timer_start how o s m t =
     then_ok (number_named o s m) (λ number.
-    faulty errors.no_timer (change (started how s.regs.status.rlo (operation_of s)) t number))
+    faulty errors.no_timer (change_at_number (start_timer how s.regs.status.rlo (start_word s)) t number))
 
 -- R of a timer
 unfoldable pub timer_reset : Operand → Local → Areas → List Timer → Result (List Timer) ℕ
@@ -38,25 +38,25 @@ timer_reset o s m t =
 unfoldable pub timer_freed : Operand → Local → Areas → List Timer → Result (List Timer) ℕ
 timer_freed o s m t =
     then_ok (number_named o s m) (λ number.
-    faulty errors.no_timer (change_always (freed_timer s.regs.status.rlo) t number))
+    faulty errors.no_timer (change_always (free_timer s.regs.status.rlo) t number))
 
 -- CU, and CD: the counters afterwards; 27 where there is none of the number
 unfoldable pub counting_up : Operand → Local → Areas → List Counter → Result (List Counter) ℕ
 counting_up o s m n =
     then_ok (number_named o s m) (λ number.
-    faulty errors.no_counter (change_always (counted_up s.regs.status.rlo) n number))
+    faulty errors.no_counter (change_always (count_up s.regs.status.rlo) n number))
 
 -- CD takes one away on a rising RLO, 0 stays 0
 unfoldable pub counting_down : Operand → Local → Areas → List Counter → Result (List Counter) ℕ
 counting_down o s m n =
     then_ok (number_named o s m) (λ number.
-    faulty errors.no_counter (change_always (counted_down s.regs.status.rlo) n number))
+    faulty errors.no_counter (change_always (count_down s.regs.status.rlo) n number))
 
 -- S of a counter: 21 for a bad digit
 unfoldable pub counter_set : Operand → Local → Areas → List Counter → Result (List Counter) ℕ
 counter_set o s m n =
     then_ok (number_named o s m) (λ number.
-    faulty errors.no_counter (change (set_to s.regs.status.rlo (operation_of s)) n number))
+    faulty errors.no_counter (change_at_number (set_counter s.regs.status.rlo (start_word s)) n number))
 
 -- R of a counter
 unfoldable pub counter_reset : Operand → Local → Areas → List Counter → Result (List Counter) ℕ
@@ -68,11 +68,11 @@ counter_reset o s m n =
 unfoldable pub counter_freed : Operand → Local → Areas → List Counter → Result (List Counter) ℕ
 counter_freed o s m n =
     then_ok (number_named o s m) (λ number.
-    faulty errors.no_counter (change_always (freed_counter s.regs.status.rlo) n number))
+    faulty errors.no_counter (change_always (free_counter s.regs.status.rlo) n number))
 
 -- an effect on timers or counters: the logic string ends; after an error all is as it was
 abbrev pub Times :
-    {A : Type 0} → Result (List A) ℕ → (old new : Running) (all all' : List A) → Answer → Type 0
+    {A : Type 0} → Result (List A) ℕ → (old new : Running) (all all' : List A) → ErrorAnswer → Type 0
 Times effect old new all all' answer =
-    IsDone effect (λ next. (new ≡ record old { regs = string_ended old.regs }) × (all' ≡ next))
+    IsDone effect (λ next. (new ≡ record old { regs = logic_string_ended old.regs }) × (all' ≡ next))
     ((new ≡ old) × (all' ≡ all)) answer

@@ -4,11 +4,11 @@ use Rattle.std.specs.Option.{option_map}
 use Rattle.plc_base.specs.ErrorCodes as errors
 use Rattle.plc_base.specs.declared.Width.TheVariants as widths
 use Rattle.plc_mem.specs.Areas.{Areas}
-use Rattle.plc_mem.specs.Writing.{written}
+use Rattle.plc_mem.specs.Writing.{number_written}
 use Rattle.status_word.specs.Flags.{flag_value}
 use Rattle.timers_counters.specs.declared.faults.TimerFault.{TimerFault}
 use Rattle.timers_counters.specs.declared.faults.TimerFault.TheVariants.{NoNumber, BadBcd}
-use Rattle.timers_counters.specs.Numbered.{reading}
+use Rattle.timers_counters.specs.Numbered.{read_at_number}
 use Rattle.timers_counters.specs.Timer.{Timer, units_left, time_left}
 use Rattle.timers_counters.specs.Counter.{Counter, is_counting, count_bcd}
 use Rattle.frames.specs.Locals.{LocalData, local_written}
@@ -20,7 +20,7 @@ use Rattle.flat_code.specs.declared.operands.Operand.TheVariants as operand
 use Rattle.machine.specs.declared.places.Access.TheVariants.{Reading, Writing}
 use Rattle.machine.specs.declared.places.Location.{Location}
 use Rattle.machine.specs.ExecState.{Local, LocalMemory, then_ok}
-use Rattle.machine.specs.Places.{located, read, absent, is_local, pointer, no_operand}
+use Rattle.machine.specs.Places.{operand_location, read, absent, is_area_l, pointer_number, no_operand}
 
 -- what a parameter of a function reads as: the number at its place, or its constant
 abbrev pub number_of_binding : Option Binding → Local → Areas → Result ℕ ℕ
@@ -30,11 +30,11 @@ number_of_binding (Some (binding.Constant value)) s m = Ok value
 number_of_binding _ s m = Err no_operand
 
 -- the number of an operand that is a constant or has a place
-unfoldable pub number : Operand → Local → Areas → Result ℕ ℕ
-number (operand.Literal value) s m = Ok value
-number (operand.Parameter index width) s m =
+unfoldable pub operand_number : Operand → Local → Areas → Result ℕ ℕ
+operand_number (operand.Literal value) s m = Ok value
+operand_number (operand.Parameter index width) s m =
     number_of_binding (slice_get s.inner.bindings index) s m
-number o s m = then_ok (located Reading o s m) (λ at. read at s m)
+operand_number o s m = then_ok (operand_location Reading o s m) (λ at. read at s m)
 
 -- the error of a timer or counter: its own where there is none of the number, and 21 for a digit
 -- above 9
@@ -44,31 +44,31 @@ faulty code (Err NoNumber) = Err code
 faulty code (Err BadBcd) = Err errors.bad_bcd
 
 -- timers (kind 1) have the error 26, counters (kind 2) 27
-abbrev pub is_timer : ℕ → Bool
-is_timer kind = kind == 1
+abbrev pub is_timer_kind : ℕ → Bool
+is_timer_kind kind = kind == 1
 
 -- of a timer its output, of a counter whether its value is above 0
 unfoldable pub bit_of_numbered : (kind number : ℕ) → List Timer → List Counter → Result Bool ℕ
 bit_of_numbered kind number t n =
-    if is_timer kind then faulty errors.no_timer (reading (λ (timer : Timer). timer.output) t number)
-    else faulty errors.no_counter (reading is_counting n number)
+    if is_timer_kind kind then faulty errors.no_timer (read_at_number (λ (timer : Timer). timer.output) t number)
+    else faulty errors.no_counter (read_at_number is_counting n number)
 
 -- of a timer the time left in units of its base, of a counter its value
 unfoldable pub value_of_numbered : (kind number : ℕ) → List Timer → List Counter → Result ℕ ℕ
 value_of_numbered kind number t n =
-    if is_timer kind then faulty errors.no_timer (reading units_left t number)
-    else faulty errors.no_counter (reading (λ (counter : Counter). counter.value) n number)
+    if is_timer_kind kind then faulty errors.no_timer (read_at_number units_left t number)
+    else faulty errors.no_counter (read_at_number (λ (counter : Counter). counter.value) n number)
 
 -- the same in BCD
 unfoldable pub bcd_of_numbered : (kind number : ℕ) → List Timer → List Counter → Result ℕ ℕ
 bcd_of_numbered kind number t n =
-    if is_timer kind then faulty errors.no_timer (reading time_left t number)
-    else faulty errors.no_counter (reading count_bcd n number)
+    if is_timer_kind kind then faulty errors.no_timer (read_at_number time_left t number)
+    else faulty errors.no_counter (read_at_number count_bcd n number)
 
 -- the number of a timer or counter: its own, or the word at a place
 unfoldable pub number_named : Operand → Local → Areas → Result ℕ ℕ
 number_named (operand.Numbered kind number) s m = Ok number
-number_named (operand.NumberedBy kind from byte) s m = pointer from byte widths.Word s m
+number_named (operand.NumberedBy kind from byte) s m = pointer_number from byte widths.Word s m
 number_named _ s m = Err no_operand
 
 -- the bit that is read as the number 0 or 1; an error stays
@@ -77,26 +77,26 @@ is_one (Ok n) = Ok (n == 1)
 is_one (Err e) = Err e
 
 -- the bit that a check reads
-unfoldable pub tested : Operand → Local → Areas → List Timer → List Counter → Result Bool ℕ
-tested (operand.Numbered kind number) s m t n = bit_of_numbered kind number t n
-tested (operand.NumberedBy kind from byte) s m t n =
-    then_ok (pointer from byte widths.Word s m) (λ number. bit_of_numbered kind number t n)
-tested (operand.OfStatus condition) s m t n =
+unfoldable pub checked_bit : Operand → Local → Areas → List Timer → List Counter → Result Bool ℕ
+checked_bit (operand.Numbered kind number) s m t n = bit_of_numbered kind number t n
+checked_bit (operand.NumberedBy kind from byte) s m t n =
+    then_ok (pointer_number from byte widths.Word s m) (λ number. bit_of_numbered kind number t n)
+checked_bit (operand.OfStatus condition) s m t n =
     Ok (flag_value (flag_of condition) s.regs.status)
-tested o s m t n = is_one (number o s m)
+checked_bit o s m t n = is_one (operand_number o s m)
 
 -- the number that L reads
-unfoldable pub loaded : Operand → Local → Areas → List Timer → List Counter → Result ℕ ℕ
-loaded (operand.Numbered kind number) s m t n = value_of_numbered kind number t n
-loaded (operand.NumberedBy kind from byte) s m t n =
-    then_ok (pointer from byte widths.Word s m) (λ number. value_of_numbered kind number t n)
-loaded o s m t n = number o s m
+unfoldable pub load_value : Operand → Local → Areas → List Timer → List Counter → Result ℕ ℕ
+load_value (operand.Numbered kind number) s m t n = value_of_numbered kind number t n
+load_value (operand.NumberedBy kind from byte) s m t n =
+    then_ok (pointer_number from byte widths.Word s m) (λ number. value_of_numbered kind number t n)
+load_value o s m t n = operand_number o s m
 
 -- the number that LC reads: three BCD digits, of a timer with its base above them
 unfoldable pub bcd_loaded : Operand → Local → Areas → List Timer → List Counter → Result ℕ ℕ
 bcd_loaded (operand.Numbered kind number) s m t n = bcd_of_numbered kind number t n
 bcd_loaded (operand.NumberedBy kind from byte) s m t n =
-    then_ok (pointer from byte widths.Word s m) (λ number. bcd_of_numbered kind number t n)
+    then_ok (pointer_number from byte widths.Word s m) (λ number. bcd_of_numbered kind number t n)
 bcd_loaded o s m t n = Err no_operand
 
 -- other local bytes; registers and the innermost frame stay
@@ -106,11 +106,11 @@ with_locals s l = record s { locals = l }
 -- a number at a place in the local bytes of a frame or in memory; None where it doesn't exist
 abbrev pub stored_at : Location → ℕ → Local → Areas → Option LocalMemory
 stored_at at value s m =
-    if is_local at.place.area
+    if is_area_l at.place.area
     then option_map (λ l. record { local = with_locals s l; memory = m })
     (local_written s.locals at.frame at.place.byte at.place.bit at.width value)
     else option_map (λ memory. record { local = s; memory = memory })
-    (written m at.place at.width value)
+    (number_written m at.place at.width value)
 
 -- a number written to a place
 unfoldable pub write : Location → ℕ → Local → Areas → Result LocalMemory ℕ

@@ -1,7 +1,7 @@
 -- How the machine goes along the ops of a statement, by their offsets.
 use Rattle.std.specs.Prelude.{ℕ, true, zero, suc, List, [], slice_get, Option, Some, None, unwrap_or, Result, Ok, if◌then◌else◌}
 use Rattle.plc_mem.specs.Areas.{Areas}
-use Rattle.frames.specs.Bound.{set_at}
+use Rattle.frames.specs.Bound.{binding_set}
 use Rattle.frames.specs.declared.bindings.Binding.{Binding}
 use Rattle.flat_code.specs.Ops.{OpData}
 use Rattle.flat_code.specs.Placed.{op_placed, line_placed}
@@ -13,8 +13,8 @@ use Rattle.flat_code.specs.Instr.{Passing}
 use Rattle.flat_code.specs.Operations.{operation_of}
 use Rattle.machine.specs.Code.{Fetched}
 use Rattle.machine.specs.ExecState.{Local, then_ok}
-use Rattle.machine.specs.Bindings.{bound_for, unsupplied}
-use Rattle.machine.specs.Flat.{Run, use_db_of, use_db_first, list_of, most_ops, with_passing, instr_of}
+use Rattle.machine.specs.Bindings.{bound_for, no_bindings}
+use Rattle.machine.specs.Flat.{OpRun, use_db_of, use_db_first, list_of, most_ops, with_passing, instr_of}
 
 -- what a statement opens first, its last op, and the offset behind it
 pub record Walk : Type 0 where
@@ -23,14 +23,14 @@ pub record Walk : Type 0 where
   pub next : ℕ
 
 -- the first of two
-abbrev pub first_of : Option ℕ → Option ℕ → Option ℕ
-first_of None more = more
-first_of (Some number) more = Some number
+abbrev pub first_some : Option ℕ → Option ℕ → Option ℕ
+first_some None more = more
+first_some (Some number) more = Some number
 
 -- of a run of ops; what was opened before it counts first, then the first USEDB in it
-abbrev pub walk_with : Option ℕ → Run → Walk
+abbrev pub walk_with : Option ℕ → OpRun → Walk
 walk_with opens r = record {
-  opens = first_of opens (use_db_of r.before);
+  opens = first_some opens (use_db_of r.before);
   last = r.last;
   next = r.next;
 }
@@ -41,18 +41,18 @@ walk_by opens r = record { opens = opens; last = r.0; next = r.1 }
 
 -- what stands open after a further op
 abbrev pub opens_after : Option ℕ → Operand → Option ℕ
-opens_after opens o = first_of opens (use_db_first o None)
+opens_after opens o = first_some opens (use_db_first o None)
 
 -- the jump of a number in the list of a JL, or the list's end
-abbrev pub picked : (most : ℕ) → List OpData → (target at number : ℕ) → ℕ
-picked most ops target at number =
+abbrev pub list_jump : (most : ℕ) → List OpData → (target at number : ℕ) → ℕ
+list_jump most ops target at number =
     unwrap_or (slice_get (list_of most ops target at) number) target
 
 -- an op that passes a parameter sets what it stands for
-abbrev pub bound_by : Operand → List Param → List Binding → Local → Areas → Result (List Binding) ℕ
-bound_by (operand.Pass index actual) params bindings s m =
-    then_ok (bound_for (slice_get params index) actual s m) (λ b. Ok (set_at bindings index b))
-bound_by _ params bindings s m = Ok bindings
+abbrev pub binding_by : Operand → List Param → List Binding → Local → Areas → Result (List Binding) ℕ
+binding_by (operand.Pass index actual) params bindings s m =
+    then_ok (bound_for (slice_get params index) actual s m) (λ b. Ok (binding_set bindings index b))
+binding_by _ params bindings s m = Ok bindings
 
 -- so do all ops of a statement
 abbrev pub bound_next :
@@ -61,7 +61,7 @@ abbrev pub bound_next :
 bound_next None params bindings s m more = Ok bindings
 bound_next (Some r) params bindings s m more =
     if r.0.last then Ok bindings
-    else then_ok (bound_by r.0.operand params bindings s m) (λ next. more r.1 next)
+    else then_ok (binding_by r.0.operand params bindings s m) (λ next. more r.1 next)
 
 -- at most so many ops from an offset on; it ends at the last op of the statement, which passes none
 unfoldable pub bound_from :
@@ -74,7 +74,7 @@ bound_from (suc most) ops at params bindings s m =
 
 -- what all parameters stand for, by the ops of the statement at an offset
 abbrev pub bound_all : List OpData → ℕ → List Param → Local → Areas → Result (List Binding) ℕ
-bound_all ops at params s m = bound_from most_ops ops at params (unsupplied params) s m
+bound_all ops at params s m = bound_from most_ops ops at params (no_bindings params) s m
 
 -- what a further op passes, and those behind it; the last op of a statement passes nothing
 abbrev pub passings_with : Option (OpData × ℕ) → (ℕ → List Passing) → List Passing
@@ -82,14 +82,14 @@ passings_with None more = []
 passings_with (Some r) more = if r.0.last then [] else with_passing r.0.operand (more r.1)
 
 -- what at most so many ops from an offset on pass
-unfoldable pub passings_from : (most : ℕ) → List OpData → ℕ → List Passing
-passings_from zero ops at = []
-passings_from (suc most) ops at =
-    passings_with (op_placed 0 ops at) (λ next. passings_from most ops next)
+unfoldable pub passings_up_to : (most : ℕ) → List OpData → ℕ → List Passing
+passings_up_to zero ops at = []
+passings_up_to (suc most) ops at =
+    passings_with (op_placed 0 ops at) (λ next. passings_up_to most ops next)
 
 -- what the statement at an offset passes
 abbrev pub passings_at : List OpData → ℕ → List Passing
-passings_at ops at = passings_from most_ops ops at
+passings_at ops at = passings_up_to most_ops ops at
 
 -- the statement at an offset of a block, by what was found along its ops
 abbrev pub fetched_at : CodeBlock → ℕ → Walk → Fetched

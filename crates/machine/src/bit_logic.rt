@@ -1,8 +1,8 @@
 //! Bit logic with an operand: A AN O ON X XN, =, S, R, FP, FN.
 ghost use Rattle.std.specs.Prelude.{◌≡◌, ◌<◌};
 ghost use Rattle.machine.specs.ExecState.{local_of, then_ok};
-ghost use Rattle.machine.specs.Outcomes.{Acts, Checks};
-ghost use Rattle.machine.specs.BitLogic.{checking, put_bit as put_bit_of, bit_before as bit_before_of, bit_after as bit_after_of, bit_number as number_of_bit, assigned, assigned_at, set_at as set_at_of, bit_set as bit_set_of, edge as edge_of};
+ghost use Rattle.machine.specs.Outcomes.{ChangesLocalMemory, ChangesRunningRegs};
+ghost use Rattle.machine.specs.BitLogic.{checking, put_bit as put_bit_of, bit_before as bit_before_of, bit_after_set as bit_after_of, bit_as_number as number_of_bit, bit_assigned, assigned_at, bit_set_at as set_at_of, bit_set as bit_set_of, edge as edge_of};
 
 use crate::places::{Access, Location, located, number_at, placed};
 use crate::relay::power_flow;
@@ -25,7 +25,7 @@ pub(crate) fn check(
     t: &Timers,
     n: &Counters,
 ) -> Result<(), u8>
-    ensures { Checks (checking with operand.now (local_of s.old) m.now t.now n.now)
+    ensures { ChangesRunningRegs (checking with operand.now (local_of s.old) m.now t.now n.now)
         s.old s.new result }
 {
     let bit = tested(operand, s, m, t, n)?;
@@ -56,7 +56,7 @@ fn bit_before(at: &Location, s: &Running, m: &Memory) -> Result<bool, u8>
 #[tactic(auto, unfolding(crate::specs::BitLogic::put_bit))]
 #[inline(always)]
 fn put_bit(at: &Location, bit: bool, regs: Regs, s: &mut Running, m: &mut Memory) -> Result<(), u8>
-    ensures { Acts (put_bit_of at.now bit regs (local_of s.old) m.old)
+    ensures { ChangesLocalMemory (put_bit_of at.now bit regs (local_of s.old) m.old)
         s.old s.new m.old m.new result }
 {
     write(at, bit_number(bit), s, m)?;
@@ -68,7 +68,7 @@ fn put_bit(at: &Location, bit: bool, regs: Regs, s: &mut Running, m: &mut Memory
 #[tactic(auto, unfolding(crate::specs::BitLogic::put_bit))]
 #[inline(always)]
 fn assign_at(at: &Location, s: &mut Running, m: &mut Memory) -> Result<(), u8>
-    ensures { Acts (assigned_at at.now (local_of s.old) m.old) s.old s.new m.old m.new result }
+    ensures { ChangesLocalMemory (assigned_at at.now (local_of s.old) m.old) s.old s.new m.old m.new result }
 {
     let value = power_flow(s);
     write(at, bit_number(value), s, m)?;
@@ -79,7 +79,7 @@ fn assign_at(at: &Location, s: &mut Running, m: &mut Memory) -> Result<(), u8>
 // = with a fixed place. Each area has its arm, so that the compiler joins it with the memory's own.
 #[inline(always)]
 fn assign_direct(area: Area, byte: u16, bit: u8, s: &mut Running, m: &mut Memory) -> Result<(), u8>
-    ensures { Acts (assigned (Operand.Direct area Width.Bit byte bit) (local_of s.old) m.old)
+    ensures { ChangesLocalMemory (bit_assigned (Operand.Direct area Width.Bit byte bit) (local_of s.old) m.old)
         s.old s.new m.old m.new result }
 {
     match area {
@@ -94,10 +94,10 @@ fn assign_direct(area: Area, byte: u16, bit: u8, s: &mut Running, m: &mut Memory
 }
 
 // = with a fixed place in an area that is known where this is called.
-#[tactic(auto, unfolding(crate::specs::BitLogic::assigned, crate::specs::Places::located))]
+#[tactic(auto, unfolding(crate::specs::BitLogic::bit_assigned, crate::specs::Places::operand_location))]
 #[inline(always)]
 fn assign_in(area: Area, byte: u16, bit: u8, s: &mut Running, m: &mut Memory) -> Result<(), u8>
-    ensures { Acts (assigned (Operand.Direct area Width.Bit byte bit) (local_of s.old) m.old)
+    ensures { ChangesLocalMemory (bit_assigned (Operand.Direct area Width.Bit byte bit) (local_of s.old) m.old)
         s.old s.new m.old m.new result }
 {
     let at = placed(Access::Writing, area, byte, bit, Width::Bit, s)?;
@@ -105,10 +105,10 @@ fn assign_in(area: Area, byte: u16, bit: u8, s: &mut Running, m: &mut Memory) ->
 }
 
 // = where the operand has no fixed place.
-#[tactic(auto, unfolding(crate::specs::BitLogic::assigned))]
+#[tactic(auto, unfolding(crate::specs::BitLogic::bit_assigned))]
 #[inline(never)]
 fn assign_elsewhere(operand: &Operand, s: &mut Running, m: &mut Memory) -> Result<(), u8>
-    ensures { Acts (assigned operand.now (local_of s.old) m.old) s.old s.new m.old m.new result }
+    ensures { ChangesLocalMemory (bit_assigned operand.now (local_of s.old) m.old) s.old s.new m.old m.new result }
 {
     let at = located(Access::Writing, operand, s, m)?;
     assign_at(&at, s, m)
@@ -117,7 +117,7 @@ fn assign_elsewhere(operand: &Operand, s: &mut Running, m: &mut Memory) -> Resul
 /// =.
 #[inline(always)]
 pub(crate) fn assign(operand: &Operand, s: &mut Running, m: &mut Memory) -> Result<(), u8>
-    ensures { Acts (assigned operand.now (local_of s.old) m.old) s.old s.new m.old m.new result }
+    ensures { ChangesLocalMemory (bit_assigned operand.now (local_of s.old) m.old) s.old s.new m.old m.new result }
 {
     match *operand {
         Operand::Direct {
@@ -140,7 +140,7 @@ fn bit_after(flow: bool, value: bool, before: bool) -> bool
 #[tactic(auto, unfolding(crate::specs::BitLogic::put_bit))]
 #[inline(always)]
 fn set_at(value: bool, at: &Location, s: &mut Running, m: &mut Memory) -> Result<(), u8>
-    ensures { Acts (then_ok (bit_before_of at.now (local_of s.old) m.old)
+    ensures { ChangesLocalMemory (then_ok (bit_before_of at.now (local_of s.old) m.old)
         (λ before. set_at_of value at.now before (local_of s.old) m.old))
         s.old s.new m.old m.new result }
 {
@@ -152,7 +152,7 @@ fn set_at(value: bool, at: &Location, s: &mut Running, m: &mut Memory) -> Result
 }
 
 // S and R with a fixed place.
-#[tactic(auto, unfolding(crate::specs::BitLogic::bit_set, crate::specs::Places::located))]
+#[tactic(auto, unfolding(crate::specs::BitLogic::bit_set, crate::specs::Places::operand_location))]
 #[inline(never)]
 fn set_direct(
     value: bool,
@@ -162,7 +162,7 @@ fn set_direct(
     s: &mut Running,
     m: &mut Memory,
 ) -> Result<(), u8>
-    ensures { Acts (bit_set_of value (Operand.Direct area Width.Bit byte bit) (local_of s.old) m.old)
+    ensures { ChangesLocalMemory (bit_set_of value (Operand.Direct area Width.Bit byte bit) (local_of s.old) m.old)
         s.old s.new m.old m.new result }
 {
     let at = placed(Access::Writing, area, byte, bit, Width::Bit, s)?;
@@ -173,7 +173,7 @@ fn set_direct(
 #[tactic(auto, unfolding(crate::specs::BitLogic::bit_set))]
 #[inline(never)]
 fn set_elsewhere(value: bool, operand: &Operand, s: &mut Running, m: &mut Memory) -> Result<(), u8>
-    ensures { Acts (bit_set_of value operand.now (local_of s.old) m.old)
+    ensures { ChangesLocalMemory (bit_set_of value operand.now (local_of s.old) m.old)
         s.old s.new m.old m.new result }
 {
     let at = located(Access::Writing, operand, s, m)?;
@@ -188,7 +188,7 @@ pub(crate) fn set_bit(
     s: &mut Running,
     m: &mut Memory,
 ) -> Result<(), u8>
-    ensures { Acts (bit_set_of value operand.now (local_of s.old) m.old)
+    ensures { ChangesLocalMemory (bit_set_of value operand.now (local_of s.old) m.old)
         s.old s.new m.old m.new result }
 {
     match *operand {
@@ -211,7 +211,7 @@ pub(crate) fn edge(
     s: &mut Running,
     m: &mut Memory,
 ) -> Result<(), u8>
-    ensures { Acts (edge_of rising operand.now (local_of s.old) m.old)
+    ensures { ChangesLocalMemory (edge_of rising operand.now (local_of s.old) m.old)
         s.old s.new m.old m.new result }
 {
     let at = located(Access::Writing, operand, s, m)?;

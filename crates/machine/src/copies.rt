@@ -1,8 +1,8 @@
 //! The parameters of a function block: copied in at the call, and out at the return.
 ghost use Rattle.std.specs.Prelude.{◌≡◌, ◌≤◌, length};
 ghost use Rattle.machine.specs.ExecState.{local_memory_of};
-ghost use Rattle.machine.specs.Outcomes.{Becomes};
-ghost use Rattle.machine.specs.Copies.{comes_in as comes_in_of, goes_out as goes_out_of, in_instance as in_instance_of, put as put_of, copied, passed_to as passed_to_of, given_to as given_to_of, param_in as param_in_of, param_out as param_out_of, params_in as params_in_of, params_out as params_out_of};
+ghost use Rattle.machine.specs.Outcomes.{BecomesLocalMemory};
+ghost use Rattle.machine.specs.Copies.{comes_in as comes_in_of, goes_out as goes_out_of, in_instance as in_instance_of, number_put as put_of, number_copied, passed_to as passed_to_of, given_to as given_to_of, param_in as param_in_of, param_out as param_out_of, params_copied_in as params_in_of, params_out as params_out_of};
 
 use crate::loads::low;
 use crate::places::{Location, number_at};
@@ -43,7 +43,7 @@ fn in_instance(param: &Param, instance: u16) -> Location
 
 // A number to a place.
 pub(crate) fn put(to: &Location, number: u32, s: &mut Running, m: &mut Memory)
-    ensures { Becomes (put_of to.now number (local_memory_of s.old m.old)) s.old s.new m.new }
+    ensures { BecomesLocalMemory (put_of to.now number (local_memory_of s.old m.old)) s.old s.new m.new }
 {
     // a place that a parameter was bound to exists
     match write(to, low(to.width, number), s, m) {
@@ -53,9 +53,9 @@ pub(crate) fn put(to: &Location, number: u32, s: &mut Running, m: &mut Memory)
 }
 
 // The number at a place to a place.
-#[tactic(auto, unfolding(crate::specs::Copies::copied))]
+#[tactic(auto, unfolding(crate::specs::Copies::number_copied))]
 fn copy(from: &Location, to: &Location, s: &mut Running, m: &mut Memory)
-    ensures { Becomes (copied from.now to.now (local_memory_of s.old m.old)) s.old s.new m.new }
+    ensures { BecomesLocalMemory (number_copied from.now to.now (local_memory_of s.old m.old)) s.old s.new m.new }
 {
     let number = number_at(from, &s.locals, m).unwrap_or(0);
     put(to, number, s, m);
@@ -63,7 +63,7 @@ fn copy(from: &Location, to: &Location, s: &mut Running, m: &mut Memory)
 
 #[tactic(auto, unfolding(crate::specs::Copies::passed_to))]
 fn passed_to(binding: Option<Binding>, to: &Location, s: &mut Running, m: &mut Memory)
-    ensures { Becomes (passed_to_of binding to.now (local_memory_of s.old m.old)) s.old s.new m.new }
+    ensures { BecomesLocalMemory (passed_to_of binding to.now (local_memory_of s.old m.old)) s.old s.new m.new }
 {
     match binding {
         Some(
@@ -87,7 +87,7 @@ fn passed_to(binding: Option<Binding>, to: &Location, s: &mut Running, m: &mut M
 
 #[tactic(auto, unfolding(crate::specs::Copies::given_to))]
 fn given_to(from: &Location, binding: Option<Binding>, s: &mut Running, m: &mut Memory)
-    ensures { Becomes (given_to_of from.now binding (local_memory_of s.old m.old)) s.old s.new m.new }
+    ensures { BecomesLocalMemory (given_to_of from.now binding (local_memory_of s.old m.old)) s.old s.new m.new }
 {
     match binding {
         Some(
@@ -109,7 +109,7 @@ fn given_to(from: &Location, binding: Option<Binding>, s: &mut Running, m: &mut 
 }
 
 fn param_in(param: &Param, binding: Option<Binding>, instance: u16, s: &mut Running, m: &mut Memory)
-    ensures { Becomes (param_in_of param.now binding instance (local_memory_of s.old m.old))
+    ensures { BecomesLocalMemory (param_in_of param.now binding instance (local_memory_of s.old m.old))
         s.old s.new m.new }
 {
     if comes_in(param) {
@@ -124,7 +124,7 @@ fn param_out(
     s: &mut Running,
     m: &mut Memory,
 )
-    ensures { Becomes (param_out_of param.now binding instance (local_memory_of s.old m.old))
+    ensures { BecomesLocalMemory (param_out_of param.now binding instance (local_memory_of s.old m.old))
         s.old s.new m.new }
 {
     if goes_out(param) {
@@ -141,7 +141,7 @@ pub(crate) fn params_in(
     m: &mut Memory,
 )
     requires { length params.now ≤ 60 }
-    ensures { Becomes (params_in_of params.now 0 bindings.now instance (local_memory_of s.old m.old))
+    ensures { BecomesLocalMemory (params_in_of params.now 0 bindings.now instance (local_memory_of s.old m.old))
         s.old s.new m.new }
 {
     let mut index = 0u8;
@@ -160,7 +160,7 @@ pub(crate) fn params_out(
     m: &mut Memory,
 )
     requires { length params.now ≤ 60 }
-    ensures { Becomes (params_out_of params.now 0 bindings.now instance (local_memory_of s.old m.old))
+    ensures { BecomesLocalMemory (params_out_of params.now 0 bindings.now instance (local_memory_of s.old m.old))
         s.old s.new m.new }
 {
     let mut index = 0u8;

@@ -1,9 +1,9 @@
 //! OPN, CDB, L DBLG, L DBNO, L DILG, L DINO.
 ghost use Rattle.std.specs.Prelude.{◌≡◌, ◌<◌};
-ghost use Rattle.frames.specs.FrameData.{inner_of};
+ghost use Rattle.frames.specs.FrameData.{frame_data_of};
 ghost use Rattle.machine.specs.ExecState.{local_of, with_local};
-ghost use Rattle.machine.specs.Outcomes.{Checks, Turns};
-ghost use Rattle.machine.specs.DataBlocks.{is_loaded as is_loaded_in, opened_if, opening, exchanged, number_opened as number_opened_of, len_opened as len_opened_of, open_block_fact as open_block_fact_of, loading_open_block};
+ghost use Rattle.machine.specs.Outcomes.{ChangesRunningRegs, ChangesLocal};
+ghost use Rattle.machine.specs.DataBlocks.{is_block_loaded as is_loaded_in, opened_if, block_opened_by, registers_exchanged, number_opened as number_opened_of, len_opened as len_opened_of, open_block_fact as open_block_fact_of, loading_open_block};
 
 use crate::loads::put_loaded;
 use crate::places::number_from;
@@ -21,7 +21,7 @@ pub(crate) fn is_loaded(number: u16, m: &Memory) -> bool
 
 // Opens a data block in the DB (1) or DI (2) register, if it is loaded.
 fn open_if_loaded(register: u8, number: u16, s: &mut Running, m: &Memory) -> Result<(), u8>
-    ensures { Turns (opened_if (is_loaded_in number m.now) register number (local_of s.old))
+    ensures { ChangesLocal (opened_if (is_loaded_in number m.now) register number (local_of s.old))
         s.old s.new result }
 {
     if !is_loaded(number, m) {
@@ -36,10 +36,10 @@ fn open_if_loaded(register: u8, number: u16, s: &mut Running, m: &Memory) -> Res
 }
 
 /// OPN.
-#[tactic(auto, unfolding(crate::specs::DataBlocks::opening))]
+#[tactic(auto, unfolding(crate::specs::DataBlocks::block_opened_by))]
 #[inline(never)]
 pub(crate) fn open(operand: &Operand, s: &mut Running, m: &Memory) -> Result<(), u8>
-    ensures { Turns (opening operand.now (local_of s.old) m.now) s.old s.new result }
+    ensures { ChangesLocal (block_opened_by operand.now (local_of s.old) m.now) s.old s.new result }
 {
     match *operand {
         Operand::OpenBlock { register, number } => open_if_loaded(register, number, s, m),
@@ -56,9 +56,9 @@ pub(crate) fn open(operand: &Operand, s: &mut Running, m: &Memory) -> Result<(),
 }
 
 /// CDB.
-#[tactic(auto, unfolding(crate::specs::DataBlocks::exchanged))]
+#[tactic(auto, unfolding(crate::specs::DataBlocks::registers_exchanged))]
 pub(crate) fn exchange(s: &mut Running)
-    ensures { s.new ≡ with_local s.old (exchanged (local_of s.old)) }
+    ensures { s.new ≡ with_local s.old (registers_exchanged (local_of s.old)) }
 {
     let db = s.frame.db;
     s.frame.db = s.frame.di;
@@ -88,7 +88,7 @@ fn len_opened(block: Option<u16>, m: &Memory) -> u32
 
 #[tactic(auto, unfolding(crate::specs::DataBlocks::open_block_fact))]
 fn open_block_fact(which: u32, f: &Frame, m: &Memory) -> u32
-    ensures { result ≡ open_block_fact_of which (inner_of f.now) m.now }
+    ensures { result ≡ open_block_fact_of which (frame_data_of f.now) m.now }
 {
     match which {
         0 => len_opened(f.db, m),
@@ -102,7 +102,7 @@ fn open_block_fact(which: u32, f: &Frame, m: &Memory) -> u32
 #[tactic(auto, unfolding(crate::specs::DataBlocks::loading_open_block))]
 #[inline(never)]
 pub(crate) fn load_open_block(operand: &Operand, s: &mut Running, m: &Memory) -> Result<(), u8>
-    ensures { Checks (loading_open_block operand.now (local_of s.old) m.now) s.old s.new result }
+    ensures { ChangesRunningRegs (loading_open_block operand.now (local_of s.old) m.now) s.old s.new result }
 {
     match *operand {
         Operand::Literal { value } => {

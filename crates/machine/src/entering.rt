@@ -1,7 +1,7 @@
 //! CALL, UC and CC of a function or function block.
 ghost use Rattle.std.specs.Prelude.{◌≡◌, ◌<◌, ◌≤◌, length, None};
-ghost use Rattle.frames.specs.Activations.{entered, refused, frames_of};
-ghost use Rattle.machine.specs.Entering.{at_block as at_block_of, di_of as di_of_instance, fresh as fresh_of, caller_at, supplied, entered_if, Enters, Calls};
+ghost use Rattle.frames.specs.Activations.{block_entered, entry_fault, frames_of};
+ghost use Rattle.machine.specs.Entering.{at_block as at_block_of, di_of as di_of_instance, fresh as fresh_of, caller_at, instance_supplied, entered_if, Enters, LeavesCall};
 
 use crate::copies::params_in;
 use flat_code::Param;
@@ -21,7 +21,7 @@ pub(crate) struct Callee<'a> {
 }
 
 impl<'a> Model for Callee<'a> {
-    ghost use Rattle.machine.specs.Entering.{Callee as CalleeData};
+    ghost use Rattle.machine.specs.Entering.{CalledBlock as CalleeData};
 
     ghost Value = { CalleeData };
 
@@ -71,8 +71,8 @@ fn begin(called: &Callee<'_>, bindings: &Bindings, frame: &mut Frame)
 fn enter(called: &Callee<'_>, bindings: &Bindings, next: u32, a: &mut Activation)
     requires depth { length a.old.running.locals.starts ≡ length (frames_of a.old) }
     requires few { length (frames_of a.old) < 24 }
-    requires room { refused called.now.local_len a.old ≡ None }
-    ensures { a.new ≡ entered (fresh_of called.now bindings.now a.old.running.frame)
+    requires room { entry_fault called.now.local_len a.old ≡ None }
+    ensures { a.new ≡ block_entered (fresh_of called.now bindings.now a.old.running.frame)
         (caller_at next a.old) }
 {
     at_block(&mut a.running.regs);
@@ -91,7 +91,7 @@ fn supply(
 )
     requires few { length params.now ≤ 60 }
     requires bound { a.old.running.frame.bindings ≡ bindings.now }
-    ensures { supplied instance params.now a.old m.old ≡ Enters a.new m.new }
+    ensures { instance_supplied instance params.now a.old m.old ≡ Enters a.new m.new }
 {
     match instance {
         None => {}
@@ -109,7 +109,7 @@ pub(crate) fn enter_if_room(
 ) -> Result<(), FrameFault>
     requires depth { length a.old.running.locals.starts ≡ length (frames_of a.old) }
     requires params { length called.now.params ≤ 60 }
-    ensures { Calls (entered_if (refused called.now.local_len a.old) called.now bindings.now next
+    ensures { LeavesCall (entered_if (entry_fault called.now.local_len a.old) called.now bindings.now next
         a.old m.old) a.old a.new m.old m.new result }
 {
     if let Some(fault) = a.refuses(called.local_len) {

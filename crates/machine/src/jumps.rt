@@ -1,6 +1,6 @@
 //! Jumps: whether one is taken, and what it leaves of the registers.
 ghost use Rattle.std.specs.Prelude.{◌≡◌};
-ghost use Rattle.machine.specs.Jumps.{counted_down, is_taken as is_taken_of, after_jump as after_jump_of, rlo_tested, rlo_saved, br_tested, goes_to as goes_to_of};
+ghost use Rattle.machine.specs.Jumps.{counted_down, is_jump_taken as is_taken_of, regs_after_jump as after_jump_of, rlo_tested, rlo_saved, br_tested, jump_goal as goes_to_of};
 
 use flat_code::JumpOperation;
 use plc_base::Flag;
@@ -12,7 +12,7 @@ fn count_down(r: &mut Regs)
     alu::add_const(r, 0xFFFF);
 }
 
-#[tactic(auto, unfolding(crate::specs::Jumps::is_taken))]
+#[tactic(auto, unfolding(crate::specs::Jumps::is_jump_taken))]
 fn still_counts(r: &Regs) -> bool
     ensures { result ≡ is_taken_of JumpOperation.Loop r.now }
 {
@@ -22,7 +22,7 @@ fn still_counts(r: &Regs) -> bool
 }
 
 /// Whether a jump is taken, by the registers before it.
-#[tactic(auto, unfolding(crate::specs::Jumps::is_taken))]
+#[tactic(auto, unfolding(crate::specs::Jumps::is_jump_taken))]
 #[inline(never)]
 pub(crate) fn is_taken(operation: JumpOperation, r: &Regs) -> bool
     ensures { result ≡ is_taken_of operation r.now }
@@ -72,7 +72,7 @@ fn test_br(r: &mut Regs)
 }
 
 /// What a jump leaves of the registers, taken or not.
-#[tactic(auto, unfolding(crate::specs::Jumps::after_jump))]
+#[tactic(auto, unfolding(crate::specs::Jumps::regs_after_jump))]
 #[inline(never)]
 pub(crate) fn put_jump(operation: JumpOperation, r: &mut Regs)
     ensures { r.new ≡ after_jump_of operation r.old }

@@ -5,22 +5,22 @@ ghost use Rattle.plc_base.specs.declared.places.Place.{Place};
 ghost use Rattle.plc_base.specs.declared.profiles.Profile.{Profile};
 ghost use Rattle.plc_base.specs.declared.places.Width.{Width};
 ghost use Rattle.plc_mem.specs.Areas.{Areas};
-ghost use Rattle.plc_mem.specs.Fresh.{fresh};
+ghost use Rattle.plc_mem.specs.Fresh.{initial_memory};
 ghost use Rattle.plc_mem.specs.Peripherals.{with_input, outputs_cleared};
-ghost use Rattle.plc_mem.specs.Refresh.{refreshed};
-ghost use Rattle.plc_mem.specs.Writing.{written};
+ghost use Rattle.plc_mem.specs.Refresh.{memory_refreshed};
+ghost use Rattle.plc_mem.specs.Writing.{number_written};
 ghost use Rattle.status_word.specs.declared.registers.Regs.{Regs};
-ghost use Rattle.frames.specs.Activations.{begun, with_local_byte};
+ghost use Rattle.frames.specs.Activations.{activation_begun, with_local_byte};
 ghost use Rattle.frames.specs.declared.activation.Activation.{Activation};
 ghost use Rattle.frames.specs.declared.bindings.Binding.{Binding};
 ghost use Rattle.flat_code.specs.Programs.{Program};
 ghost use Rattle.flat_code.specs.Loading.{Verifies};
 ghost use Rattle.machine.specs.declared.outcomes.Outcome.{Outcome};
-ghost use Rattle.machine.specs.Code.{Code, Head};
+ghost use Rattle.machine.specs.Code.{Code, BlockHead};
 ghost use Rattle.machine.specs.Fitting.{SameSizes, IsMemoryOf};
 ghost use Rattle.machine.specs.Flat.{code_of};
 ghost use Rattle.machine.specs.ImageLaws.{ImageLaws};
-ghost use Rattle.machine.specs.Lasting.{FitsProgram, GoesOn, IsReady, Lasts, LeavesFit, first_frame, ob_block};
+ghost use Rattle.machine.specs.Lasting.{FitsProgram, GoesOnFitting, IsStatementReady, Lasts, LeavesFit, first_frame, ob_block};
 ghost use Rattle.machine.specs.Results.{GivesResult};
 ghost use Rattle.machine.specs.Statement.{World, step_found, statement, IsNotStuck, IsOutcomeOf};
 ghost use Rattle.machine.specs.Moved.{StatementsMove};
@@ -55,7 +55,7 @@ fn what_verifying_gives()
 /// Of a program that verifies an activation that fits is ready: `statement` may be called.
 pub fn what_fits_goes()
     ensures { (p : Program) (m : Areas) (a : Activation)
-        → Verifies p → FitsProgram p m a → IsReady p a }
+        → Verifies p → FitsProgram p m a → IsStatementReady p a }
 {
     what_verifying_gives();
 }
@@ -82,14 +82,14 @@ pub fn what_fits_stays()
 /// Of a program that verifies an organization block begins with an activation that fits, and has
 /// room for its start information in its first 20 local bytes.
 pub fn blocks_begin()
-    ensures fits { (f : Profile) (p : Program) (m : Areas) (class ob : ℕ) (h : Head)
+    ensures fits { (f : Profile) (p : Program) (m : Areas) (class ob : ℕ) (h : BlockHead)
         → Verifies p → IsMemoryOf (code_of p) m → (code_of p).head (ob_block ob) ≡ Some h
-        → FitsProgram p m (begun f class ob (first_frame ob h.local_len)) }
-    ensures room { (p : Program) (ob : ℕ) (h : Head)
+        → FitsProgram p m (activation_begun f class ob (first_frame ob h.local_len)) }
+    ensures room { (p : Program) (ob : ℕ) (h : BlockHead)
         → Verifies p → (code_of p).head (ob_block ob) ≡ Some h → h.local_len ≤ 1024 }
-    ensures start { (f : Profile) (p : Program) (class ob byte value : ℕ) (h : Head)
+    ensures start { (f : Profile) (p : Program) (class ob byte value : ℕ) (h : BlockHead)
         → Verifies p → (code_of p).head (ob_block ob) ≡ Some h → byte < 20
-        → IsSome (with_local_byte 0 byte value (begun f class ob (first_frame ob h.local_len))) }
+        → IsSome (with_local_byte 0 byte value (activation_begun f class ob (first_frame ob h.local_len))) }
 {
     what_verifying_gives();
 }
@@ -108,7 +108,7 @@ pub fn what_fits_may_change()
 /// After RET_VAL was given an activation fits as before.
 pub fn results_fit()
     ensures { (p : Program) (m n : Areas) (a b : Activation) (to : Binding) (value : ℕ)
-        → Verifies p → FitsProgram p m a → GivesResult to value a b m n → GoesOn p m n b }
+        → Verifies p → FitsProgram p m a → GivesResult to value a b m n → GoesOnFitting p m n b }
 {
     what_verifying_gives();
 }
@@ -116,15 +116,15 @@ pub fn results_fit()
 /// Memory begins as one of the program, and no call of it changes a size.
 pub fn memory_is_kept()
     ensures begins { (f : Profile) (p : Program)
-        → IsMemoryOf (code_of p) (fresh f (code_of p).blocks) }
+        → IsMemoryOf (code_of p) (initial_memory f (code_of p).blocks) }
     ensures writes { (m n : Areas) (place : Place) (width : Width) (value : ℕ)
-        → written m place width value ≡ Some n → SameSizes m n }
+        → number_written m place width value ≡ Some n → SameSizes m n }
     ensures inputs { (m n : Areas) (byte value : ℕ)
         → with_input m byte value ≡ Some n → SameSizes m n }
     ensures clears { (p : Program) (m : Areas)
         → IsMemoryOf (code_of p) m → SameSizes m (outputs_cleared m) }
     ensures refreshes { (p : Program) (m : Areas)
-        → IsMemoryOf (code_of p) m → SameSizes m (refreshed m) }
+        → IsMemoryOf (code_of p) m → SameSizes m (memory_refreshed m) }
 {}
 
 /// In a code that follows another a statement does the same, at the position there: only positions

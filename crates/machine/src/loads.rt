@@ -2,8 +2,8 @@
 ghost use Rattle.std.specs.Prelude.{◌≡◌, ◌<◌, ◌^◌, ◌%◌};
 ghost use Rattle.plc_base.specs.Widths.{bit_count};
 ghost use Rattle.machine.specs.ExecState.{local_of};
-ghost use Rattle.machine.specs.Outcomes.{Acts, Checks};
-ghost use Rattle.machine.specs.Loads.{loading, loading_bcd, transferred, transferring, with_loaded as with_loaded_of, status_loaded, status_transferred};
+ghost use Rattle.machine.specs.Outcomes.{ChangesLocalMemory, ChangesRunningRegs};
+ghost use Rattle.machine.specs.Loads.{loading, loading_bcd, number_transferred, transferring, with_accu_loaded as with_loaded_of, status_loaded, status_transferred};
 
 use crate::places::{Access, located, placed};
 use crate::values::{bcd_loaded, loaded, write};
@@ -32,7 +32,7 @@ pub(crate) fn load(
     t: &Timers,
     n: &Counters,
 ) -> Result<(), u8>
-    ensures { Checks (loading operand.now (local_of s.old) m.now t.now n.now) s.old s.new result }
+    ensures { ChangesRunningRegs (loading operand.now (local_of s.old) m.now t.now n.now) s.old s.new result }
 {
     let number = loaded(operand, s, m, t, n)?;
     put_loaded(&mut s.regs, number);
@@ -49,7 +49,7 @@ pub(crate) fn load_bcd(
     t: &Timers,
     n: &Counters,
 ) -> Result<(), u8>
-    ensures { Checks (loading_bcd operand.now (local_of s.old) m.now t.now n.now)
+    ensures { ChangesRunningRegs (loading_bcd operand.now (local_of s.old) m.now t.now n.now)
         s.old s.new result }
 {
     let number = bcd_loaded(operand, s, m, t, n)?;
@@ -71,7 +71,7 @@ pub(crate) fn low(width: Width, number: u32) -> u32
 }
 
 /// The lowest bits of a number to the place of an operand.
-#[tactic(auto, unfolding(crate::specs::Loads::transferred))]
+#[tactic(auto, unfolding(crate::specs::Loads::number_transferred))]
 #[inline(never)]
 pub(crate) fn put_number(
     number: u32,
@@ -79,7 +79,7 @@ pub(crate) fn put_number(
     s: &mut Running,
     m: &mut Memory,
 ) -> Result<(), u8>
-    ensures { Acts (transferred number operand.now (local_of s.old) m.old)
+    ensures { ChangesLocalMemory (number_transferred number operand.now (local_of s.old) m.old)
         s.old s.new m.old m.new result }
 {
     let at = located(Access::Writing, operand, s, m)?;
@@ -87,7 +87,7 @@ pub(crate) fn put_number(
 }
 
 // The lowest bits of a number to a fixed place.
-#[tactic(auto, unfolding(crate::specs::Loads::transferred, crate::specs::Places::located))]
+#[tactic(auto, unfolding(crate::specs::Loads::number_transferred, crate::specs::Places::operand_location))]
 #[inline(always)]
 fn put_direct(
     number: u32,
@@ -98,7 +98,7 @@ fn put_direct(
     s: &mut Running,
     m: &mut Memory,
 ) -> Result<(), u8>
-    ensures { Acts (transferred number (Operand.Direct area width byte bit) (local_of s.old) m.old)
+    ensures { ChangesLocalMemory (number_transferred number (Operand.Direct area width byte bit) (local_of s.old) m.old)
         s.old s.new m.old m.new result }
 {
     let at = placed(Access::Writing, area, byte, bit, width, s)?;
@@ -108,7 +108,7 @@ fn put_direct(
 /// T: accumulator 1, or 0 while the relay is closed.
 #[inline(always)]
 pub(crate) fn transfer(operand: &Operand, s: &mut Running, m: &mut Memory) -> Result<(), u8>
-    ensures { Acts (transferring operand.now (local_of s.old) m.old)
+    ensures { ChangesLocalMemory (transferring operand.now (local_of s.old) m.old)
         s.old s.new m.old m.new result }
 {
     let number = if s.frame.relay.is_closed() {

@@ -1,6 +1,6 @@
 //! A( to XN( and ).
 ghost use Rattle.machine.specs.ExecState.{local_of};
-ghost use Rattle.machine.specs.Outcomes.{Turns};
+ghost use Rattle.machine.specs.Outcomes.{ChangesLocal};
 ghost use Rattle.machine.specs.Nesting.{nesting, unnesting};
 
 use frames::Running;
@@ -10,7 +10,7 @@ use plc_base::Check;
 #[tactic(auto, unfolding(crate::specs::Nesting::nesting))]
 #[inline(never)]
 pub(crate) fn nest(with: Check, s: &mut Running) -> Result<(), u8>
-    ensures { Turns (nesting with (local_of s.old)) s.old s.new result }
+    ensures { ChangesLocal (nesting with (local_of s.old)) s.old s.new result }
 {
     if s.frame.brackets.begin(&mut s.regs, with) {
         Ok(())
@@ -23,7 +23,7 @@ pub(crate) fn nest(with: Check, s: &mut Running) -> Result<(), u8>
 #[tactic(auto, unfolding(crate::specs::Nesting::unnesting))]
 #[inline(never)]
 pub(crate) fn unnest(s: &mut Running) -> Result<(), u8>
-    ensures { Turns (unnesting (local_of s.old)) s.old s.new result }
+    ensures { ChangesLocal (unnesting (local_of s.old)) s.old s.new result }
 {
     if s.frame.brackets.close(&mut s.regs) {
         Ok(())

@@ -1,17 +1,17 @@
 //! Instructions on the accumulators.
 ghost use Rattle.std.specs.Prelude.{◌≡◌, ◌<◌, ◌^◌, ◌%◌, Ok, Err};
-ghost use Rattle.machine.specs.Outcomes.{Changes};
-ghost use Rattle.machine.specs.Numbers.{counted, constant, literal as literal_of, with_constant, combined, shifted};
+ghost use Rattle.machine.specs.Outcomes.{ChangesRegs};
+ghost use Rattle.machine.specs.Numbers.{number_effect, constant_in, constant_or_zero as literal_of, with_constant, word_logic_effect, shift_effect};
 
 use flat_code::{Adding, Logic, Number, Operand, Shift};
 use plc_base::error_codes;
 use status_word::Regs;
 
 /// An instruction on the accumulators without operand.
-#[tactic(auto, unfolding(crate::specs::Numbers::counted))]
+#[tactic(auto, unfolding(crate::specs::Numbers::number_effect))]
 #[inline(never)]
 pub(crate) fn number(what: Number, r: &mut Regs) -> Result<(), u8>
-    ensures { Changes (counted what r.old) r.old r.new result }
+    ensures { ChangesRegs (number_effect what r.old) r.old r.new result }
 {
     match what {
         Number::Tak => {
@@ -118,7 +118,7 @@ pub(crate) fn number(what: Number, r: &mut Regs) -> Result<(), u8>
 }
 
 fn constant8(operand: &Operand) -> Option<u8>
-    ensures { result ≡ constant 8 operand.now }
+    ensures { result ≡ constant_in 8 operand.now }
 {
     match *operand {
         Operand::Literal { value } => Some((value % 0x100) as u8),
@@ -127,7 +127,7 @@ fn constant8(operand: &Operand) -> Option<u8>
 }
 
 fn constant16(operand: &Operand) -> Option<u16>
-    ensures { result ≡ constant 16 operand.now }
+    ensures { result ≡ constant_in 16 operand.now }
 {
     match *operand {
         Operand::Literal { value } => Some((value % 0x1_0000) as u16),
@@ -142,7 +142,7 @@ fn whole(value: u32) -> u32
 }
 
 fn constant32(operand: &Operand) -> Option<u32>
-    ensures { result ≡ constant 32 operand.now }
+    ensures { result ≡ constant_in 32 operand.now }
 {
     match *operand {
         Operand::Literal { value } => Some(whole(value)),
@@ -192,10 +192,10 @@ pub(crate) fn add(what: Adding, operand: &Operand, r: &mut Regs)
 }
 
 /// AW, OW, XOW, AD, OD, XOD.
-#[tactic(auto, unfolding(crate::specs::Numbers::combined))]
+#[tactic(auto, unfolding(crate::specs::Numbers::word_logic_effect))]
 #[inline(never)]
 pub(crate) fn combine(what: Logic, operand: &Operand, r: &mut Regs)
-    ensures { r.new ≡ combined what operand.now r.old }
+    ensures { r.new ≡ word_logic_effect what operand.now r.old }
 {
     match what {
         Logic::Aw => alu::and_w(r, constant16(operand)),
@@ -208,10 +208,10 @@ pub(crate) fn combine(what: Logic, operand: &Operand, r: &mut Regs)
 }
 
 /// SSI to RRD.
-#[tactic(auto, unfolding(crate::specs::Numbers::shifted))]
+#[tactic(auto, unfolding(crate::specs::Numbers::shift_effect))]
 #[inline(never)]
 pub(crate) fn shift(what: Shift, operand: &Operand, r: &mut Regs)
-    ensures { r.new ≡ shifted what operand.now r.old }
+    ensures { r.new ≡ shift_effect what operand.now r.old }
 {
     match what {
         Shift::Ssi => alu::ssi(r, constant8(operand)),

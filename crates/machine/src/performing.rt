@@ -11,11 +11,11 @@ ghost use Rattle.flat_code.specs.Instr.{Calls, Returns};
 ghost use Rattle.machine.specs.Code.{Code};
 ghost use Rattle.machine.specs.Effect.{effect_with as does_with_of};
 ghost use Rattle.machine.specs.Entering.{call as call_of, called_with, going_on};
-ghost use Rattle.machine.specs.Flat.{code_of, jump_instr, is_jl as is_jl_of, instance_named as instance_named_of, instr_of, head_of};
-ghost use Rattle.machine.specs.Jumps.{after_jump, goes_to as goes_to_of, is_taken as is_taken_of, rlo_tested};
+ghost use Rattle.machine.specs.Flat.{code_of, jump_by_operation, is_jl as is_jl_of, instance_named as instance_named_of, instr_of, block_head_of};
+ghost use Rattle.machine.specs.Jumps.{regs_after_jump, jump_goal as goes_to_of, is_jump_taken as is_taken_of, rlo_tested};
 ghost use Rattle.machine.specs.ExecState.{local_of, exec_state_of};
-ghost use Rattle.machine.specs.Returning.{returning};
-ghost use Rattle.machine.specs.Statement.{World, world, continue_with, returned, after_call, after_return, after_system_call, callee_of, cause_of as cause_of_fault, step_of, called, block_called, system_called, is_called as is_called_of, is_ended as is_ended_of, not_called, IsOutcomeOf, IsPerformed};
+ghost use Rattle.machine.specs.Returning.{block_return};
+ghost use Rattle.machine.specs.Statement.{World, world, continue_with, return_made, call_step, after_return, after_system_call, called_block, cause_of as cause_of_fault, step_of, call_made, block_called, system_call_made, is_call_made as is_called_of, is_ended as is_ended_of, not_called, IsOutcomeOf, IsPerformed};
 ghost use Rattle.machine.specs.SystemCalls.{system_function as system_function_of, system_call, count_inputs, given_now};
 ghost use Rattle.machine.specs.Walking.{passings_at};
 ghost use Rattle.machine.specs.declared.outcomes.Outcome.{Outcome as OutcomeOf};
@@ -96,7 +96,7 @@ pub(crate) fn is_jl(operation: JumpOperation) -> bool
 // A jump, JL apart.
 fn jump_to(operation: JumpOperation, target: u32, next: u32, a: &mut Activation)
     ensures { a.new ≡ going_on (goes_to_of (is_taken_of operation a.old.running.regs) target next)
-        (after_jump operation a.old.running.regs) a.old }
+        (regs_after_jump operation a.old.running.regs) a.old }
 {
     let taken = is_taken(operation, &a.running.regs);
     put_jump(operation, &mut a.running.regs);
@@ -107,7 +107,7 @@ fn jump_to(operation: JumpOperation, target: u32, next: u32, a: &mut Activation)
 #[inline(never)]
 fn jump(code: &LoadedCode<'_>, operation: JumpOperation, target: u32, next: u32, a: &mut Activation)
     ensures { (c : Code) (w : World) (other : OutcomeOf) →
-        IsPerformed (step_of c (jump_instr operation target next code.now.code) next a.old w) next
+        IsPerformed (step_of c (jump_by_operation operation target next code.now.code) next a.old w) next
         a.old a.new w w true other }
 {
     if is_jl(operation) {
@@ -181,7 +181,7 @@ fn call_block(
     requires depth { length a.old.running.locals.starts ≡ length (frames_of a.old) }
     requires params { length called.now.params ≤ 60 }
     ensures { (t : List Timer) (n : List Counter) →
-        IsPerformed (after_call (called_with (Ok bindings.now) called.now next a.old m.old) next a.old
+        IsPerformed (call_step (called_with (Ok bindings.now) called.now next a.old m.old) next a.old
         (world m.old t n)) next a.old a.new (world m.old t n) (world m.new t n) result other.new }
 {
     match enter_if_room(called, bindings, next, a, m) {
@@ -209,7 +209,7 @@ fn call_with(
     requires depth { length a.old.running.locals.starts ≡ length (frames_of a.old) }
     requires params { length called.now.params ≤ 60 }
     ensures { (t : List Timer) (n : List Counter) →
-        IsPerformed (after_call (call_of called.now (passings_at code.now.code at) next a.old m.old) next
+        IsPerformed (call_step (call_of called.now (passings_at code.now.code at) next a.old m.old) next
         a.old (world m.old t n)) next a.old a.new (world m.old t n) (world m.new t n) result other.new }
 {
     match bind_all(code, at, called.params, &a.running, m, spare) {
@@ -236,7 +236,7 @@ fn call_loaded(
 ) -> bool
     requires depth { length a.old.running.locals.starts ≡ length (frames_of a.old) }
     ensures { (t : List Timer) (n : List Counter) →
-        IsPerformed (after_call (call_of (callee_of block instance (head_of callee.now))
+        IsPerformed (call_step (call_of (called_block block instance (block_head_of callee.now))
         (passings_at code.now.code at) next a.old m.old) next a.old (world m.old t n)) next
         a.old a.new (world m.old t n) (world m.new t n) result other.new }
 {
@@ -336,7 +336,7 @@ fn call_function(
     other: &mut Outcome,
 )
     ensures { (t : List Timer) (n : List Counter) →
-        IsPerformed (system_called (system_function_of number) number (passings_at code.now.code at)
+        IsPerformed (system_call_made (system_function_of number) number (passings_at code.now.code at)
         next a.old (world m.now t n)) next a.old a.new (world m.now t n) (world m.now t n)
         false other.new }
 {
@@ -371,7 +371,7 @@ fn call_any(
 ) -> bool
     requires depth { length a.old.running.locals.starts ≡ length (frames_of a.old) }
     ensures { (t : List Timer) (n : List Counter) →
-        IsPerformed (called (code_of c.now.program) block instance (passings_at code.now.code at) next
+        IsPerformed (call_made (code_of c.now.program) block instance (passings_at code.now.code at) next
         a.old (world m.old t n)) next a.old a.new (world m.old t n) (world m.new t n)
         result other.new }
 {
@@ -422,7 +422,7 @@ fn end_loaded(
 ) -> bool
     requires stands { a.old.left ≡ false }
     ensures { (next : ℕ) (t : List Timer) (n : List Counter) →
-        IsPerformed (returned (Some (head_of code.now)) a.old (world m.old t n)) next
+        IsPerformed (return_made (Some (block_head_of code.now)) a.old (world m.old t n)) next
         a.old a.new (world m.old t n) (world m.new t n) result other.new }
 {
     if return_from_block(code.params(), a, m) {
@@ -437,7 +437,7 @@ fn end_loaded(
 fn end_any(c: &Loaded, a: &mut Activation, m: &mut Memory, other: &mut Outcome) -> bool
     requires stands { a.old.left ≡ false }
     ensures { (next : ℕ) (t : List Timer) (n : List Counter) →
-        IsPerformed (returned ((code_of c.now.program).head a.old.running.frame.block) a.old
+        IsPerformed (return_made ((code_of c.now.program).head a.old.running.frame.block) a.old
         (world m.old t n)) next a.old a.new (world m.old t n) (world m.new t n) result other.new }
 {
     match c.block(a.running.frame.block) {

@@ -2,7 +2,7 @@
 ghost use Rattle.std.specs.Prelude.{◌≡◌, ◌<◌, ◌^◌, Some, IfOk, IfSome};
 ghost use Rattle.plc_base.specs.Widths.{bit_count};
 ghost use Rattle.machine.specs.ExecState.{local_of};
-ghost use Rattle.machine.specs.Places.{error_of, innermost as innermost_of, in_register as in_register_of, in_area as in_area_of, absent as absent_of, number_in, read as read_of, direct as direct_of, pointer as pointer_of, is_aligned as is_aligned_of, at_pointer as at_pointer_of, by_pointer as by_pointer_of, in_named as in_named_of, placed as placed_of, by_crossing as by_crossing_of, moved as moved_of, address as address_of, by_register as by_register_of, of_binding as of_binding_of, located as located_of};
+ghost use Rattle.machine.specs.Places.{error_of, innermost as innermost_of, open_block_location as in_register_of, open_area_location as in_area_of, absent as absent_of, location_number, read as read_of, direct_number as direct_of, pointer_number as pointer_of, is_aligned as is_aligned_of, at_pointer as at_pointer_of, by_pointer as by_pointer_of, in_named as in_named_of, area_location as placed_of, by_crossing as by_crossing_of, address_moved_by as moved_of, register_address as address_of, register_location as by_register_of, of_binding as of_binding_of, operand_location as located_of};
 
 use flat_code::Operand;
 use frames::{Binding, Locals, Running};
@@ -82,7 +82,7 @@ fn innermost(s: &Running) -> u8
 }
 
 /// The place in an area.
-#[tactic(auto, unfolding(crate::specs::Places::in_area))]
+#[tactic(auto, unfolding(crate::specs::Places::open_area_location))]
 #[inline(always)]
 pub(crate) fn in_area(
     area: Area,
@@ -141,7 +141,7 @@ pub(crate) fn placed(
 /// The number at a place, if each of its bits exists.
 #[inline(always)]
 pub(crate) fn number_at(at: &Location, locals: &Locals, m: &Memory) -> Option<u32>
-    ensures value { result ≡ number_in at.now locals.now m.now }
+    ensures value { result ≡ location_number at.now locals.now m.now }
     ensures fits { IfSome result (λ n. n < 2 ^ bit_count at.now.width) }
 {
     match at.place.area {
@@ -165,7 +165,7 @@ pub(crate) fn read(at: &Location, s: &Running, m: &Memory) -> Result<u32, u8>
 
 /// The number at a place of an area.
 #[inline(never)]
-#[tactic(auto, unfolding(crate::specs::Places::direct, crate::specs::Places::in_area))]
+#[tactic(auto, unfolding(crate::specs::Places::direct_number, crate::specs::Places::open_area_location))]
 pub(crate) fn direct(
     area: Area,
     byte: u16,
@@ -308,7 +308,7 @@ fn of_binding(binding: Option<Binding>) -> Result<Location, u8>
 }
 
 /// The place of an operand that is to be read or written.
-#[tactic(auto, unfolding(crate::specs::Places::located))]
+#[tactic(auto, unfolding(crate::specs::Places::operand_location))]
 #[inline(never)]
 pub(crate) fn located(
     access: Access,

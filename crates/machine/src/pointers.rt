@@ -1,8 +1,8 @@
 //! LAR1, LAR2, TAR1, TAR2, CAR, +AR1, +AR2.
 ghost use Rattle.std.specs.Prelude.{◌≡◌, ◌<◌, ◌^◌};
 ghost use Rattle.machine.specs.ExecState.{local_of};
-ghost use Rattle.machine.specs.Outcomes.{Acts};
-ghost use Rattle.machine.specs.Pointers.{address_loaded, address_transferred, offset_added as offset_added_of, address_after as address_after_of, pointed, sign_extended as sign_extended_of};
+ghost use Rattle.machine.specs.Outcomes.{ChangesLocalMemory};
+ghost use Rattle.machine.specs.Pointers.{address_loaded, address_transferred, offset_added as offset_added_of, address_added as address_after_of, pointer_effect, sign_extended as sign_extended_of};
 
 use crate::loads::{put_loaded, put_number};
 use crate::values::number;
@@ -26,7 +26,7 @@ fn transfer_address(
     s: &mut Running,
     m: &mut Memory,
 ) -> Result<(), u8>
-    ensures { Acts (address_transferred address operand.now (local_of s.old) m.old)
+    ensures { ChangesLocalMemory (address_transferred address operand.now (local_of s.old) m.old)
         s.old s.new m.old m.new result }
 {
     match *operand {
@@ -59,7 +59,7 @@ fn sign_extended(word: u32) -> u32
     }
 }
 
-#[tactic(auto, unfolding(crate::specs::Pointers::address_after, alu::specs::Accumulators::with_low))]
+#[tactic(auto, unfolding(crate::specs::Pointers::address_added, alu::specs::Accumulators::with_low))]
 fn address_after(address: u32, offset: u32) -> u32
     ensures { result ≡ address_after_of address offset }
 {
@@ -68,7 +68,7 @@ fn address_after(address: u32, offset: u32) -> u32
 }
 
 /// An instruction on the address registers.
-#[tactic(auto, unfolding(crate::specs::Pointers::pointed))]
+#[tactic(auto, unfolding(crate::specs::Pointers::pointer_effect))]
 #[inline(never)]
 pub(crate) fn point(
     what: PointerOperation,
@@ -76,7 +76,7 @@ pub(crate) fn point(
     s: &mut Running,
     m: &mut Memory,
 ) -> Result<(), u8>
-    ensures { Acts (pointed what operand.now (local_of s.old) m.old) s.old s.new m.old m.new result }
+    ensures { ChangesLocalMemory (pointer_effect what operand.now (local_of s.old) m.old) s.old s.new m.old m.new result }
 {
     match what {
         PointerOperation::Lar1 => {

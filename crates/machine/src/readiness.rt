@@ -3,7 +3,7 @@ ghost use Rattle.std.specs.Prelude.{◌≡◌, true, false, length, List, ℕ, O
 ghost use Rattle.frames.specs.Activations.{frames_of};
 ghost use Rattle.flat_code.specs.Instr.{Passing};
 ghost use Rattle.flat_code.specs.Ops.{OpData};
-ghost use Rattle.machine.specs.Flat.{code_of, head_of, instr_of, statement_at};
+ghost use Rattle.machine.specs.Flat.{code_of, block_head_of, instr_of, statement_fetched};
 ghost use Rattle.machine.specs.Statement.{World, statement as statement_of, IsNotStuck};
 ghost use Rattle.machine.specs.There.{is_callee as is_callee_of, is_there, is_complete, is_ready as is_ready_of};
 ghost use Rattle.flat_code.specs.Placed.{line_placed};
@@ -63,8 +63,8 @@ fn has_line(code: &LoadedCode<'_>, at: u32) -> bool
 
 // Whether a statement begins at an offset of a block, with what it needs.
 fn is_complete_at(c: &Loaded, code: &LoadedCode<'_>, own: BlockId, at: u32) -> bool
-    requires { (code_of c.now.program).head own ≡ Some (head_of code.now) }
-    ensures { result ≡ is_complete (code_of c.now.program) (statement_at code.now at) own }
+    requires { (code_of c.now.program).head own ≡ Some (block_head_of code.now) }
+    ensures { result ≡ is_complete (code_of c.now.program) (statement_fetched code.now at) own }
 {
     if !has_line(code, at) {
         return false;

@@ -1,8 +1,8 @@
 //! The master control relay: MCRA, MCRD, MCR( and )MCR.
 ghost use Rattle.std.specs.Prelude.{◌≡◌};
 ghost use Rattle.machine.specs.ExecState.{local_of};
-ghost use Rattle.machine.specs.Outcomes.{Turns};
-ghost use Rattle.machine.specs.Relay.{opening_zone, ending_zone, power_flow as power_flow_of, relayed};
+ghost use Rattle.machine.specs.Outcomes.{ChangesLocal};
+ghost use Rattle.machine.specs.Relay.{opening_zone, ending_zone, power_flow as power_flow_of, relay_effect};
 
 use flat_code::RelayOperation;
 use frames::Running;
@@ -18,7 +18,7 @@ pub(crate) fn power_flow(s: &Running) -> bool
 // MCR(. The status bits change once the zone is open.
 #[tactic(auto, unfolding(crate::specs::Relay::opening_zone))]
 fn open_zone(s: &mut Running) -> Result<(), u8>
-    ensures { Turns (opening_zone (local_of s.old)) s.old s.new result }
+    ensures { ChangesLocal (opening_zone (local_of s.old)) s.old s.new result }
 {
     if !s.frame.relay.open(s.regs.status.rlo) {
         return Err(0);
@@ -30,7 +30,7 @@ fn open_zone(s: &mut Running) -> Result<(), u8>
 // )MCR.
 #[tactic(auto, unfolding(crate::specs::Relay::ending_zone))]
 fn end_zone(s: &mut Running) -> Result<(), u8>
-    ensures { Turns (ending_zone (local_of s.old)) s.old s.new result }
+    ensures { ChangesLocal (ending_zone (local_of s.old)) s.old s.new result }
 {
     if !s.frame.relay.end() {
         return Err(0);
@@ -42,7 +42,7 @@ fn end_zone(s: &mut Running) -> Result<(), u8>
 /// An instruction on the relay of the innermost frame.
 #[inline(never)]
 pub(crate) fn relay(which: RelayOperation, s: &mut Running) -> Result<(), u8>
-    ensures { Turns (relayed which (local_of s.old)) s.old s.new result }
+    ensures { ChangesLocal (relay_effect which (local_of s.old)) s.old s.new result }
 {
     match which {
         RelayOperation::Activate => {

@@ -1,6 +1,6 @@
 //! BE, BEU and BEC: the return from a block.
 ghost use Rattle.std.specs.Prelude.{◌≡◌, ◌≤◌, length, false};
-ghost use Rattle.machine.specs.Returning.{given_back, returning, Returns, Left};
+ghost use Rattle.machine.specs.Returning.{given_back, block_return, Returns, Left};
 
 use crate::copies::params_out;
 use crate::entering::at_block;
@@ -33,11 +33,11 @@ fn leave(a: &mut Activation) -> bool
 }
 
 /// Returns from the innermost block; the answer says whether the caller goes on.
-#[tactic(auto, unfolding(crate::specs::Returning::returning))]
+#[tactic(auto, unfolding(crate::specs::Returning::block_return))]
 pub(crate) fn return_from_block(params: &[Param], a: &mut Activation, m: &mut Memory) -> bool
     requires stands { a.old.left ≡ false }
     requires params { length params.now ≤ 60 }
-    ensures { Returns (returning params.now a.old m.old) a.old a.new m.new result }
+    ensures { Returns (block_return params.now a.old m.old) a.old a.new m.new result }
 {
     give_back(params, a, m);
     leave(a)

@@ -5,10 +5,10 @@ ghost use Rattle.flat_code.specs.Instr.{Passing, Returns};
 ghost use Rattle.flat_code.specs.Ops.{OpData};
 ghost use Rattle.flat_code.specs.declared.operations.Operation.TheVariants as operation;
 ghost use Rattle.frames.specs.declared.Activation.{Activation as ActivationOf};
-ghost use Rattle.image_file.specs.Readers.{block_of};
-ghost use Rattle.machine.specs.Flat.{code_of, instr_of, most_ops, run_at};
-ghost use Rattle.machine.specs.Lasting.{IsReady};
-ghost use Rattle.machine.specs.Silent.{GoesOrStays, RunsSilently, StaysReady, goes_as, has_caller as has_caller_of, shows_nothing, has_place_inside as has_place_inside_of, is_bound_inside as is_bound_inside_of, is_inside as is_inside_of, is_named_inside as is_named_inside_of, is_next, is_silent, is_still_inside, keeps_outputs as keeps_outputs_of, may_write as may_write_of, stays_in_block};
+ghost use Rattle.image_file.specs.Readers.{block_by_id};
+ghost use Rattle.machine.specs.Flat.{code_of, instr_of, most_ops, op_run_at};
+ghost use Rattle.machine.specs.Lasting.{IsStatementReady};
+ghost use Rattle.machine.specs.Silent.{GoesOrStays, RunsSilently, StaysReady, goes_as, has_caller as has_caller_of, shows_nothing, has_place_inside as has_place_inside_of, is_bound_inside as is_bound_inside_of, is_inside_area as is_inside_of, is_named_inside as is_named_inside_of, is_next, is_silent, is_still_inside, keeps_outputs as keeps_outputs_of, may_write as may_write_of, stays_in_block};
 ghost use Rattle.machine.specs.Statement.{IsNotStuck, step_of, statement, world};
 ghost use Rattle.machine.specs.Walking.{walk_with};
 
@@ -196,7 +196,7 @@ fn pass(
     spare: &mut Bindings,
     other: &mut Outcome,
 ) -> Silent
-    requires ready { IsReady c.now.program a.old }
+    requires ready { IsStatementReady c.now.program a.old }
     requires there { IsNotStuck (step_of (code_of c.now.program) f.now.instr f.now.next a.old
         (world m.old t.old n.old)) }
     ensures goes { GoesOrStays (step_of (code_of c.now.program) f.now.instr f.now.next a.old
@@ -227,11 +227,11 @@ fn pass_further(
     spare: &mut Bindings,
     other: &mut Outcome,
 ) -> Silent
-    requires ready { IsReady c.now.program a.old }
-    requires block { block_of a.old.running.frame.block c.now.program.code_blocks ≡ Some code.now }
+    requires ready { IsStatementReady c.now.program a.old }
+    requires block { block_by_id a.old.running.frame.block c.now.program.code_blocks ≡ Some code.now }
     requires walk { option_map (walk_with None)
-        (run_at most_ops code.now.code a.old.running.frame.at)
-        ≡ option_map (walk_with opens) (run_at 63 code.now.code second) }
+        (op_run_at most_ops code.now.code a.old.running.frame.at)
+        ≡ option_map (walk_with opens) (op_run_at 63 code.now.code second) }
     ensures goes { GoesOrStays (statement (code_of c.now.program) a.old (world m.old t.old n.old))
         (is_next is_silent (code_of c.now.program) a.old) a.old a.new
         (world m.old t.old n.old) (world m.new t.new n.new) (shows_nothing result) }
@@ -266,8 +266,8 @@ fn pass_statement(
     spare: &mut Bindings,
     other: &mut Outcome,
 ) -> Silent
-    requires ready { IsReady c.now.program a.old }
-    requires block { block_of a.old.running.frame.block c.now.program.code_blocks ≡ Some code.now }
+    requires ready { IsStatementReady c.now.program a.old }
+    requires block { block_by_id a.old.running.frame.block c.now.program.code_blocks ≡ Some code.now }
     ensures goes { GoesOrStays (statement (code_of c.now.program) a.old (world m.old t.old n.old))
         (is_next is_silent (code_of c.now.program) a.old) a.old a.new
         (world m.old t.old n.old) (world m.new t.new n.new) (shows_nothing result) }

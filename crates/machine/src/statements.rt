@@ -1,8 +1,8 @@
 //! One statement of an activation.
 ghost use Rattle.std.specs.Prelude.{◌≡◌, length, false, Some, is_some, true};
 ghost use Rattle.frames.specs.Activations.{frames_of};
-ghost use Rattle.machine.specs.Flat.{code_of, statement_at};
-ghost use Rattle.machine.specs.Statement.{world, is_error as is_error_of, statement as statement_of, step_found, step_of, IsNotStuck, IsOutcomeOf};
+ghost use Rattle.machine.specs.Flat.{code_of, statement_fetched};
+ghost use Rattle.machine.specs.Statement.{world, is_sync_error as is_error_of, statement as statement_of, step_found, step_of, IsNotStuck, IsOutcomeOf};
 
 use crate::fetching::Fetched;
 use crate::outcomes::Outcome;
@@ -64,9 +64,9 @@ fn execute_at(
     requires stands { a.old.left ≡ false }
     requires depth { length a.old.running.locals.starts ≡ length (frames_of a.old) }
     requires there { IsNotStuck (step_found (code_of c.now.program)
-        (statement_at code.now a.old.running.frame.at) a.old (world m.old t.old n.old)) }
+        (statement_fetched code.now a.old.running.frame.at) a.old (world m.old t.old n.old)) }
     ensures { IsOutcomeOf (step_found (code_of c.now.program)
-        (statement_at code.now a.old.running.frame.at) a.old (world m.old t.old n.old))
+        (statement_fetched code.now a.old.running.frame.at) a.old (world m.old t.old n.old))
         a.old a.new (world m.old t.old n.old) (world m.new t.new n.new) result }
 {
     let at = a.running.frame.at;

@@ -1,7 +1,7 @@
 //! Timers and counters: SP SE SD SS SF, CU, CD, S of a counter, R and FR of both.
 ghost use Rattle.std.specs.Prelude.{◌≡◌};
 ghost use Rattle.machine.specs.ExecState.{local_of};
-ghost use Rattle.machine.specs.Timing.{operation_of as word_of_own, string_ended, starting, timer_reset, timer_freed, counting_up, counting_down, counter_set, counter_reset, counter_freed, Times};
+ghost use Rattle.machine.specs.Timing.{start_word as word_of_own, logic_string_ended, timer_start, timer_reset, timer_freed, counting_up, counting_down, counter_set, counter_reset, counter_freed, Times};
 
 use crate::values::{fault_code, number_named};
 use flat_code::Operand;
@@ -13,7 +13,7 @@ use timers_counters::{Counters, Timers};
 
 /// OR 0, /FC 0.
 fn end_string(r: &mut Regs)
-    ensures { r.new ≡ string_ended r.old }
+    ensures { r.new ≡ logic_string_ended r.old }
 {
     r.status.or = false;
     r.status.fc = false;
@@ -26,7 +26,7 @@ fn operation_of(s: &Running) -> u16
 }
 
 /// SP, SE, SD, SS, SF.
-#[tactic(auto, unfolding(crate::specs::Timing::starting))]
+#[tactic(auto, unfolding(crate::specs::Timing::timer_start))]
 #[inline(never)]
 pub(crate) fn start(
     how: TimerKind,
@@ -35,7 +35,7 @@ pub(crate) fn start(
     m: &Memory,
     t: &mut Timers,
 ) -> Result<(), u8>
-    ensures { Times (starting how operand.now (local_of s.old) m.now t.old)
+    ensures { Times (timer_start how operand.now (local_of s.old) m.now t.old)
         s.old s.new t.old t.new result }
 {
     let number = number_named(operand, s, m)?;

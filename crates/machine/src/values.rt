@@ -3,8 +3,8 @@ ghost use Rattle.std.specs.Prelude.{◌≡◌, ◌<◌, ◌^◌, ℕ, Err};
 ghost use Rattle.plc_base.specs.Widths.{bit_count};
 ghost use Rattle.flat_code.specs.Kinds.{flag_of as flag_of_condition};
 ghost use Rattle.machine.specs.ExecState.{local_of};
-ghost use Rattle.machine.specs.Outcomes.{Acts};
-ghost use Rattle.machine.specs.Values.{number_of_binding as number_of_binding_of, number as number_of, bit_of_numbered as bit_of_numbered_of, value_of_numbered as value_of_numbered_of, bcd_of_numbered as bcd_of_numbered_of, number_named as number_named_of, bcd_loaded as bcd_loaded_of, faulty, tested as tested_of, loaded as loaded_of, is_one, write as write_of};
+ghost use Rattle.machine.specs.Outcomes.{ChangesLocalMemory};
+ghost use Rattle.machine.specs.Values.{number_of_binding as number_of_binding_of, operand_number as number_of, bit_of_numbered as bit_of_numbered_of, value_of_numbered as value_of_numbered_of, bcd_of_numbered as bcd_of_numbered_of, number_named as number_named_of, bcd_loaded as bcd_loaded_of, faulty, checked_bit as tested_of, load_value as loaded_of, is_one, write as write_of};
 
 use crate::places::{Access, Location, located, number_from, placed, read};
 use flat_code::{CONDITIONS, Operand};
@@ -37,7 +37,7 @@ fn number_of_binding(binding: Option<Binding>, s: &Running, m: &Memory) -> Resul
 }
 
 /// The number of an operand that is a constant or has a place.
-#[tactic(auto, unfolding(crate::specs::Values::number))]
+#[tactic(auto, unfolding(crate::specs::Values::operand_number))]
 #[inline(never)]
 pub(crate) fn number(operand: &Operand, s: &Running, m: &Memory) -> Result<u32, u8>
     ensures { result ≡ number_of operand.now (local_of s.now) m.now }
@@ -53,7 +53,7 @@ pub(crate) fn number(operand: &Operand, s: &Running, m: &Memory) -> Result<u32, 
 }
 
 // The number of an operand with a fixed place.
-#[tactic(auto, unfolding(crate::specs::Values::number, crate::specs::Places::located))]
+#[tactic(auto, unfolding(crate::specs::Values::operand_number, crate::specs::Places::operand_location))]
 #[inline(always)]
 fn direct_number(
     area: Area,
@@ -160,7 +160,7 @@ fn bit(operand: &Operand, s: &Running, m: &Memory) -> Result<bool, u8>
 }
 
 // The bit that a check reads where its operand has no fixed place.
-#[tactic(auto, unfolding(crate::specs::Values::tested))]
+#[tactic(auto, unfolding(crate::specs::Values::checked_bit))]
 #[inline(never)]
 fn tested_elsewhere(
     operand: &Operand,
@@ -202,7 +202,7 @@ fn direct_bit(area: Area, byte: u16, bit: u8, s: &Running, m: &Memory) -> Result
 }
 
 /// The bit that a check reads.
-#[tactic(auto, unfolding(crate::specs::Values::tested))]
+#[tactic(auto, unfolding(crate::specs::Values::checked_bit))]
 #[inline(always)]
 pub(crate) fn tested(
     operand: &Operand,
@@ -225,7 +225,7 @@ pub(crate) fn tested(
 }
 
 // The number that L reads where its operand has no fixed place.
-#[tactic(auto, unfolding(crate::specs::Values::loaded))]
+#[tactic(auto, unfolding(crate::specs::Values::load_value))]
 #[inline(never)]
 fn loaded_elsewhere(
     operand: &Operand,
@@ -247,7 +247,7 @@ fn loaded_elsewhere(
 }
 
 /// The number that L reads.
-#[tactic(auto, unfolding(crate::specs::Values::loaded))]
+#[tactic(auto, unfolding(crate::specs::Values::load_value))]
 #[inline(always)]
 pub(crate) fn loaded(
     operand: &Operand,
@@ -295,7 +295,7 @@ pub(crate) fn bcd_loaded(
 #[inline(always)]
 pub(crate) fn write(at: &Location, value: u32, s: &mut Running, m: &mut Memory) -> Result<(), u8>
     requires { value < 2 ^ bit_count at.now.width }
-    ensures written { Acts (write_of at.now value (local_of s.old) m.old)
+    ensures written { ChangesLocalMemory (write_of at.now value (local_of s.old) m.old)
         s.old s.new m.old m.new result }
     ensures registers { s.new.regs ≡ s.old.regs }
 {

@@ -1,12 +1,12 @@
 //! Along the ops of a statement.
 ghost use Rattle.std.specs.Prelude.{◌≡◌, ◌≤◌, length, MatchResult, Ok, Err};
 ghost use Rattle.std.specs.Option.{option_map};
-ghost use Rattle.flat_code.specs.Kinds.{jump_of as jump_of_kind};
+ghost use Rattle.flat_code.specs.Kinds.{jump_of_number as jump_of_kind};
 ghost use Rattle.flat_code.specs.Placed.{op_placed};
 ghost use Rattle.machine.specs.ExecState.{local_of};
-ghost use Rattle.machine.specs.Flat.{run_at, most_ops, list_of, most_listed};
-ghost use Rattle.machine.specs.Jumps.{listed};
-ghost use Rattle.machine.specs.Walking.{walk_with, walk_by, opens_after as opens_after_op, bound_all, bound_by};
+ghost use Rattle.machine.specs.Flat.{op_run_at, most_ops, list_of, most_listed};
+ghost use Rattle.machine.specs.Jumps.{list_goal};
+ghost use Rattle.machine.specs.Walking.{walk_with, walk_by, opens_after as opens_after_op, bound_all, binding_by};
 
 use crate::bindings::{bind_none, bound_for};
 use flat_code::{JUMPS, JumpOperation, Op, Operand, Param};
@@ -57,7 +57,7 @@ pub(crate) fn opens_after(opens: Option<u16>, operand: &Operand) -> Option<u16>
 #[tactic(auto, using(crate::proofs::Walks::walk_nowhere, crate::proofs::Walks::first_ends, crate::proofs::Walks::first_goes_on))]
 #[inline(always)]
 pub(crate) fn walk_from(code: &LoadedCode<'_>, at: u32) -> Option<Walk>
-    ensures { result ≡ option_map (walk_with None) (run_at most_ops code.now.code at) }
+    ensures { result ≡ option_map (walk_with None) (op_run_at most_ops code.now.code at) }
 {
     let (op, next) = code.op(at)?;
     if op.last {
@@ -84,7 +84,7 @@ fn walk_to(code: &LoadedCode<'_>, at: u32, opens: Option<u16>) -> Option<Walk>
 #[tactic(auto, using(crate::proofs::Walks::walk_nowhere, crate::proofs::Walks::walk_stops, crate::proofs::Walks::walk_ends_there, crate::proofs::Walks::walk_goes_on))]
 #[inline(never)]
 pub(crate) fn walk_on(code: &LoadedCode<'_>, at: u32, opens: Option<u16>) -> Option<Walk>
-    ensures { result ≡ option_map (walk_with opens) (run_at 63 code.now.code at) }
+    ensures { result ≡ option_map (walk_with opens) (op_run_at 63 code.now.code at) }
 {
     let mut opens = opens;
     let mut at = at;
@@ -114,9 +114,9 @@ fn behind(code: &LoadedCode<'_>, at: u32) -> Option<u32>
 }
 
 /// Where a JL goes on: at the jump of its list that accumulator 1 names, or behind the list.
-#[tactic(auto, unfolding(crate::specs::Jumps::listed), using(crate::proofs::Walks::picked_end, crate::proofs::Walks::picked_nowhere, crate::proofs::Walks::picked_zero, crate::proofs::Walks::picked_on, crate::proofs::Walks::picked_here))]
+#[tactic(auto, unfolding(crate::specs::Jumps::list_goal), using(crate::proofs::Walks::picked_end, crate::proofs::Walks::picked_nowhere, crate::proofs::Walks::picked_zero, crate::proofs::Walks::picked_on, crate::proofs::Walks::picked_here))]
 pub(crate) fn pick(code: &LoadedCode<'_>, target: u32, next: u32, r: &Regs) -> u32
-    ensures { result ≡ listed (list_of most_listed code.now.code target next) target r.now }
+    ensures { result ≡ list_goal (list_of most_listed code.now.code target next) target r.now }
 {
     let number = r.a1 % 0x100;
     let mut left = number;
@@ -144,7 +144,7 @@ pub(crate) fn pick(code: &LoadedCode<'_>, target: u32, next: u32, r: &Regs) -> u
 }
 
 /// The jump of a kind.
-#[tactic(auto, unfolding(flat_code::specs::Kinds::jump_of))]
+#[tactic(auto, unfolding(flat_code::specs::Kinds::jump_of_number))]
 pub(crate) fn jump_of(kind: u8) -> JumpOperation
     ensures { result ≡ jump_of_kind kind }
 {
@@ -161,8 +161,8 @@ fn bind(
     m: &Memory,
 ) -> Result<(), u8>
     ensures { MatchResult result
-        (λ _. bound_by operand.now params.now bindings.old (local_of s.now) m.now ≡ Ok bindings.new)
-        (λ code. bound_by operand.now params.now bindings.old (local_of s.now) m.now ≡ Err code) }
+        (λ _. binding_by operand.now params.now bindings.old (local_of s.now) m.now ≡ Ok bindings.new)
+        (λ code. binding_by operand.now params.now bindings.old (local_of s.now) m.now ≡ Err code) }
 {
     match *operand {
         Operand::Pass { index, actual } => {

@@ -1,7 +1,7 @@
 //! What an instruction does that touches no position.
 ghost use Rattle.std.specs.Prelude.{◌≡◌};
 ghost use Rattle.machine.specs.ExecState.{exec_state_of};
-ghost use Rattle.machine.specs.Outcomes.{Meets};
+ghost use Rattle.machine.specs.Outcomes.{ChangesExecState};
 ghost use Rattle.machine.specs.Effect.{effect as does_of, effect_with as does_with_of, kind_named as kind_named_of, set_of, reset_of, free_of, with_db};
 
 use crate::bit_logic::{assign, check, edge, set_bit};
@@ -41,7 +41,7 @@ fn set(
     t: &Timers,
     n: &mut Counters,
 ) -> Result<(), u8>
-    ensures { Meets (set_of (kind_named_of operand.now) operand.now
+    ensures { ChangesExecState (set_of (kind_named_of operand.now) operand.now
         (exec_state_of s.old m.old t.now n.old))
         s.old s.new m.old m.new t.now t.now n.old n.new result }
 {
@@ -61,7 +61,7 @@ fn reset(
     t: &mut Timers,
     n: &mut Counters,
 ) -> Result<(), u8>
-    ensures { Meets (reset_of (kind_named_of operand.now) operand.now
+    ensures { ChangesExecState (reset_of (kind_named_of operand.now) operand.now
         (exec_state_of s.old m.old t.old n.old))
         s.old s.new m.old m.new t.old t.new n.old n.new result }
 {
@@ -82,7 +82,7 @@ fn free(
     t: &mut Timers,
     n: &mut Counters,
 ) -> Result<(), u8>
-    ensures { Meets (free_of (kind_named_of operand.now) operand.now
+    ensures { ChangesExecState (free_of (kind_named_of operand.now) operand.now
         (exec_state_of s.old m.now t.old n.old))
         s.old s.new m.now m.now t.old t.new n.old n.new result }
 {
@@ -104,7 +104,7 @@ pub(crate) fn effect(
     t: &mut Timers,
     n: &mut Counters,
 ) -> Result<(), u8>
-    ensures { Meets (does_of operation operand.now (exec_state_of s.old m.old t.old n.old))
+    ensures { ChangesExecState (does_of operation operand.now (exec_state_of s.old m.old t.old n.old))
         s.old s.new m.old m.new t.old t.new n.old n.new result }
 {
     match operation {
@@ -200,7 +200,7 @@ fn effect_opened(
     t: &mut Timers,
     n: &mut Counters,
 ) -> Result<(), u8>
-    ensures { Meets (does_of operation operand.now (with_db number (exec_state_of s.old m.old t.old n.old)))
+    ensures { ChangesExecState (does_of operation operand.now (with_db number (exec_state_of s.old m.old t.old n.old)))
         s.old s.new m.old m.new t.old t.new n.old n.new result }
 {
     let before = s.frame.db;
@@ -226,7 +226,7 @@ pub(crate) fn effect_with(
     t: &mut Timers,
     n: &mut Counters,
 ) -> Result<(), u8>
-    ensures { Meets (does_with_of opens operation operand.now (exec_state_of s.old m.old t.old n.old))
+    ensures { ChangesExecState (does_with_of opens operation operand.now (exec_state_of s.old m.old t.old n.old))
         s.old s.new m.old m.new t.old t.new n.old n.new result }
 {
     match opens {

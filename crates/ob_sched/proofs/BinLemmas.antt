@@ -4,9 +4,9 @@ use Rattle.std.specs.Prelude.{◌==◌}
 use Rattle.std.proofs.lemmas.Bool.{and_parts, and_from}
 use Rattle.std.proofs.lemmas.Bool.Decides.{nat_tests}
 use Rattle.std.proofs.lemmas.List.{append-nil}
-use Rattle.ob_sched.specs.OrganizationBlock.{class_of, can_wait}
-use Rattle.ob_sched.specs.Request.{Request, queued, waiting}
-use Rattle.ob_sched.specs.Bin.{ranked, are_of_class, are_placed_from, waiting_in, empty_bin}
+use Rattle.ob_sched.specs.OrganizationBlock.{priority_class, can_wait}
+use Rattle.ob_sched.specs.Request.{Request, request_queued, waiting_count}
+use Rattle.ob_sched.specs.Bin.{requests_by_rank, are_of_class, are_placed_from, waiting_in, empty_bin}
 use Rattle.ob_sched.specs.declared.bin.Bin.{Bin}
 use Rattle.ob_sched.proofs.QueueLemmas.{AtLeast, Below, AtLeast-append, AtLeast-lower, queued-last, queued-append, waiting-append, waiting-above, waiting-below}
 
@@ -15,8 +15,8 @@ abbrev pub with_request : Request → Bin → Bin
 with_request r bin = record { waiting = record { items = bin.waiting.items ++ r ∷ [] } }
 
 -- the requests of a bin are of its class
-same_class : (class : ℕ) (x : Request) → (can_wait x.0 && class_of x.0 == class) ≡ true → class_of x.0 ≡ class
-same_class class x h = same (class_of x.0) class (and_parts (can_wait x.0) (class_of x.0 == class) h).1
+same_class : (class : ℕ) (x : Request) → (can_wait x.0 && priority_class x.0 == class) ≡ true → priority_class x.0 ≡ class
+same_class class x h = same (priority_class x.0) class (and_parts (can_wait x.0) (priority_class x.0 == class) h).1
   where
     same : (a b : ℕ) → (a == b) ≡ true → a ≡ b
     same a b h = grind (arith, nat_tests)
@@ -24,8 +24,8 @@ same_class class x h = same (class_of x.0) class (and_parts (can_wait x.0) (clas
 of_class-AtLeast : (class : ℕ) (xs : List Request) → are_of_class class xs ≡ true → AtLeast class xs
 of_class-AtLeast class [] h = tt
 of_class-AtLeast class (x ∷ xs) h =
-    let parts = and_parts (can_wait x.0 && class_of x.0 == class) (are_of_class class xs) h in
-    (at_least class (class_of x.0) (same_class class x parts.0), of_class-AtLeast class xs parts.1)
+    let parts = and_parts (can_wait x.0 && priority_class x.0 == class) (are_of_class class xs) h in
+    (at_least class (priority_class x.0) (same_class class x parts.0), of_class-AtLeast class xs parts.1)
   where
     at_least : (a b : ℕ) → b ≡ a → a ≤ b
     at_least a b e = omega arith
@@ -33,37 +33,37 @@ of_class-AtLeast class (x ∷ xs) h =
 pub of_class-Below : (class high : ℕ) (xs : List Request) → class < high → are_of_class class xs ≡ true → Below high xs
 of_class-Below class high [] lt h = tt
 of_class-Below class high (x ∷ xs) lt h =
-    let parts = and_parts (can_wait x.0 && class_of x.0 == class) (are_of_class class xs) h in
-    (below class high (class_of x.0) lt (same_class class x parts.0), of_class-Below class high xs lt parts.1)
+    let parts = and_parts (can_wait x.0 && priority_class x.0 == class) (are_of_class class xs) h in
+    (below class high (priority_class x.0) lt (same_class class x parts.0), of_class-Below class high xs lt parts.1)
   where
     below : (a b c : ℕ) → a < b → c ≡ a → c < b
     below a b c h e = omega arith
 
-pub ranked-AtLeast : (class : ℕ) (bins : List Bin) → are_placed_from class bins ≡ true → AtLeast class (ranked bins)
+pub ranked-AtLeast : (class : ℕ) (bins : List Bin) → are_placed_from class bins ≡ true → AtLeast class (requests_by_rank bins)
 ranked-AtLeast class [] h = tt
 ranked-AtLeast class (bin ∷ rest) h =
     let parts = and_parts (are_of_class class bin.waiting.items) (are_placed_from (class + 1) rest) h in
-    AtLeast-append class (ranked rest) bin.waiting.items
-    (AtLeast-lower class (class + 1) (ranked rest) (omega arith) (ranked-AtLeast (class + 1) rest parts.1))
+    AtLeast-append class (requests_by_rank rest) bin.waiting.items
+    (AtLeast-lower class (class + 1) (requests_by_rank rest) (omega arith) (ranked-AtLeast (class + 1) rest parts.1))
     (of_class-AtLeast class bin.waiting.items parts.0)
 
 -- a request that is queued goes to the end of its bin
 pub queued-ranked : (class n : ℕ) (bins : List Bin) (r : Request) → are_placed_from class bins ≡ true → n < length bins
-    → class_of r.0 ≡ class + n → queued r (ranked bins) ≡ ranked (set bins n (with_request r (get_or bins n empty_bin)))
+    → priority_class r.0 ≡ class + n → request_queued r (requests_by_rank bins) ≡ requests_by_rank (set bins n (with_request r (get_or bins n empty_bin)))
 queued-ranked class n [] r h lt e = absurd (omega arith)
 queued-ranked class zero (bin ∷ rest) r h lt e =
     let all = ranked-AtLeast class (bin ∷ rest) h in
-    let here : class_of r.0 ≡ class = plain (class_of r.0) class e in
-    let last = queued-last r (ranked (bin ∷ rest)) (subst (λ c. AtLeast c (ranked (bin ∷ rest))) (sym here) all) in
-    last ∙ append_assoc (ranked rest) bin.waiting.items (r ∷ [])
+    let here : priority_class r.0 ≡ class = plain (priority_class r.0) class e in
+    let last = queued-last r (requests_by_rank (bin ∷ rest)) (subst (λ c. AtLeast c (requests_by_rank (bin ∷ rest))) (sym here) all) in
+    last ∙ append_assoc (requests_by_rank rest) bin.waiting.items (r ∷ [])
   where
     plain : (a b : ℕ) → a ≡ b + 0 → a ≡ b
     plain a b e = omega arith
 queued-ranked class (suc n) (bin ∷ rest) r h lt e =
     let parts = and_parts (are_of_class class bin.waiting.items) (are_placed_from (class + 1) rest) h in
-    let higher : class < class_of r.0 = above (class_of r.0) class n e in
-    queued-append r (ranked rest) bin.waiting.items (of_class-Below class (class_of r.0) bin.waiting.items higher parts.0)
-    ∙ ap (λ (front : List Request). front ++ bin.waiting.items) (queued-ranked (class + 1) n rest r parts.1 (omega arith) (next (class_of r.0) class n e))
+    let higher : class < priority_class r.0 = above (priority_class r.0) class n e in
+    queued-append r (requests_by_rank rest) bin.waiting.items (of_class-Below class (priority_class r.0) bin.waiting.items higher parts.0)
+    ∙ ap (λ (front : List Request). front ++ bin.waiting.items) (queued-ranked (class + 1) n rest r parts.1 (omega arith) (next (priority_class r.0) class n e))
   where
     above : (a b n : ℕ) → a ≡ b + suc n → b < a
     above a b n e = omega arith
@@ -73,23 +73,23 @@ queued-ranked class (suc n) (bin ∷ rest) r h lt e =
 
 -- the bins round one of them
 pub ranked-set : (n : ℕ) (bins : List Bin) (bin : Bin) → n < length bins
-    → ranked (set bins n bin) ≡ ranked (drop (suc n) bins) ++ (bin.waiting.items ++ ranked (take n bins))
+    → requests_by_rank (set bins n bin) ≡ requests_by_rank (drop (suc n) bins) ++ (bin.waiting.items ++ requests_by_rank (take n bins))
 ranked-set n [] bin lt = absurd (omega arith)
-ranked-set zero (old ∷ rest) bin lt = ap (λ (low : List Request). ranked rest ++ low) (sym (append-nil bin.waiting.items))
+ranked-set zero (old ∷ rest) bin lt = ap (λ (low : List Request). requests_by_rank rest ++ low) (sym (append-nil bin.waiting.items))
 ranked-set (suc n) (first ∷ rest) bin lt =
-    let high = ranked (drop (suc n) rest) in
-    let low = ranked (take n rest) in
+    let high = requests_by_rank (drop (suc n) rest) in
+    let low = requests_by_rank (take n rest) in
     ap (λ (front : List Request). front ++ first.waiting.items) (ranked-set n rest bin (omega arith))
     ∙ append_assoc high (bin.waiting.items ++ low) first.waiting.items
     ∙ ap (λ (back : List Request). high ++ back) (append_assoc bin.waiting.items low first.waiting.items)
 
 pub ranked-split : (n : ℕ) (bins : List Bin) → n < length bins
-    → ranked bins ≡ ranked (drop (suc n) bins) ++ (waiting_in bins n ++ ranked (take n bins))
+    → requests_by_rank bins ≡ requests_by_rank (drop (suc n) bins) ++ (waiting_in bins n ++ requests_by_rank (take n bins))
 ranked-split n [] lt = absurd (omega arith)
-ranked-split zero (first ∷ rest) lt = ap (λ (low : List Request). ranked rest ++ low) (sym (append-nil first.waiting.items))
+ranked-split zero (first ∷ rest) lt = ap (λ (low : List Request). requests_by_rank rest ++ low) (sym (append-nil first.waiting.items))
 ranked-split (suc n) (first ∷ rest) lt =
-    let high = ranked (drop (suc n) rest) in
-    let low = ranked (take n rest) in
+    let high = requests_by_rank (drop (suc n) rest) in
+    let low = requests_by_rank (take n rest) in
     let here = waiting_in rest n in
     ap (λ (front : List Request). front ++ first.waiting.items) (ranked-split n rest (omega arith))
     ∙ append_assoc high (here ++ low) first.waiting.items
@@ -97,12 +97,12 @@ ranked-split (suc n) (first ∷ rest) lt =
 
 -- the requests of an OB wait in the bin of its class
 pub waiting-ranked : (ob class n : ℕ) (bins : List Bin) → are_placed_from class bins ≡ true → n < length bins
-    → class_of ob ≡ class + n → waiting ob (ranked bins) ≡ waiting ob (waiting_in bins n)
+    → priority_class ob ≡ class + n → waiting_count ob (requests_by_rank bins) ≡ waiting_count ob (waiting_in bins n)
 waiting-ranked ob class n [] h lt e = absurd (omega arith)
 waiting-ranked ob class zero (bin ∷ rest) h lt e =
     let parts = and_parts (are_of_class class bin.waiting.items) (are_placed_from (class + 1) rest) h in
-    let above = AtLeast-lower (suc (class_of ob)) (class + 1) (ranked rest) (plain (class_of ob) class e) (ranked-AtLeast (class + 1) rest parts.1) in
-    waiting-append ob (ranked rest) bin.waiting.items ∙ none (waiting-above ob (ranked rest) above)
+    let above = AtLeast-lower (suc (priority_class ob)) (class + 1) (requests_by_rank rest) (plain (priority_class ob) class e) (ranked-AtLeast (class + 1) rest parts.1) in
+    waiting-append ob (requests_by_rank rest) bin.waiting.items ∙ none (waiting-above ob (requests_by_rank rest) above)
   where
     plain : (a b : ℕ) → a ≡ b + 0 → suc a ≤ b + 1
     plain a b e = omega arith
@@ -111,10 +111,10 @@ waiting-ranked ob class zero (bin ∷ rest) h lt e =
     none e = omega arith
 waiting-ranked ob class (suc n) (bin ∷ rest) h lt e =
     let parts = and_parts (are_of_class class bin.waiting.items) (are_placed_from (class + 1) rest) h in
-    let higher : class < class_of ob = above (class_of ob) class n e in
-    waiting-append ob (ranked rest) bin.waiting.items
-    ∙ none (waiting-below ob bin.waiting.items (of_class-Below class (class_of ob) bin.waiting.items higher parts.0))
-    ∙ waiting-ranked ob (class + 1) n rest parts.1 (omega arith) (next (class_of ob) class n e)
+    let higher : class < priority_class ob = above (priority_class ob) class n e in
+    waiting-append ob (requests_by_rank rest) bin.waiting.items
+    ∙ none (waiting-below ob bin.waiting.items (of_class-Below class (priority_class ob) bin.waiting.items higher parts.0))
+    ∙ waiting-ranked ob (class + 1) n rest parts.1 (omega arith) (next (priority_class ob) class n e)
   where
     above : (a b n : ℕ) → a ≡ b + suc n → b < a
     above a b n e = omega arith
@@ -161,19 +161,19 @@ placed-set class (suc n) (first ∷ rest) bin h one =
 
 -- what waits in a bin with one request more, or one less, is of its class
 pub of_class-push : (class : ℕ) (xs : List Request) (r : Request) → are_of_class class xs ≡ true
-    → can_wait r.0 ≡ true → class_of r.0 ≡ class → are_of_class class (xs ++ r ∷ []) ≡ true
+    → can_wait r.0 ≡ true → priority_class r.0 ≡ class → are_of_class class (xs ++ r ∷ []) ≡ true
 of_class-push class [] r h known e =
-    and_from (can_wait r.0 && class_of r.0 == class) true (and_from (can_wait r.0) (class_of r.0 == class) known (same (class_of r.0) class e)) refl
+    and_from (can_wait r.0 && priority_class r.0 == class) true (and_from (can_wait r.0) (priority_class r.0 == class) known (same (priority_class r.0) class e)) refl
   where
     same : (a b : ℕ) → a ≡ b → (a == b) ≡ true
     same a b e = grind (arith, nat_tests)
 of_class-push class (x ∷ xs) r h known e =
-    let parts = and_parts (can_wait x.0 && class_of x.0 == class) (are_of_class class xs) h in
-    and_from (can_wait x.0 && class_of x.0 == class) (are_of_class class (xs ++ r ∷ [])) parts.0 (of_class-push class xs r parts.1 known e)
+    let parts = and_parts (can_wait x.0 && priority_class x.0 == class) (are_of_class class xs) h in
+    and_from (can_wait x.0 && priority_class x.0 == class) (are_of_class class (xs ++ r ∷ [])) parts.0 (of_class-push class xs r parts.1 known e)
 
 pub of_class-drop : (class : ℕ) (xs : List Request) → are_of_class class xs ≡ true → are_of_class class (drop 1 xs) ≡ true
 of_class-drop class [] h = refl
-of_class-drop class (x ∷ xs) h = (and_parts (can_wait x.0 && class_of x.0 == class) (are_of_class class xs) h).1
+of_class-drop class (x ∷ xs) h = (and_parts (can_wait x.0 && priority_class x.0 == class) (are_of_class class xs) h).1
 
 -- the bin that was found at a place
 pub bin_found : (n : ℕ) (bins : List Bin) (bin : Bin) → n < length bins → bin ≡ get_or bins n bin → get_or bins n empty_bin ≡ bin
@@ -181,20 +181,20 @@ bin_found n [] bin lt e = absurd (omega arith)
 bin_found zero (first ∷ rest) bin lt e = sym e
 bin_found (suc n) (first ∷ rest) bin lt e = bin_found n rest bin (omega arith) e
 
-pub waiting-found : (ob n : ℕ) (bins : List Bin) (bin : Bin) → are_placed_from 0 bins ≡ true → n < length bins → n ≡ class_of ob
-    → bin ≡ get_or bins n bin → waiting ob (ranked bins) ≡ waiting ob bin.waiting.items
+pub waiting-found : (ob n : ℕ) (bins : List Bin) (bin : Bin) → are_placed_from 0 bins ≡ true → n < length bins → n ≡ priority_class ob
+    → bin ≡ get_or bins n bin → waiting_count ob (requests_by_rank bins) ≡ waiting_count ob bin.waiting.items
 waiting-found ob n bins bin placed lt e found =
     waiting-ranked ob 0 n bins placed lt (sym e ∙ plain n)
-    ∙ ap (λ (b : Bin). waiting ob b.waiting.items) (bin_found n bins bin lt found)
+    ∙ ap (λ (b : Bin). waiting_count ob b.waiting.items) (bin_found n bins bin lt found)
   where
     plain : (n : ℕ) → n ≡ 0 + n
     plain n = omega arith
 
 -- no more wait in a bin than in all
-pub waiting-part : (ob n : ℕ) (bins : List Bin) (bin : Bin) → n < length bins → bin ≡ get_or bins n bin → waiting ob bin.waiting.items ≤ waiting ob (ranked bins)
-waiting-part ob n bins bin lt found = subst (λ (b : Bin). waiting ob b.waiting.items ≤ waiting ob (ranked bins)) (bin_found n bins bin lt found) (part n bins)
+pub waiting-part : (ob n : ℕ) (bins : List Bin) (bin : Bin) → n < length bins → bin ≡ get_or bins n bin → waiting_count ob bin.waiting.items ≤ waiting_count ob (requests_by_rank bins)
+waiting-part ob n bins bin lt found = subst (λ (b : Bin). waiting_count ob b.waiting.items ≤ waiting_count ob (requests_by_rank bins)) (bin_found n bins bin lt found) (part n bins)
   where
-    part : (n : ℕ) (bins : List Bin) → waiting ob (waiting_in bins n) ≤ waiting ob (ranked bins)
+    part : (n : ℕ) (bins : List Bin) → waiting_count ob (waiting_in bins n) ≤ waiting_count ob (requests_by_rank bins)
     part n [] = omega arith
-    part zero (first ∷ rest) = omega (arith, waiting-append ob (ranked rest) first.waiting.items)
-    part (suc n) (first ∷ rest) = omega (arith, part n rest, waiting-append ob (ranked rest) first.waiting.items)
+    part zero (first ∷ rest) = omega (arith, waiting-append ob (requests_by_rank rest) first.waiting.items)
+    part (suc n) (first ∷ rest) = omega (arith, part n rest, waiting-append ob (requests_by_rank rest) first.waiting.items)

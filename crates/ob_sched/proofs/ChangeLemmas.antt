@@ -6,9 +6,9 @@ use Rattle.std.specs.Prelude.{◌==◌, nat_le, slice_get, Some}
 use Rattle.std.proofs.lemmas.Bool.{and_from, and_parts}
 use Rattle.std.proofs.lemmas.Bool.Decides.{nat_tests}
 use Rattle.arrayvec.specs.ArrayVec.{ArrayVec}
-use Rattle.ob_sched.specs.OrganizationBlock.{class_of, can_wait, queue_length}
-use Rattle.ob_sched.specs.Request.{Request, queued, waiting, is_full}
-use Rattle.ob_sched.specs.Bin.{ranked, bitmap_of, are_of_class, are_placed_from, waiting_in, empty_bin, IsHighest}
+use Rattle.ob_sched.specs.OrganizationBlock.{priority_class, can_wait, queue_length}
+use Rattle.ob_sched.specs.Request.{Request, request_queued, waiting_count, is_queue_full}
+use Rattle.ob_sched.specs.Bin.{requests_by_rank, bitmap_of, are_of_class, are_placed_from, waiting_in, empty_bin, IsHighest}
 use Rattle.ob_sched.specs.declared.bin.Bin.{Bin}
 use Rattle.ob_sched.proofs.QueueLemmas.{one_if, waiting-queued, waiting-drop}
 use Rattle.ob_sched.proofs.BinLemmas.{with_request, queued-ranked, ranked-set, ranked-split, placed-at, placed-set, of_class-push, of_class-drop, bin_found, waiting-found, waiting-part}
@@ -18,7 +18,7 @@ use Rattle.ob_sched.proofs.RoomLemmas.{room}
 pub record KeepsBins (bins : List Bin) : Type 0 where
   pub count : length bins ≡ 32
   pub placed : are_placed_from 0 bins ≡ true
-  pub within : (ob : ℕ) → waiting ob (ranked bins) ≤ queue_length ob
+  pub within : (ob : ℕ) → waiting_count ob (requests_by_rank bins) ≤ queue_length ob
 
 -- bin `n` with its new contents is what a request of its class makes of it
 pub new_bin : (n : ℕ) (bins : List Bin) (bin : Bin) (v : ArrayVec Request) (r : Request) → n < length bins → bin ≡ get_or bins n bin
@@ -27,31 +27,31 @@ new_bin n bins bin v r lt found e =
     let filled : List Request → Bin = λ xs. record { waiting = record { items = xs } } in
     ap filled e ∙ ap (with_request r) (sym (bin_found n bins bin lt found))
 
-pub ranked-push : (n : ℕ) (bins : List Bin) (bin : Bin) (v : ArrayVec Request) (r : Request) → KeepsBins bins → n < 32 → n ≡ class_of r.0
+pub ranked-push : (n : ℕ) (bins : List Bin) (bin : Bin) (v : ArrayVec Request) (r : Request) → KeepsBins bins → n < 32 → n ≡ priority_class r.0
     → bin ≡ get_or bins n bin → v.items ≡ bin.waiting.items ++ r ∷ []
-    → ranked (set bins n (record { waiting = v })) ≡ queued r (ranked bins)
+    → requests_by_rank (set bins n (record { waiting = v })) ≡ request_queued r (requests_by_rank bins)
 ranked-push n bins bin v r keeps lt class found e =
     let within : n < length bins = omega (arith, keeps.count) in
-    ap (λ (b : Bin). ranked (set bins n b)) (new_bin n bins bin v r within found e)
+    ap (λ (b : Bin). requests_by_rank (set bins n b)) (new_bin n bins bin v r within found e)
     ∙ sym (queued-ranked 0 n bins r keeps.placed within (sym class ∙ plain n))
   where
     plain : (n : ℕ) → n ≡ 0 + n
     plain n = omega arith
 
 -- the room of a queue that isn't full
-pub has_room : (ob : ℕ) (pending : List Request) → is_full ob pending ≡ false → waiting ob pending < queue_length ob
-has_room ob pending h = below (queue_length ob) (waiting ob pending) h
+pub has_room : (ob : ℕ) (pending : List Request) → is_queue_full ob pending ≡ false → waiting_count ob pending < queue_length ob
+has_room ob pending h = below (queue_length ob) (waiting_count ob pending) h
   where
     below : (a b : ℕ) → nat_le a b ≡ false → b < a
     below a b h = grind (arith, nat_tests)
 
-within-queued : (ob : ℕ) (r : Request) (pending : List Request) → waiting r.0 pending < queue_length r.0
-    → ((t : ℕ) → waiting t pending ≤ queue_length t) → waiting ob (queued r pending) ≤ queue_length ob
+within-queued : (ob : ℕ) (r : Request) (pending : List Request) → waiting_count r.0 pending < queue_length r.0
+    → ((t : ℕ) → waiting_count t pending ≤ queue_length t) → waiting_count ob (request_queued r pending) ≤ queue_length ob
 within-queued ob r pending room within = by (r.0 == ob) refl (waiting-queued ob r pending)
   where
-    by : (b : Bool) → (r.0 == ob) ≡ b → waiting ob (queued r pending) ≡ one_if b + waiting ob pending → waiting ob (queued r pending) ≤ queue_length ob
+    by : (b : Bool) → (r.0 == ob) ≡ b → waiting_count ob (request_queued r pending) ≡ one_if b + waiting_count ob pending → waiting_count ob (request_queued r pending) ≤ queue_length ob
     by true same e =
-        let here : waiting ob pending < queue_length ob = subst (λ t. waiting t pending < queue_length t) (equal r.0 ob same) room in
+        let here : waiting_count ob pending < queue_length ob = subst (λ t. waiting_count t pending < queue_length t) (equal r.0 ob same) room in
         omega arith
       where
         equal : (a b : ℕ) → (a == b) ≡ true → a ≡ b
@@ -72,8 +72,8 @@ pub found_of_class : (n : ℕ) (bins : List Bin) (bin : Bin) → KeepsBins bins 
     → are_of_class n bin.waiting.items ≡ true
 found_of_class n bins bin keeps lt found = of_class-at n bins bin (omega (arith, keeps.count)) keeps.placed found
 
-pub keeps-push : (n : ℕ) (bins : List Bin) (bin : Bin) (v : ArrayVec Request) (r : Request) → KeepsBins bins → n < 32 → n ≡ class_of r.0
-    → can_wait r.0 ≡ true → is_full r.0 (ranked bins) ≡ false → bin ≡ get_or bins n bin → v.items ≡ bin.waiting.items ++ r ∷ []
+pub keeps-push : (n : ℕ) (bins : List Bin) (bin : Bin) (v : ArrayVec Request) (r : Request) → KeepsBins bins → n < 32 → n ≡ priority_class r.0
+    → can_wait r.0 ≡ true → is_queue_full r.0 (requests_by_rank bins) ≡ false → bin ≡ get_or bins n bin → v.items ≡ bin.waiting.items ++ r ∷ []
     → KeepsBins (set bins n (record { waiting = v }))
 keeps-push n bins bin v r keeps lt class known room found e = record {
   count = length-set bins n (record { waiting = v }) ∙ keeps.count;
@@ -82,8 +82,8 @@ keeps-push n bins bin v r keeps lt class known room found e = record {
       placed-set 0 n bins (record { waiting = v }) keeps.placed
       (subst (λ c. are_of_class c v.items ≡ true) (plain n) (subst (λ xs. are_of_class n xs ≡ true) (sym e) whole));
   within = λ ob.
-      subst (λ pending. waiting ob pending ≤ queue_length ob) (sym (ranked-push n bins bin v r keeps lt class found e))
-      (within-queued ob r (ranked bins) (has_room r.0 (ranked bins) room) keeps.within);
+      subst (λ pending. waiting_count ob pending ≤ queue_length ob) (sym (ranked-push n bins bin v r keeps lt class found e))
+      (within-queued ob r (requests_by_rank bins) (has_room r.0 (requests_by_rank bins) room) keeps.within);
 }
   where
     plain : (n : ℕ) → n ≡ 0 + n
@@ -96,10 +96,10 @@ drop-append (x ∷ xs) ys h = refl
 
 pub ranked-take : (n : ℕ) (bins : List Bin) (bin : Bin) (v : ArrayVec Request) → KeepsBins bins → IsHighest bins n
     → bin ≡ get_or bins n bin → v.items ≡ drop 1 bin.waiting.items
-    → ranked (set bins n (record { waiting = v })) ≡ drop 1 (ranked bins)
+    → requests_by_rank (set bins n (record { waiting = v })) ≡ drop 1 (requests_by_rank bins)
 ranked-take n bins bin v keeps high found e =
     let within : n < length bins = omega (arith, keeps.count, high.within) in
-    let low = ranked (take n bins) in
+    let low = requests_by_rank (take n bins) in
     let found_items = ap (λ (b : Bin). b.waiting.items) (bin_found n bins bin within found) in
     let after =
     ranked-set n bins (record { waiting = v }) within
@@ -118,8 +118,8 @@ keeps-take n bins bin v keeps high found e = record {
       placed-set 0 n bins (record { waiting = v }) keeps.placed
       (subst (λ c. are_of_class c v.items ≡ true) (plain n) (subst (λ xs. are_of_class n xs ≡ true) (sym e) whole));
   within = λ ob.
-      subst (λ pending. waiting ob pending ≤ queue_length ob) (sym (ranked-take n bins bin v keeps high found e))
-      (through (waiting-drop ob (ranked bins)) (keeps.within ob));
+      subst (λ pending. waiting_count ob pending ≤ queue_length ob) (sym (ranked-take n bins bin v keeps high found e))
+      (through (waiting-drop ob (requests_by_rank bins)) (keeps.within ob));
 }
   where
     plain : (n : ℕ) → n ≡ 0 + n
@@ -130,10 +130,10 @@ keeps-take n bins bin v keeps high found e = record {
 
 -- the first of all is the first of the highest bin
 pub ranked-first : (n : ℕ) (bins : List Bin) (bin : Bin) → KeepsBins bins → IsHighest bins n → bin ≡ get_or bins n bin
-    → slice_get (ranked bins) 0 ≡ slice_get bin.waiting.items 0
+    → slice_get (requests_by_rank bins) 0 ≡ slice_get bin.waiting.items 0
 ranked-first n bins bin keeps high found =
     let within : n < length bins = omega (arith, keeps.count, high.within) in
-    let low = ranked (take n bins) in
+    let low = requests_by_rank (take n bins) in
     let before = ranked-split n bins within ∙ ap (λ (xs : List Request). xs ++ (waiting_in bins n ++ low)) high.none_above in
     ap (λ (xs : List Request). slice_get xs 0) before ∙ front (waiting_in bins n) low high.some
     ∙ ap (λ (b : Bin). slice_get b.waiting.items 0) (bin_found n bins bin within found)
@@ -150,9 +150,9 @@ found_some n bins bin keeps high found =
 pub first_known : (class : ℕ) (xs : List Request) (r : Request) → are_of_class class xs ≡ true → slice_get xs 0 ≡ Some r → can_wait r.0 ≡ true
 first_known class [] r h e = absurd (cc)
 first_known class (x ∷ xs) r h e =
-    let parts = and_parts (can_wait x.0 && class_of x.0 == class) (are_of_class class xs) h in
+    let parts = and_parts (can_wait x.0 && priority_class x.0 == class) (are_of_class class xs) h in
     let same : x ≡ r = cc in
-    subst (λ (q : Request). can_wait q.0 ≡ true) same (and_parts (can_wait x.0) (class_of x.0 == class) parts.0).0
+    subst (λ (q : Request). can_wait q.0 ≡ true) same (and_parts (can_wait x.0) (priority_class x.0 == class) parts.0).0
 
 -- the first of a list that isn't empty
 pub first_of_some : (xs : List Request) (d : Request) → 0 < length xs → Some (get_or xs 0 d) ≡ slice_get xs 0
@@ -168,9 +168,9 @@ pub AreEmpty-push : (bins : List Bin) (bin : Bin) → AreEmpty bins → bin.wait
 AreEmpty-push [] bin h e = (e, tt)
 AreEmpty-push (first ∷ rest) bin h e = (h.0, AreEmpty-push rest bin h.1 e)
 
-pub ranked-empty : (bins : List Bin) → AreEmpty bins → ranked bins ≡ []
+pub ranked-empty : (bins : List Bin) → AreEmpty bins → requests_by_rank bins ≡ []
 ranked-empty [] h = refl
-ranked-empty (bin ∷ rest) h = ap (λ (xs : List Request). ranked rest ++ xs) h.0 ∙ ap (λ (xs : List Request). xs ++ []) (ranked-empty rest h.1)
+ranked-empty (bin ∷ rest) h = ap (λ (xs : List Request). requests_by_rank rest ++ xs) h.0 ∙ ap (λ (xs : List Request). xs ++ []) (ranked-empty rest h.1)
 
 pub bitmap_of-empty : (bins : List Bin) → AreEmpty bins → bitmap_of bins ≡ 0
 bitmap_of-empty [] h = refl
@@ -189,7 +189,7 @@ pub keeps-empty : (bins : List Bin) → AreEmpty bins → length bins ≡ 32 →
 keeps-empty bins h count = record {
   count = count;
   placed = placed-empty 0 bins h;
-  within = λ ob. subst (λ pending. waiting ob pending ≤ queue_length ob) (sym (ranked-empty bins h)) (omega arith);
+  within = λ ob. subst (λ pending. waiting_count ob pending ≤ queue_length ob) (sym (ranked-empty bins h)) (omega arith);
 }
 
 pub some_pushed : (new old : List Request) (r : Request) → new ≡ old ++ r ∷ [] → 0 < length new
@@ -200,16 +200,16 @@ some_pushed new old r e = subst (λ (xs : List Request). 0 < length xs) (sym e) 
     some (x ∷ xs) = omega arith
 
 -- there is room in the bin of a queue that isn't full
-pub room_in_bin : (n : ℕ) (bins : List Bin) (bin : Bin) (ob : ℕ) → KeepsBins bins → n < 32 → n ≡ class_of ob
-    → can_wait ob ≡ true → is_full ob (ranked bins) ≡ false → bin ≡ get_or bins n bin → length bin.waiting.items < 8
+pub room_in_bin : (n : ℕ) (bins : List Bin) (bin : Bin) (ob : ℕ) → KeepsBins bins → n < 32 → n ≡ priority_class ob
+    → can_wait ob ≡ true → is_queue_full ob (requests_by_rank bins) ≡ false → bin ≡ get_or bins n bin → length bin.waiting.items < 8
 room_in_bin n bins bin ob keeps lt class known full found =
     let within : n < length bins = omega (arith, keeps.count) in
     let here = found_of_class n bins bin keeps lt found in
     let placed = subst (λ c. are_of_class c bin.waiting.items ≡ true) class here in
-    let all : waiting ob (ranked bins) ≡ waiting ob bin.waiting.items = waiting-found ob n bins bin keeps.placed within class found in
+    let all : waiting_count ob (requests_by_rank bins) ≡ waiting_count ob bin.waiting.items = waiting-found ob n bins bin keeps.placed within class found in
     room ob bin.waiting.items known placed
     (λ t. no_more t (waiting-part t n bins bin within found) (keeps.within t))
-    (subst (λ count. count < queue_length ob) all (has_room ob (ranked bins) full))
+    (subst (λ count. count < queue_length ob) all (has_room ob (requests_by_rank bins) full))
   where
     no_more : {a b c : ℕ} (t : ℕ) → a ≤ b → b ≤ c → a ≤ c
     no_more t h k = omega arith

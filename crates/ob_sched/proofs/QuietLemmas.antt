@@ -8,11 +8,11 @@ use Rattle.std.proofs.lemmas.List.{drop_all}
 use Rattle.std.proofs.Math.Seq.{drop-cons}
 use Rattle.plc_base.specs.declared.Mode.{Mode}
 use Rattle.plc_base.specs.declared.Mode.TheVariants.{Run, Startup, Stop}
-use Rattle.ob_sched.specs.Course.{Course, stopped_by, time_error}
+use Rattle.ob_sched.specs.TickState.{TickState, stopped_by, time_error}
 use Rattle.ob_sched.specs.OrganizationBlock.{period_of}
 use Rattle.ob_sched.specs.declared.start_infos.StartEvent.TheVariants.{CycleTime}
-use Rattle.ob_sched.specs.Millisecond.{delay_counted, is_ending, ending_from, periods_counted_from, due_from, delays_passed, periods_passed, cycle_counted, with_cycle, run_passed, time_counted, one_ms, unless_stopped, delay_ended, period_ended, each_of, clock_counted}
-use Rattle.ob_sched.specs.Quiet.{DelayLasts, RunLastsIn, Lasts, delays_shortened, periods_shortened, run_shortened_in, waited}
+use Rattle.ob_sched.specs.Millisecond.{delay_counted, is_ending, ending_from, periods_counted_from, due_from, delays_passed, periods_passed, cycle_counted, with_cycle, run_passed, time_counted, after_ms, unless_stopped, delay_ended, period_ended, each_ob, clock_counted}
+use Rattle.ob_sched.specs.Quiet.{DelayLasts, RunLastsIn, NothingDueFor, delays_shortened, periods_shortened, run_shortened_in, after_quiet_ms}
 use Rattle.ob_sched.specs.Scheduler.{Scheduler, Countdowns}
 
 abbrev shorter : ℕ → Option ℕ → Option ℕ
@@ -71,43 +71,43 @@ periods_counted-less ob (x ∷ xs) all =
     ∙ ap (λ (ys : List ℕ). (x - 1) ∷ ys) (periods_counted-less (ob + 1) xs (rest_of (AtLeast 2) x xs all))
 
 -- the stages of a quiet millisecond
-delays_quiet : (mode : Mode) (c : Course) → All (DelayLasts 2) c.sched.countdowns.delays
+delays_quiet : (mode : Mode) (c : TickState) → All (DelayLasts 2) c.sched.countdowns.delays
     → delays_passed mode c ≡ record c { sched = record c.sched { countdowns = delays_shortened 1 c.sched.countdowns } }
 delays_quiet mode c all =
-    let moved : List (Option ℕ) → Course = λ delays.
+    let moved : List (Option ℕ) → TickState = λ delays.
     record c { sched = record c.sched { countdowns = record c.sched.countdowns { delays = delays } } } in
-    ap (λ (obs : List ℕ). each_of (delay_ended mode) obs (moved (map delay_counted c.sched.countdowns.delays)))
+    ap (λ (obs : List ℕ). each_ob (delay_ended mode) obs (moved (map delay_counted c.sched.countdowns.delays)))
     (ending_from-none 20 c.sched.countdowns.delays all)
     ∙ ap moved (map-delay_counted c.sched.countdowns.delays all)
 
-periods_quiet : (mode : Mode) (active : List ℕ) (c : Course) → All (AtLeast 2) c.sched.countdowns.periods
+periods_quiet : (mode : Mode) (active : List ℕ) (c : TickState) → All (AtLeast 2) c.sched.countdowns.periods
     → periods_passed mode active c ≡ record c { sched = record c.sched { countdowns = periods_shortened 1 c.sched.countdowns } }
 periods_quiet mode active c all =
-    let moved : List ℕ → Course = λ periods.
+    let moved : List ℕ → TickState = λ periods.
     record c { sched = record c.sched { countdowns = record c.sched.countdowns { periods = periods } } } in
-    ap (λ (obs : List ℕ). each_of (period_ended mode active) obs (moved (periods_counted_from 30 c.sched.countdowns.periods)))
+    ap (λ (obs : List ℕ). each_ob (period_ended mode active) obs (moved (periods_counted_from 30 c.sched.countdowns.periods)))
     (due_from-none 30 c.sched.countdowns.periods all)
     ∙ ap moved (periods_counted-less 30 c.sched.countdowns.periods all)
 
-cycle_quiet : (mode : Mode) (c : Course) → c.sched.cycle.counter + 2 ≤ 151
+cycle_quiet : (mode : Mode) (c : TickState) → c.sched.cycle.counter + 2 ≤ 151
     → cycle_counted mode c ≡ with_cycle (c.sched.cycle.counter + 1) c.sched.cycle.exceeded c
 unfolding cycle_counted
 cycle_quiet mode c h =
     let counter = c.sched.cycle.counter in
-    let later : Course = if c.sched.cycle.exceeded then stopped_by 10 (with_cycle 0 true c) else time_error mode CycleTime 1 (with_cycle 0 true c) in
+    let later : TickState = if c.sched.cycle.exceeded then stopped_by 10 (with_cycle 0 true c) else time_error mode CycleTime 1 (with_cycle 0 true c) in
     ap (λ (b : Bool). if b then with_cycle (counter + 1) c.sched.cycle.exceeded c else later) (within counter h)
   where
     within : (a : ℕ) → a + 2 ≤ 151 → nat_lt (a + 1) 151 ≡ true
     within a h = grind (arith, nat_tests)
 
-running : (next : Course → Course) (c : Course) → c.passed.stop ≡ None → unless_stopped next c ≡ next c
+running : (next : TickState → TickState) (c : TickState) → c.passed.stop ≡ None → unless_stopped next c ≡ next c
 running next c e = ap (λ (stop : Option ℕ). if is_some stop then c else next c) e
 
-run_quiet : (mode : Mode) (active : List ℕ) (c : Course) → RunLastsIn mode 2 c.sched → c.passed.stop ≡ None
+run_quiet : (mode : Mode) (active : List ℕ) (c : TickState) → RunLastsIn mode 2 c.sched → c.passed.stop ≡ None
     → run_passed mode active c ≡ record c { sched = run_shortened_in mode 1 c.sched }
 run_quiet Run active c lasts e =
     let periods = periods_quiet Run active c lasts.periods in
-    let moved : Course = record c { sched = record c.sched { countdowns = periods_shortened 1 c.sched.countdowns } } in
+    let moved : TickState = record c { sched = record c.sched { countdowns = periods_shortened 1 c.sched.countdowns } } in
     ap (unless_stopped (cycle_counted Run)) (running (periods_passed Run active) c e ∙ periods)
     ∙ running (cycle_counted Run) moved e
     ∙ cycle_quiet Run moved lasts.cycle
@@ -123,13 +123,13 @@ RunLastsIn-after Run ms s countdowns clock e lasts = record {
 RunLastsIn-after Startup ms s countdowns clock e lasts = tt
 RunLastsIn-after (Stop cause at) ms s countdowns clock e lasts = tt
 
-one_ms-quiet : (mode : Mode) (active : List ℕ) (c : Course) → Lasts mode 2 c.sched → c.passed.stop ≡ None
-    → one_ms mode active c ≡ waited mode 1 c
-unfolding one_ms
+one_ms-quiet : (mode : Mode) (active : List ℕ) (c : TickState) → NothingDueFor mode 2 c.sched → c.passed.stop ≡ None
+    → after_ms mode active c ≡ after_quiet_ms mode 1 c
+unfolding after_ms
 one_ms-quiet mode active c lasts e =
-    let timed : Course = time_counted c in
-    let moved : Course = record timed { sched = record timed.sched { countdowns = delays_shortened 1 c.sched.countdowns } } in
-    running (λ (d : Course). run_passed mode active (delays_passed mode (time_counted d))) c e
+    let timed : TickState = time_counted c in
+    let moved : TickState = record timed { sched = record timed.sched { countdowns = delays_shortened 1 c.sched.countdowns } } in
+    running (λ (d : TickState). run_passed mode active (delays_passed mode (time_counted d))) c e
     ∙ ap (run_passed mode active) (delays_quiet mode timed lasts.delays)
     ∙ run_quiet mode active moved (RunLastsIn-after mode 2 c.sched (delays_shortened 1 c.sched.countdowns) (clock_counted c.sched.clock) refl lasts.run) e
 
@@ -146,7 +146,7 @@ RunLastsIn-lower Run low high s le h = record {
 RunLastsIn-lower Startup low high s le h = tt
 RunLastsIn-lower (Stop cause at) low high s le h = tt
 
-pub Lasts-lower : (mode : Mode) (low high : ℕ) (s : Scheduler) → low ≤ high → Lasts mode high s → Lasts mode low s
+pub Lasts-lower : (mode : Mode) (low high : ℕ) (s : Scheduler) → low ≤ high → NothingDueFor mode high s → NothingDueFor mode low s
 Lasts-lower mode low high s le h = record {
   delays = λ k d lt. DelayLasts-lower low high (get_or s.countdowns.delays k d) le (h.delays k d lt);
   run = RunLastsIn-lower mode low high s le h.run;
@@ -167,7 +167,7 @@ periods_last ms [] all k d h = absurd (omega arith)
 periods_last ms (x ∷ xs) all zero d h = let one = first_of (AtLeast (suc ms)) x xs all in omega (arith, one)
 periods_last ms (x ∷ xs) all (suc k) d h = periods_last ms xs (rest_of (AtLeast (suc ms)) x xs all) k d (omega arith)
 
-Lasts-waited : (mode : Mode) (ms : ℕ) (c : Course) → Lasts mode (suc ms) c.sched → Lasts mode ms (waited mode 1 c).sched
+Lasts-waited : (mode : Mode) (ms : ℕ) (c : TickState) → NothingDueFor mode (suc ms) c.sched → NothingDueFor mode ms (after_quiet_ms mode 1 c).sched
 Lasts-waited Run ms c lasts = record {
   delays = delays_last ms c.sched.countdowns.delays lasts.delays;
   run = record {
@@ -204,7 +204,7 @@ clock_plus clock ms = omega arith
 one_more : (a ms : ℕ) → a + 1 + ms ≡ a + suc ms
 one_more a ms = omega arith
 
-waited-waited : (mode : Mode) (ms : ℕ) (c : Course) → waited mode ms (waited mode 1 c) ≡ waited mode (suc ms) c
+waited-waited : (mode : Mode) (ms : ℕ) (c : TickState) → after_quiet_ms mode ms (after_quiet_ms mode 1 c) ≡ after_quiet_ms mode (suc ms) c
 waited-waited Run ms c = λ i. record {
   sched = record c.sched {
     countdowns = record { delays = shorter-shorter ms c.sched.countdowns.delays i; periods = less-less ms c.sched.countdowns.periods i };
@@ -229,26 +229,26 @@ waited-waited (Stop cause at) ms c = λ i. record {
 }
 
 -- that many quiet milliseconds
-pub iterate-quiet : (mode : Mode) (active : List ℕ) (ms : ℕ) (c : Course) → Lasts mode (suc (suc ms)) c.sched → c.passed.stop ≡ None
-    → iterate (one_ms mode active) (suc ms) c ≡ waited mode (suc ms) c
+pub iterate-quiet : (mode : Mode) (active : List ℕ) (ms : ℕ) (c : TickState) → NothingDueFor mode (suc (suc ms)) c.sched → c.passed.stop ≡ None
+    → iterate (after_ms mode active) (suc ms) c ≡ after_quiet_ms mode (suc ms) c
 iterate-quiet mode active zero c lasts e = one_ms-quiet mode active c lasts e
 iterate-quiet mode active (suc ms) c lasts e =
     let first = one_ms-quiet mode active c (Lasts-lower mode 2 (suc (suc (suc ms))) c.sched (omega arith) lasts) e in
-    ap (iterate (one_ms mode active) (suc ms)) first
-    ∙ iterate-quiet mode active ms (waited mode 1 c) (Lasts-waited mode (suc (suc ms)) c lasts) e
+    ap (iterate (after_ms mode active) (suc ms)) first
+    ∙ iterate-quiet mode active ms (after_quiet_ms mode 1 c) (Lasts-waited mode (suc (suc ms)) c lasts) e
     ∙ waited-waited mode (suc ms) c
 
 -- with a stop cause nothing passes any more
-one_ms-stopped : (mode : Mode) (active : List ℕ) (c : Course) → is_some c.passed.stop ≡ true → one_ms mode active c ≡ c
-unfolding one_ms
+one_ms-stopped : (mode : Mode) (active : List ℕ) (c : TickState) → is_some c.passed.stop ≡ true → after_ms mode active c ≡ c
+unfolding after_ms
 one_ms-stopped mode active c e =
-    let next : Course = run_passed mode active (delays_passed mode (time_counted c)) in
+    let next : TickState = run_passed mode active (delays_passed mode (time_counted c)) in
     ap (λ (b : Bool). if b then c else next) e
 
-pub iterate-stopped : (mode : Mode) (active : List ℕ) (n : ℕ) (c : Course) → is_some c.passed.stop ≡ true → iterate (one_ms mode active) n c ≡ c
+pub iterate-stopped : (mode : Mode) (active : List ℕ) (n : ℕ) (c : TickState) → is_some c.passed.stop ≡ true → iterate (after_ms mode active) n c ≡ c
 iterate-stopped mode active zero c e = refl
 iterate-stopped mode active (suc n) c e =
-    ap (iterate (one_ms mode active) n) (one_ms-stopped mode active c e) ∙ iterate-stopped mode active n c e
+    ap (iterate (after_ms mode active) n) (one_ms-stopped mode active c e) ∙ iterate-stopped mode active n c e
 
 -- quiet milliseconds, one more, and the rest
 pub iterate-split : {A : Type 0} (f : A → A) (q m : ℕ) (x : A) → iterate f (q + suc m) x ≡ iterate f m (f (iterate f q x))
@@ -261,30 +261,30 @@ iterate-split f (suc q) m x = ap (λ (n : ℕ). iterate f n x) (plain q m) ∙ i
     plain : (q m : ℕ) → suc q + suc m ≡ suc (q + suc m)
     plain q m = omega arith
 
-pub iterate-waited : (mode : Mode) (active : List ℕ) (ms : ℕ) (c : Course) → (ms ≡ 0 → ⊥) → Lasts mode (ms + 1) c.sched → c.passed.stop ≡ None
-    → iterate (one_ms mode active) ms c ≡ waited mode ms c
+pub iterate-waited : (mode : Mode) (active : List ℕ) (ms : ℕ) (c : TickState) → (ms ≡ 0 → ⊥) → NothingDueFor mode (ms + 1) c.sched → c.passed.stop ≡ None
+    → iterate (after_ms mode active) ms c ≡ after_quiet_ms mode ms c
 iterate-waited mode active zero c some lasts e = absurd (some refl)
 iterate-waited mode active (suc ms) c some lasts e =
     iterate-quiet mode active ms c (Lasts-lower mode (suc (suc ms)) (suc ms + 1) c.sched (omega arith) lasts) e
 
 -- OBs one after another
-pub each_of-at : (next : ℕ → Course → Course) (obs : List ℕ) (i : ℕ) (c : Course) → i < length obs → c.passed.stop ≡ None
-    → each_of next (drop i obs) c ≡ each_of next (drop (i + 1) obs) (next (get_or obs i 0) c)
+pub each_of-at : (next : ℕ → TickState → TickState) (obs : List ℕ) (i : ℕ) (c : TickState) → i < length obs → c.passed.stop ≡ None
+    → each_ob next (drop i obs) c ≡ each_ob next (drop (i + 1) obs) (next (get_or obs i 0) c)
 each_of-at next obs i c lt e =
-    ap (λ (xs : List ℕ). each_of next xs c) (drop-cons obs i 0 lt)
-    ∙ ap (each_of next (drop (suc i) obs)) (running (next (get_or obs i 0)) c e)
-    ∙ ap (λ (n : ℕ). each_of next (drop n obs) (next (get_or obs i 0) c)) (plain i)
+    ap (λ (xs : List ℕ). each_ob next xs c) (drop-cons obs i 0 lt)
+    ∙ ap (each_ob next (drop (suc i) obs)) (running (next (get_or obs i 0)) c e)
+    ∙ ap (λ (n : ℕ). each_ob next (drop n obs) (next (get_or obs i 0) c)) (plain i)
   where
     plain : (n : ℕ) → suc n ≡ n + 1
     plain n = omega arith
 
-pub each_of-stopped : (next : ℕ → Course → Course) (obs : List ℕ) (c : Course) → is_some c.passed.stop ≡ true → each_of next obs c ≡ c
+pub each_of-stopped : (next : ℕ → TickState → TickState) (obs : List ℕ) (c : TickState) → is_some c.passed.stop ≡ true → each_ob next obs c ≡ c
 each_of-stopped next [] c e = refl
 each_of-stopped next (ob ∷ rest) c e =
-    ap (λ (b : Bool). each_of next rest (if b then c else next ob c)) e ∙ each_of-stopped next rest c e
+    ap (λ (b : Bool). each_ob next rest (if b then c else next ob c)) e ∙ each_of-stopped next rest c e
 
-pub each_of-end : (next : ℕ → Course → Course) (obs : List ℕ) (i : ℕ) (c : Course) → length obs ≤ i → each_of next (drop i obs) c ≡ c
-each_of-end next obs i c past = ap (λ (xs : List ℕ). each_of next xs c) (drop_all i obs past)
+pub each_of-end : (next : ℕ → TickState → TickState) (obs : List ℕ) (i : ℕ) (c : TickState) → length obs ≤ i → each_ob next (drop i obs) c ≡ c
+each_of-end next obs i c past = ap (λ (xs : List ℕ). each_ob next xs c) (drop_all i obs past)
 
 pub not_some : {A : Type 0} (o : Option A) → is_some o ≡ false → o ≡ None
 not_some None e = refl

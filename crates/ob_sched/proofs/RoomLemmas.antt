@@ -4,15 +4,15 @@ use Rattle.std.specs.Prelude.{◌==◌, nat_lt}
 use Rattle.std.specs.List.{list_all, list_any}
 use Rattle.std.proofs.lemmas.Bool.{and_parts, and_from}
 use Rattle.std.proofs.lemmas.Bool.Decides.{nat_tests}
-use Rattle.ob_sched.specs.OrganizationBlock.{class_of, can_wait, queue_length}
-use Rattle.ob_sched.specs.Request.{Request, waiting}
+use Rattle.ob_sched.specs.OrganizationBlock.{priority_class, can_wait, queue_length}
+use Rattle.ob_sched.specs.Request.{Request, waiting_count}
 use Rattle.ob_sched.specs.Bin.{are_of_class}
 use Rattle.ob_sched.proofs.QueueLemmas.{counts, waiting-cons}
 
 -- how many of the requests are those of the OBs, and how many may be
 abbrev pub waiting_of : List ℕ → List Request → ℕ
 waiting_of [] xs = 0
-waiting_of (ob ∷ obs) xs = waiting ob xs + waiting_of obs xs
+waiting_of (ob ∷ obs) xs = waiting_count ob xs + waiting_of obs xs
 
 abbrev pub queues_of : List ℕ → ℕ
 queues_of [] = 0
@@ -45,8 +45,8 @@ covered obs (x ∷ xs) h =
     omega (arith, waiting_of-cons obs x xs, counted obs x parts.0, covered obs xs parts.1)
 
 -- with room in the queue of one of them they are fewer than their queues hold
-fewer : (obs : List ℕ) (ob : ℕ) (xs : List Request) → ((t : ℕ) → waiting t xs ≤ queue_length t)
-    → waiting ob xs < queue_length ob → is_one_of obs ob ≡ true → waiting_of obs xs < queues_of obs
+fewer : (obs : List ℕ) (ob : ℕ) (xs : List Request) → ((t : ℕ) → waiting_count t xs ≤ queue_length t)
+    → waiting_count ob xs < queue_length ob → is_one_of obs ob ≡ true → waiting_of obs xs < queues_of obs
 fewer [] ob xs within room h = absurd (grind (arith, h))
 fewer (first ∷ obs) ob xs within room h = by (ob == first) refl h (fewer obs ob xs within room)
   where
@@ -58,9 +58,9 @@ fewer (first ∷ obs) ob xs within room h = by (ob == first) refl h (fewer obs o
         add h k = omega arith
 
     by : (b : Bool) → (ob == first) ≡ b → (b || is_one_of obs ob) ≡ true → (is_one_of obs ob ≡ true → waiting_of obs xs < queues_of obs)
-        → waiting first xs + waiting_of obs xs < queue_length first + queues_of obs
+        → waiting_count first xs + waiting_of obs xs < queue_length first + queues_of obs
     by true same h more =
-        let here : waiting first xs < queue_length first = subst (λ t. waiting t xs < queue_length t) (equal ob first same) room in
+        let here : waiting_count first xs < queue_length first = subst (λ t. waiting_count t xs < queue_length t) (equal ob first same) room in
         add here (all obs)
       where
         equal : (a b : ℕ) → (a == b) ≡ true → a ≡ b
@@ -83,28 +83,28 @@ members class =
     else if nat_lt class 16 then (class + 23) ∷ []
     else (class + 24) ∷ []
 
-is_member : (ob : ℕ) → can_wait ob ≡ true → is_one_of (members (class_of ob)) ob ≡ true
+is_member : (ob : ℕ) → can_wait ob ≡ true → is_one_of (members (priority_class ob)) ob ≡ true
 is_member ob h = grind (arith, nat_tests, h)
 
 queues-le : (class : ℕ) → queues_of (members class) ≤ 8
 queues-le class = grind (arith, nat_tests)
 
 -- so a bin with a queue that isn't full holds fewer than eight requests
-pub room : (ob : ℕ) (xs : List Request) → can_wait ob ≡ true → are_of_class (class_of ob) xs ≡ true
-    → ((t : ℕ) → waiting t xs ≤ queue_length t) → waiting ob xs < queue_length ob → length xs < 8
+pub room : (ob : ℕ) (xs : List Request) → can_wait ob ≡ true → are_of_class (priority_class ob) xs ≡ true
+    → ((t : ℕ) → waiting_count t xs ≤ queue_length t) → waiting_count ob xs < queue_length ob → length xs < 8
 room ob xs known placed within some =
-    let less = fewer (members (class_of ob)) ob xs within some (is_member ob known) in
-    let most = queues-le (class_of ob) in
-    omega (arith, covered (members (class_of ob)) xs (all xs placed), less, most)
+    let less = fewer (members (priority_class ob)) ob xs within some (is_member ob known) in
+    let most = queues-le (priority_class ob) in
+    omega (arith, covered (members (priority_class ob)) xs (all xs placed), less, most)
   where
-    all : (xs : List Request) → are_of_class (class_of ob) xs ≡ true
-        → list_all (λ (r : Request). is_one_of (members (class_of ob)) r.0) xs ≡ true
+    all : (xs : List Request) → are_of_class (priority_class ob) xs ≡ true
+        → list_all (λ (r : Request). is_one_of (members (priority_class ob)) r.0) xs ≡ true
     all [] h = refl
     all (x ∷ xs) h =
-        let parts = and_parts (can_wait x.0 && class_of x.0 == class_of ob) (are_of_class (class_of ob) xs) h in
-        let here = and_parts (can_wait x.0) (class_of x.0 == class_of ob) parts.0 in
-        and_from (is_one_of (members (class_of ob)) x.0) (list_all (λ (r : Request). is_one_of (members (class_of ob)) r.0) xs)
-        (subst (λ c. is_one_of (members c) x.0 ≡ true) (equal (class_of x.0) (class_of ob) here.1) (is_member x.0 here.0)) (all xs parts.1)
+        let parts = and_parts (can_wait x.0 && priority_class x.0 == priority_class ob) (are_of_class (priority_class ob) xs) h in
+        let here = and_parts (can_wait x.0) (priority_class x.0 == priority_class ob) parts.0 in
+        and_from (is_one_of (members (priority_class ob)) x.0) (list_all (λ (r : Request). is_one_of (members (priority_class ob)) r.0) xs)
+        (subst (λ c. is_one_of (members c) x.0 ≡ true) (equal (priority_class x.0) (priority_class ob) here.1) (is_member x.0 here.0)) (all xs parts.1)
       where
         equal : (a b : ℕ) → (a == b) ≡ true → a ≡ b
         equal a b h = grind (arith, nat_tests)

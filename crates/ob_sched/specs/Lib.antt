@@ -1,5 +1,4 @@
 pub mod Bin
-pub mod Course
 pub mod Dues
 pub mod Millisecond
 pub mod OrganizationBlock
@@ -8,4 +7,5 @@ pub mod Ranking
 pub mod Request
 pub mod Scheduler
 pub mod StartInformation
+pub mod TickState
 pub mod Views

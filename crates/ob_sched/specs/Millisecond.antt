@@ -5,21 +5,21 @@ use Rattle.std.specs.List.{list_any}
 use Rattle.plc_base.specs.StopCauses as causes
 use Rattle.plc_base.specs.declared.Mode.{Mode}
 use Rattle.plc_base.specs.declared.Mode.TheVariants.{Run, Startup, Stop}
-use Rattle.ob_sched.specs.OrganizationBlock.{class_in, period_of}
-use Rattle.ob_sched.specs.Request.{waiting, queued}
-use Rattle.ob_sched.specs.Scheduler.{Scheduler, Countdowns, is_loaded, is_disabled}
+use Rattle.ob_sched.specs.OrganizationBlock.{priority_class_in, period_of}
+use Rattle.ob_sched.specs.Request.{waiting_count, request_queued}
+use Rattle.ob_sched.specs.Scheduler.{Scheduler, Countdowns, is_ob_loaded, is_ob_disabled}
 use Rattle.ob_sched.specs.StartInformation.{start_info}
-use Rattle.ob_sched.specs.Course.{Course, stopped_by, time_error, requested}
+use Rattle.ob_sched.specs.TickState.{TickState, stopped_by, time_error, ob_requested}
 use Rattle.ob_sched.specs.declared.start_infos.StartEvent.TheVariants.{Delay, Period, CycleTime, Missed}
 
 -- nothing more happens once there is a stop cause
-abbrev pub unless_stopped : (Course → Course) → Course → Course
+abbrev pub unless_stopped : (TickState → TickState) → TickState → TickState
 unless_stopped next c = if is_some c.passed.stop then c else next c
 
 -- for each of the OBs in turn
-abbrev pub each_of : (ℕ → Course → Course) → List ℕ → Course → Course
-each_of next [] c = c
-each_of next (ob ∷ rest) c = each_of next rest (unless_stopped (next ob) c)
+abbrev pub each_ob : (ℕ → TickState → TickState) → List ℕ → TickState → TickState
+each_ob next [] c = c
+each_ob next (ob ∷ rest) c = each_ob next rest (unless_stopped (next ob) c)
 
 -- a delay that is started has one millisecond less, and ends with the last one
 abbrev pub delay_counted : Option ℕ → Option ℕ
@@ -57,40 +57,40 @@ abbrev pub clock_counted : ℕ → ℕ
 clock_counted clock = (clock + 1) % 2 ^ 31
 
 -- the end of a delay requests its OB
-abbrev pub delay_ended : Mode → ℕ → Course → Course
-delay_ended mode ob c = requested mode ob (start_info (Delay ob) (class_in mode ob)) c
+abbrev pub delay_ended : Mode → ℕ → TickState → TickState
+delay_ended mode ob c = ob_requested mode ob (start_info (Delay ob) (priority_class_in mode ob)) c
 
 -- a request of an OB is still pending, or the OB is one of those that are active
 abbrev pub is_waiting_or_active : List ℕ → ℕ → Scheduler → Bool
 is_waiting_or_active active ob s =
-    nat_lt 0 (waiting ob s.pending) || list_any (λ number. number == ob) active
+    nat_lt 0 (waiting_count ob s.pending) || list_any (λ number. number == ob) active
 
 -- the end of a period requests its OB: the request waits by its rank, with its start information
-abbrev pub period_queued : Mode → ℕ → Course → Course
+abbrev pub period_queued : Mode → ℕ → TickState → TickState
 period_queued mode ob c =
     record c {
       sched = record c.sched {
-        pending = queued (ob, start_info (Period ob) (class_in mode ob)) c.sched.pending;
+        pending = request_queued (ob, start_info (Period ob) (priority_class_in mode ob)) c.sched.pending;
       };
     }
 
 -- a cyclic OB that is due: one that is disabled, or isn't loaded, makes no request; one that is
 -- still pending or active is a time error; any other one is requested
-unfoldable pub period_ended : Mode → List ℕ → ℕ → Course → Course
+unfoldable pub period_ended : Mode → List ℕ → ℕ → TickState → TickState
 period_ended mode active ob c =
-    if is_disabled c.sched ob then c
-    else if not (is_loaded c.sched ob) then c
+    if is_ob_disabled c.sched ob then c
+    else if not (is_ob_loaded c.sched ob) then c
     else if is_waiting_or_active active ob c.sched then time_error mode (Missed ob) ob c
     else period_queued mode ob c
 
 -- the cycle counter in milliseconds, and the mark that the cycle time was exceeded, are these
-abbrev pub with_cycle : ℕ → Bool → Course → Course
+abbrev pub with_cycle : ℕ → Bool → TickState → TickState
 with_cycle counter exceeded c =
     record c { sched = record c.sched { cycle = record { counter = counter; exceeded = exceeded } } }
 
 -- one millisecond of the cycle counter: at 151 ms it begins anew. The first time in a cycle this is
 -- a time error of OB 1, the second time the controller stops
-unfoldable pub cycle_counted : Mode → Course → Course
+unfoldable pub cycle_counted : Mode → TickState → TickState
 cycle_counted mode c =
     let counter : ℕ = c.sched.cycle.counter + 1 in
     if nat_lt counter 151 then with_cycle counter c.sched.cycle.exceeded c
@@ -98,17 +98,17 @@ cycle_counted mode c =
     else time_error mode CycleTime 1 (with_cycle 0 true c)
 
 -- the millisecond is counted, and the clock
-abbrev pub time_counted : Course → Course
+abbrev pub time_counted : TickState → TickState
 time_counted c = record c {
   sched = record c.sched { clock = clock_counted c.sched.clock };
   passed = record c.passed { ms = c.passed.ms + 1 };
 }
 
 -- the started delays, by OB number
-abbrev pub delays_passed : Mode → Course → Course
+abbrev pub delays_passed : Mode → TickState → TickState
 delays_passed mode c =
     let countdowns : Countdowns = c.sched.countdowns in
-    each_of (delay_ended mode) (ending_from 20 countdowns.delays)
+    each_ob (delay_ended mode) (ending_from 20 countdowns.delays)
     (record c {
       sched = record c.sched {
         countdowns = record countdowns { delays = map delay_counted countdowns.delays };
@@ -116,10 +116,10 @@ delays_passed mode c =
     })
 
 -- the cyclic OBs, by number
-abbrev pub periods_passed : Mode → List ℕ → Course → Course
+abbrev pub periods_passed : Mode → List ℕ → TickState → TickState
 periods_passed mode active c =
     let countdowns : Countdowns = c.sched.countdowns in
-    each_of (period_ended mode active) (due_from 30 countdowns.periods)
+    each_ob (period_ended mode active) (due_from 30 countdowns.periods)
     (record c {
       sched = record c.sched {
         countdowns = record countdowns { periods = periods_counted_from 30 countdowns.periods };
@@ -127,7 +127,7 @@ periods_passed mode active c =
     })
 
 -- in RUN also the cyclic OBs and the cycle counter move
-abbrev pub run_passed : Mode → List ℕ → Course → Course
+abbrev pub run_passed : Mode → List ℕ → TickState → TickState
 run_passed Run active c =
     unless_stopped (cycle_counted Run) (unless_stopped (periods_passed Run active) c)
 run_passed Startup active c = c
@@ -135,16 +135,16 @@ run_passed (Stop cause at) active c = c
 
 -- one millisecond: the clock, the started delays, and in RUN the cyclic OBs and the cycle counter. A
 -- stop ends it
-unfoldable pub one_ms : Mode → List ℕ → Course → Course
-one_ms mode active c =
+unfoldable pub after_ms : Mode → List ℕ → TickState → TickState
+after_ms mode active c =
     unless_stopped (λ c. run_passed mode active (delays_passed mode (time_counted c))) c
 
--- a course at its begin: no millisecond has passed, and there are no stop cause and no record
-abbrev pub begun : Scheduler → Course
-begun s = record { sched = s; passed = record { ms = 0; stop = None; records = record { items = [] } } }
+-- a tick at its begin: no millisecond has passed, and there are no stop cause and no record
+abbrev pub tick_begun : Scheduler → TickState
+tick_begun s = record { sched = s; passed = record { ms = 0; stop = None; records = record { items = [] } } }
 
 -- a tick of n milliseconds; in STOP it does nothing
-abbrev pub ticked : Mode → List ℕ → ℕ → Scheduler → Course
-ticked Run active n s = iterate (one_ms Run active) n (begun s)
-ticked Startup active n s = iterate (one_ms Startup active) n (begun s)
-ticked (Stop cause at) active n s = begun s
+abbrev pub after_tick : Mode → List ℕ → ℕ → Scheduler → TickState
+after_tick Run active n s = iterate (after_ms Run active) n (tick_begun s)
+after_tick Startup active n s = iterate (after_ms Startup active) n (tick_begun s)
+after_tick (Stop cause at) active n s = tick_begun s

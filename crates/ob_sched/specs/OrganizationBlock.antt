@@ -32,17 +32,17 @@ abbrev pub can_wait : ℕ → Bool
 can_wait ob = ob == 1 || is_interrupt ob || is_error ob
 
 -- those with a priority class of their own: also OB 100, startup, which starts at once
-abbrev pub has_class : ℕ → Bool
-has_class ob = can_wait ob || ob == 100
+abbrev pub has_priority_class : ℕ → Bool
+has_priority_class ob = can_wait ob || ob == 100
 
 -- all of them: also OB 121 and 122, synchronous errors, which start at once in the class of the
 -- activation in which the error came
 abbrev pub is_ob : ℕ → Bool
-is_ob ob = has_class ob || ob == 121 || ob == 122
+is_ob ob = has_priority_class ob || ob == 121 || ob == 122
 
 -- the priority class in RUN
-abbrev pub class_of : ℕ → ℕ
-class_of ob =
+abbrev pub priority_class : ℕ → ℕ
+priority_class ob =
     if nat_lt ob 10 then 1
     else if nat_lt ob 20 then 2
     else if nat_lt ob 30 then ob - 17
@@ -52,10 +52,10 @@ class_of ob =
     else 26
 
 -- the priority class in an operating mode: in STARTUP that of OB 80 and OB 85 is 28
-abbrev pub class_in : Mode → ℕ → ℕ
-class_in Run ob = class_of ob
-class_in Startup ob = if is_error ob then 28 else class_of ob
-class_in (Stop cause at) ob = class_of ob
+abbrev pub priority_class_in : Mode → ℕ → ℕ
+priority_class_in Run ob = priority_class ob
+priority_class_in Startup ob = if is_error ob then 28 else priority_class ob
+priority_class_in (Stop cause at) ob = priority_class ob
 
 -- how many requests of one may wait
 abbrev pub queue_length : ℕ → ℕ

@@ -2,7 +2,7 @@
 use Rattle.std.specs.Prelude.{ℕ, ◌+◌, ◌-◌, ◌%◌, ◌^◌, ◌≤◌, All, Option, Some, None, map, option_map}
 use Rattle.plc_base.specs.declared.Mode.{Mode}
 use Rattle.plc_base.specs.declared.Mode.TheVariants.{Run, Startup, Stop}
-use Rattle.ob_sched.specs.Course.{Course}
+use Rattle.ob_sched.specs.TickState.{TickState}
 use Rattle.ob_sched.specs.Scheduler.{Scheduler, Countdowns}
 
 -- a delay that is started has so many milliseconds left
@@ -12,7 +12,9 @@ DelayLasts ms (Some left) = ms ≤ left
 
 -- the periods and the cycle time last that long, in RUN
 pub record RunLasts (ms : ℕ) (s : Scheduler) : Type 0 where
+  -- no period ends before
   pub periods : All (λ left. ms ≤ left) s.countdowns.periods
+  -- nor is the cycle time exceeded
   pub cycle : s.cycle.counter + ms ≤ 151
 
 -- in STARTUP and STOP periods and cycle time don't move, and nothing is asked of them
@@ -22,8 +24,10 @@ RunLastsIn Startup ms s = Unit {0}
 RunLastsIn (Stop cause at) ms s = Unit {0}
 
 -- nothing ends and nothing is due before so many milliseconds have passed
-pub record Lasts (mode : Mode) (ms : ℕ) (s : Scheduler) : Type 0 where
+pub record NothingDueFor (mode : Mode) (ms : ℕ) (s : Scheduler) : Type 0 where
+  -- no delay ends before
   pub delays : All (DelayLasts ms) s.countdowns.delays
+  -- in RUN no period ends, and the cycle time isn't exceeded
   pub run : RunLastsIn mode ms s
 
 -- what such milliseconds do to the delays: each one that is started has so many less
@@ -50,8 +54,8 @@ run_shortened_in (Stop cause at) ms s = s
 
 -- all that they do: the clock and the delays move, in RUN the periods and the cycle counter too;
 -- the milliseconds are counted; pending requests, records and the stop cause stay
-abbrev pub waited : Mode → ℕ → Course → Course
-waited mode ms c = record c {
+abbrev pub after_quiet_ms : Mode → ℕ → TickState → TickState
+after_quiet_ms mode ms c = record c {
   sched =
       run_shortened_in mode ms
       (record c.sched {

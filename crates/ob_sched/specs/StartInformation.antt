@@ -12,17 +12,17 @@ ob_of_error code =
     if code == errors.no_peripheral || code == errors.no_peripheral_to_write then 122 else 121
 
 -- the OB that an event starts
-abbrev pub ob_of : StartEvent → ℕ
-ob_of (Cycle first) = 1
-ob_of Startup = 100
-ob_of (Arrival ob value) = ob
-ob_of (Delay ob) = ob
-ob_of (Period ob) = ob
-ob_of CycleTime = 80
-ob_of (Missed ob) = 80
-ob_of (QueueFull ob) = 80
-ob_of (NotLoaded ob) = 85
-ob_of (Synchronous code kind number line) = ob_of_error code
+abbrev pub event_ob : StartEvent → ℕ
+event_ob (Cycle first) = 1
+event_ob Startup = 100
+event_ob (Arrival ob value) = ob
+event_ob (Delay ob) = ob
+event_ob (Period ob) = ob
+event_ob CycleTime = 80
+event_ob (Missed ob) = 80
+event_ob (QueueFull ob) = 80
+event_ob (NotLoaded ob) = 85
+event_ob (Synchronous code kind number line) = ob_of_error code
 
 -- the events that there are: an arrival is one of OB 10 to 17 or 40 to 47, a delay one of OB 20 to 23,
 -- a period one of OB 30 to 38
@@ -64,25 +64,25 @@ start_code (NotLoaded ob) = 0xA1
 start_code (Synchronous code kind number line) = code
 
 -- byte 5: the kind of the block that failed
-abbrev pub kind_of : StartEvent → ℕ
-kind_of (Synchronous code kind number line) = kind
-kind_of event = 0
+abbrev pub event_block_kind : StartEvent → ℕ
+event_block_kind (Synchronous code kind number line) = kind
+event_block_kind event = 0
 
 -- bytes 6 and 7: the OB that a time error concerns, 1 for the cycle, the OB that isn't loaded, or the
 -- number of the block that failed
-abbrev pub number_of : StartEvent → ℕ
-number_of CycleTime = 1
-number_of (Missed ob) = ob
-number_of (QueueFull ob) = ob
-number_of (NotLoaded ob) = ob
-number_of (Synchronous code kind number line) = number
-number_of event = 0
+abbrev pub event_number : StartEvent → ℕ
+event_number CycleTime = 1
+event_number (Missed ob) = ob
+event_number (QueueFull ob) = ob
+event_number (NotLoaded ob) = ob
+event_number (Synchronous code kind number line) = number
+event_number event = 0
 
 -- bytes 8 to 11: the value of the arrival, or the source line of the statement that failed
-abbrev pub value_of : StartEvent → ℕ
-value_of (Arrival ob value) = value
-value_of (Synchronous code kind number line) = line
-value_of event = 0
+abbrev pub event_value : StartEvent → ℕ
+event_value (Arrival ob value) = value
+event_value (Synchronous code kind number line) = line
+event_value event = 0
 
 -- a number in two bytes, the higher one first; of a greater number the lowest 16 bits
 abbrev pub two_bytes : ℕ → List ℕ
@@ -95,8 +95,8 @@ four_bytes n = two_bytes (n / 65536) ++ two_bytes n
 -- bytes 2 and 3 are the priority class and the OB number, byte 4 and bytes 12 to 19 are 0
 abbrev pub start_bytes : StartEvent → ℕ → List ℕ
 start_bytes event class =
-    event_class (ob_of event) ∷ start_code event ∷ class ∷ ob_of event ∷ 0 ∷ kind_of event
-    ∷ (two_bytes (number_of event) ++ four_bytes (value_of event) ++ replicate 8 0)
+    event_class (event_ob event) ∷ start_code event ∷ class ∷ event_ob event ∷ 0 ∷ event_block_kind event
+    ∷ (two_bytes (event_number event) ++ four_bytes (event_value event) ++ replicate 8 0)
 
 -- the start information of an event's OB in a priority class
 unfoldable pub start_info : StartEvent → ℕ → StartInfo

@@ -1,16 +1,16 @@
 -- The state that the fields of the scheduler stand for.
 use Rattle.std.specs.Prelude.{List}
-use Rattle.ob_sched.specs.Bin.{ranked}
-use Rattle.ob_sched.specs.Course.{Course}
+use Rattle.ob_sched.specs.Bin.{requests_by_rank}
+use Rattle.ob_sched.specs.TickState.{TickState}
 use Rattle.ob_sched.specs.Request.{Request}
 use Rattle.ob_sched.specs.Scheduler.{Scheduler}
 use Rattle.ob_sched.specs.declared.bins.Bins.{Bins}
-use Rattle.ob_sched.specs.declared.passed.Passed.{Passed}
+use Rattle.ob_sched.specs.declared.tick_results.TickResult.{TickResult}
 use Rattle.ob_sched.specs.declared.sched.Sched.{Sched}
 
 -- the requests that wait, by rank
 abbrev pub pending_of : Bins → List Request
-pending_of bins = ranked bins.bins.items
+pending_of bins = requests_by_rank bins.bins.items
 
 -- the fields stand for a scheduler: what waits in the bins is its pending requests
 abbrev pub scheduler_of : Sched → Scheduler
@@ -24,5 +24,5 @@ scheduler_of s = record {
 }
 
 -- the fields with what passed so far
-abbrev pub course_of : Sched → Passed → Course
-course_of s passed = record { sched = scheduler_of s; passed = passed }
+abbrev pub tick_state_of : Sched → TickResult → TickState
+tick_state_of s passed = record { sched = scheduler_of s; passed = passed }

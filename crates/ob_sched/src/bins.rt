@@ -1,7 +1,7 @@
 ghost use Rattle.std.specs.Prelude.{◌≡◌, ◌≤◌, ℕ, IsTrue, length};
-ghost use Rattle.ob_sched.specs.Bin.{ranked, bitmap_of, are_placed_from};
+ghost use Rattle.ob_sched.specs.Bin.{requests_by_rank, bitmap_of, are_placed_from};
 ghost use Rattle.ob_sched.specs.OrganizationBlock.{queue_length};
-ghost use Rattle.ob_sched.specs.Request.{waiting};
+ghost use Rattle.ob_sched.specs.Request.{waiting_count};
 
 use crate::bin::Bin;
 
@@ -14,5 +14,5 @@ pub struct Bins {
     ghost count: { length bins.items ≡ 32 },
     ghost bitmap: { map ≡ bitmap_of bins.items },
     ghost placed: { IsTrue (are_placed_from 0 bins.items) },
-    ghost within: { (ob : ℕ) → waiting ob (ranked bins.items) ≤ queue_length ob },
+    ghost within: { (ob : ℕ) → waiting_count ob (requests_by_rank bins.items) ≤ queue_length ob },
 }

@@ -5,7 +5,7 @@ ghost use Rattle.ob_sched.specs.OrganizationBlock.{is_delay, is_cyclic};
 ghost use Rattle.ob_sched.specs.Quiet.{DelayLasts, delays_shortened, periods_shortened};
 ghost use Rattle.ob_sched.specs.Scheduler.{no_delays, whole_periods, delay_set, delay_of};
 
-use crate::dues::{Due, FIRST_CYCLIC, FIRST_DELAY, left_of, listed, period_left};
+use crate::dues::{FIRST_CYCLIC, FIRST_DELAY, Remaining, left_of, listed, period_left};
 use crate::organization_blocks::period_of;
 use arrayvec::ArrayVec;
 use std::marker::Model;
@@ -24,12 +24,12 @@ const PERIODS: [u32; CYCLIC] = [5000, 2000, 1000, 500, 200, 100, 50, 20, 10];
 /// the same millisecond.
 #[derive(Drop)]
 pub(crate) struct Countdowns {
-    dues: ArrayVec<Due, 13>,
+    dues: ArrayVec<Remaining, 13>,
 }
 
 impl Model for Countdowns {
     ghost use Rattle.std.specs.Prelude.{◌≡◌};
-    ghost use Rattle.ob_sched.specs.Dues.{listed, delays_in, periods_in};
+    ghost use Rattle.ob_sched.specs.Dues.{remaining_list, delays_in, periods_in};
     ghost use Rattle.ob_sched.specs.Scheduler.{Countdowns as CountdownsValue};
 
     ghost Value = { CountdownsValue };
@@ -40,7 +40,7 @@ impl Model for Countdowns {
     } };
 
     ghost invariant = { λ c. c.dues.items
-        ≡ listed (delays_in c.dues.items) (periods_in c.dues.items) };
+        ≡ remaining_list (delays_in c.dues.items) (periods_in c.dues.items) };
 }
 
 /// Whether a delay ends with a millisecond.

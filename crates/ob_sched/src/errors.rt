@@ -1,14 +1,14 @@
 ghost use Rattle.std.specs.Prelude.{◌≡◌, IsTrue};
-ghost use Rattle.ob_sched.specs.Course.{time_error, not_loaded, requested, error_requested, lost_event};
+ghost use Rattle.ob_sched.specs.TickState.{time_error, ob_not_loaded, ob_requested, error_requested, lost_event};
 ghost use Rattle.ob_sched.specs.OrganizationBlock.{can_wait, is_error};
 ghost use Rattle.ob_sched.specs.StartInformation.{IsEvent};
-ghost use Rattle.ob_sched.specs.Views.{course_of};
+ghost use Rattle.ob_sched.specs.Views.{tick_state_of};
 
 use crate::organization_blocks::{class_in, is_hardware};
-use crate::passed::Passed;
 use crate::requests::Arrived;
 use crate::sched::Sched;
 use crate::start_infos::{StartEvent, StartInfo};
+use crate::tick_results::TickResult;
 use plc_base::{Mode, stop_causes};
 
 /// Record of diagnostics: a time error, with the organization block that it concerns.
@@ -41,12 +41,12 @@ impl Sched {
         ob: u16,
         cause: u8,
         event: StartEvent,
-        passed: &mut Passed,
+        passed: &mut TickResult,
     )
         requires error { IsTrue (is_error ob) }
         requires event { IsEvent event }
-        ensures { course_of self.new passed.new
-            ≡ error_requested mode ob cause event (course_of self.old passed.old) }
+        ensures { tick_state_of self.new passed.new
+            ≡ error_requested mode ob cause event (tick_state_of self.old passed.old) }
     {
         let info = StartInfo::new(event, class_in(mode, ob));
         match self.arrive(ob, info) {
@@ -57,21 +57,27 @@ impl Sched {
     }
 
     /// A time error: it is recorded, and requests OB 80.
-    #[tactic(auto, unfolding(crate::specs::Course::time_error))]
-    pub(crate) fn time_error(&mut self, mode: Mode, event: StartEvent, ob: u16, passed: &mut Passed)
+    #[tactic(auto, unfolding(crate::specs::TickState::time_error))]
+    pub(crate) fn time_error(
+        &mut self,
+        mode: Mode,
+        event: StartEvent,
+        ob: u16,
+        passed: &mut TickResult,
+    )
         requires { IsEvent event }
-        ensures { course_of self.new passed.new
-            ≡ time_error mode event ob (course_of self.old passed.old) }
+        ensures { tick_state_of self.new passed.new
+            ≡ time_error mode event ob (tick_state_of self.old passed.old) }
     {
         passed.record(TIME_ERROR, ob);
         self.request_error(mode, 80, stop_causes::NO_OB_80, event, passed);
     }
 
     /// An organization block isn't loaded: this is recorded, and requests OB 85.
-    #[tactic(auto, unfolding(crate::specs::Course::not_loaded))]
-    fn not_loaded(&mut self, mode: Mode, ob: u16, passed: &mut Passed)
-        ensures { course_of self.new passed.new
-            ≡ not_loaded mode ob (course_of self.old passed.old) }
+    #[tactic(auto, unfolding(crate::specs::TickState::ob_not_loaded))]
+    fn not_loaded(&mut self, mode: Mode, ob: u16, passed: &mut TickResult)
+        ensures { tick_state_of self.new passed.new
+            ≡ ob_not_loaded mode ob (tick_state_of self.old passed.old) }
     {
         passed.record(NOT_LOADED, ob);
         self.request_error(
@@ -86,11 +92,11 @@ impl Sched {
     /// A request in an operating mode, with all that follows where it isn't queued: one of an
     /// organization block that isn't loaded requests OB 85, and one that finds its queue full is a time
     /// error, which requests OB 80. `passed` gains the records of diagnostics and the stop cause.
-    #[tactic(auto, unfolding(crate::specs::Course::requested))]
-    pub fn request(&mut self, mode: Mode, ob: u16, info: StartInfo, passed: &mut Passed)
+    #[tactic(auto, unfolding(crate::specs::TickState::ob_requested))]
+    pub fn request(&mut self, mode: Mode, ob: u16, info: StartInfo, passed: &mut TickResult)
         requires { IsTrue (can_wait ob) }
-        ensures { course_of self.new passed.new
-            ≡ requested mode ob info (course_of self.old passed.old) }
+        ensures { tick_state_of self.new passed.new
+            ≡ ob_requested mode ob info (tick_state_of self.old passed.old) }
     {
         match self.arrive(ob, info) {
             Arrived::Queued | Arrived::Dropped => {}

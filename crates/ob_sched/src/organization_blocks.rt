@@ -1,5 +1,5 @@
 ghost use Rattle.std.specs.Prelude.{◌≡◌, ◌<◌, IsTrue};
-ghost use Rattle.ob_sched.specs.OrganizationBlock.{is_ob, has_class, is_error, is_hardware, can_wait, class_of, class_in, queue_length, period_of};
+ghost use Rattle.ob_sched.specs.OrganizationBlock.{is_ob, has_priority_class, is_error, is_hardware, can_wait, priority_class, priority_class_in, queue_length, period_of};
 
 use plc_base::Mode;
 
@@ -34,8 +34,8 @@ pub(crate) fn is_hardware(ob: u16) -> bool
 
 /// The priority class in RUN.
 pub(crate) fn class_of(ob: u16) -> u8
-    requires { IsTrue (has_class ob) }
-    ensures class { result ≡ class_of ob }
+    requires { IsTrue (has_priority_class ob) }
+    ensures class { result ≡ priority_class ob }
     ensures bound { result < 32 }
 {
     match ob {
@@ -52,8 +52,8 @@ pub(crate) fn class_of(ob: u16) -> u8
 /// The priority class in an operating mode, of an organization block that has one of its own: one that
 /// can wait, or OB 100.
 pub fn class_in(mode: Mode, ob: u16) -> u8
-    requires { IsTrue (has_class ob) }
-    ensures { result ≡ class_in mode ob }
+    requires { IsTrue (has_priority_class ob) }
+    ensures { result ≡ priority_class_in mode ob }
 {
     match mode {
         Mode::Startup if is_error(ob) => 28,

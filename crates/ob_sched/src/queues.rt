@@ -1,7 +1,7 @@
 ghost use Rattle.std.specs.Prelude.{◌≡◌, ◌≤◌, ◌<◌, ◌^◌, [], ◌∷◌, ◌++◌, Some, None, drop, length, IsTrue, MatchOption, slice_get, slice_set, IfOk, IfSome, false};
-ghost use Rattle.ob_sched.specs.Bin.{ranked, empty_bin, waiting_in, IsHighest};
-ghost use Rattle.ob_sched.specs.OrganizationBlock.{can_wait, class_of};
-ghost use Rattle.ob_sched.specs.Request.{waiting, is_full, queued, best_of};
+ghost use Rattle.ob_sched.specs.Bin.{requests_by_rank, empty_bin, waiting_in, IsHighest};
+ghost use Rattle.ob_sched.specs.OrganizationBlock.{can_wait, priority_class};
+ghost use Rattle.ob_sched.specs.Request.{waiting_count, is_queue_full, request_queued, best_of};
 ghost use Rattle.ob_sched.specs.Views.{pending_of};
 
 use crate::bin::Bin;
@@ -26,7 +26,7 @@ fn bit(n: usize) -> u32
 
 /// How many of the requests are those of an organization block.
 fn count(waiting_requests: &[(u16, StartInfo)], ob: u16) -> usize
-    ensures { result ≡ waiting ob waiting_requests.now }
+    ensures { result ≡ waiting_count ob waiting_requests.now }
 {
     waiting_requests
         .iter()
@@ -51,7 +51,7 @@ impl Bins {
     /// How many requests of an organization block wait.
     pub(crate) fn waiting(&self, ob: u16) -> usize
         requires { IsTrue (can_wait ob) }
-        ensures { result ≡ waiting ob (pending_of self.now) }
+        ensures { result ≡ waiting_count ob (pending_of self.now) }
     {
         let bin = &self.bins[usize::from(class_of(ob))];
         count(bin.waiting.as_slice(), ob)
@@ -60,8 +60,8 @@ impl Bins {
     /// A request waits behind all that outrank it.
     pub(crate) fn push(&mut self, ob: u16, info: StartInfo)
         requires known { IsTrue (can_wait ob) }
-        requires room { is_full ob (pending_of self.old) ≡ false }
-        ensures { pending_of self.new ≡ queued (ob, info) (pending_of self.old) }
+        requires room { is_queue_full ob (pending_of self.old) ≡ false }
+        ensures { pending_of self.new ≡ request_queued (ob, info) (pending_of self.old) }
     {
         let n = usize::from(class_of(ob));
         let bin = &mut self.bins[n];

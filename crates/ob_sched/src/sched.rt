@@ -2,7 +2,7 @@ ghost use Rattle.std.specs.Prelude.{◌≡◌, ◌≤◌, ◌<◌, ◌^◌, IsTr
 ghost use Rattle.ob_sched.specs.Bin.{IsListedByClass, IsBitmapOf};
 ghost use Rattle.ob_sched.specs.OrganizationBlock.{can_wait, is_ob, is_delay};
 ghost use Rattle.ob_sched.specs.Request.{best_of, IsBest};
-ghost use Rattle.ob_sched.specs.Scheduler.{at_rest, is_loaded, is_disabled, arrival, arrived, started, disabled_as, delay_of, delay_started, delay_cancelled, retriggered, cycle_begun, run_begun, stopped, restarted};
+ghost use Rattle.ob_sched.specs.Scheduler.{sched_at_rest, is_ob_loaded, is_ob_disabled, arrival, request_arrived, best_removed, disabled_as, delay_of, delay_started, delay_cancelled, cycle_retriggered, cycle_begun, run_begun, sched_stopped, sched_restarted};
 ghost use Rattle.ob_sched.specs.Views.{scheduler_of, pending_of};
 
 use crate::bins::Bins;
@@ -35,7 +35,7 @@ impl Sched {
     ///
     /// `NoMemory` for want of memory. No other call takes any.
     pub fn new(alloc: Global, loaded: &[u16]) -> Result<Sched, NoMemory>
-        ensures { IfOk result (λ s. scheduler_of s ≡ at_rest loaded.now) }
+        ensures { IfOk result (λ s. scheduler_of s ≡ sched_at_rest loaded.now) }
     {
         Ok(Sched {
             loaded: Vec::from_slice(alloc, loaded)?,
@@ -49,14 +49,14 @@ impl Sched {
 
     /// Whether an organization block is loaded.
     pub(crate) fn is_loaded(&self, ob: u16) -> bool
-        ensures { result ≡ is_loaded (scheduler_of self.now) ob }
+        ensures { result ≡ is_ob_loaded (scheduler_of self.now) ob }
     {
         self.loaded.as_slice().contains(&ob)
     }
 
     /// Whether it is disabled.
     pub(crate) fn is_disabled(&self, ob: u16) -> bool
-        ensures { result ≡ is_disabled (scheduler_of self.now) ob }
+        ensures { result ≡ is_ob_disabled (scheduler_of self.now) ob }
     {
         self.disabled.contains(ob)
     }
@@ -67,7 +67,7 @@ impl Sched {
     pub fn arrive(&mut self, ob: u16, info: StartInfo) -> Arrived
         requires { IsTrue (can_wait ob) }
         ensures answer { result ≡ arrival (scheduler_of self.old) ob }
-        ensures after { scheduler_of self.new ≡ arrived ob info (scheduler_of self.old) }
+        ensures after { scheduler_of self.new ≡ request_arrived ob info (scheduler_of self.old) }
     {
         if self.is_disabled(ob) {
             return Arrived::Dropped;
@@ -96,7 +96,7 @@ impl Sched {
     /// The best request is started: it isn't pending any more.
     pub fn start(&mut self, best: Pending)
         requires { IsBest best (scheduler_of self.old).pending }
-        ensures { scheduler_of self.new ≡ started (scheduler_of self.old) }
+        ensures { scheduler_of self.new ≡ best_removed (scheduler_of self.old) }
     {
         let _ = best;
         self.pending.take_best();
@@ -141,7 +141,7 @@ impl Sched {
 
     /// The cycle counter begins anew. The mark of an exceeded cycle time stays.
     pub fn re_trigger(&mut self)
-        ensures { scheduler_of self.new ≡ retriggered (scheduler_of self.old) }
+        ensures { scheduler_of self.new ≡ cycle_retriggered (scheduler_of self.old) }
     {
         self.cycle.clear_counter();
     }
@@ -171,7 +171,7 @@ impl Sched {
 
     /// STOP: pending requests and delays end, and all else stays.
     pub fn stop(&mut self)
-        ensures { scheduler_of self.new ≡ stopped (scheduler_of self.old) }
+        ensures { scheduler_of self.new ≡ sched_stopped (scheduler_of self.old) }
     {
         self.pending.clear();
         self.countdowns.end_delays();
@@ -180,7 +180,7 @@ impl Sched {
     /// A start of the controller: disabling, the clock, the cycle counter and the mark of an exceeded
     /// cycle time are cleared.
     pub fn restart(&mut self)
-        ensures { scheduler_of self.new ≡ restarted (scheduler_of self.old) }
+        ensures { scheduler_of self.new ≡ sched_restarted (scheduler_of self.old) }
     {
         self.disabled = ObSet::new();
         self.clock = Clock::new();

@@ -1,6 +1,6 @@
 ghost use Rattle.std.specs.Prelude.{◌≡◌, ◌≤◌, ◌<◌, IsTrue};
 ghost use Rattle.ob_sched.specs.OrganizationBlock.{is_interrupt};
-ghost use Rattle.ob_sched.specs.StartInformation.{IsEvent, ob_of, ob_of_error, event_class, interrupt_code, start_code, kind_of, number_of, value_of, start_info};
+ghost use Rattle.ob_sched.specs.StartInformation.{IsEvent, event_ob, ob_of_error, event_class, interrupt_code, start_code, event_block_kind, event_number, event_value, start_info};
 
 use crate::organization_blocks::is_error;
 use plc_base::error_codes;
@@ -99,7 +99,7 @@ fn interrupt_code(ob: u16) -> u8
 impl StartEvent {
     /// The organization block that the event starts.
     pub fn ob(self) -> u16
-        ensures { result ≡ ob_of self }
+        ensures { result ≡ event_ob self }
     {
         match self {
             StartEvent::Cycle { .. } => 1,
@@ -130,7 +130,7 @@ impl StartEvent {
     }
 
     fn kind(self) -> u8
-        ensures { result ≡ kind_of self }
+        ensures { result ≡ event_block_kind self }
     {
         match self {
             StartEvent::Synchronous { kind, .. } => kind,
@@ -139,7 +139,7 @@ impl StartEvent {
     }
 
     fn number(self) -> u16
-        ensures { result ≡ number_of self }
+        ensures { result ≡ event_number self }
     {
         match self {
             StartEvent::CycleTime => 1,
@@ -152,7 +152,7 @@ impl StartEvent {
     }
 
     fn value(self) -> u32
-        ensures { result ≡ value_of self }
+        ensures { result ≡ event_value self }
     {
         match self {
             StartEvent::Arrival { value, .. } => value,

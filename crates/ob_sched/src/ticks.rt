@@ -1,24 +1,24 @@
 ghost use Rattle.std.specs.Prelude.{◌≡◌, ℕ, ◌+◌, ◌<◌, ◌≤◌, ◌^◌, IsTrue, List, None};
 ghost use Rattle.std.specs.Fn.{iterate};
 ghost use Rattle.std.specs.List.{AllPass};
-ghost use Rattle.ob_sched.specs.Course.{Course};
-ghost use Rattle.ob_sched.specs.Millisecond.{each_of, delay_ended, period_ended, cycle_counted, time_counted, delays_passed, periods_passed, run_passed, one_ms, unless_stopped, begun, ticked};
+ghost use Rattle.ob_sched.specs.TickState.{TickState};
+ghost use Rattle.ob_sched.specs.Millisecond.{each_ob, delay_ended, period_ended, cycle_counted, time_counted, delays_passed, periods_passed, run_passed, after_ms, unless_stopped, tick_begun, after_tick};
 ghost use Rattle.ob_sched.specs.OrganizationBlock.{is_delay, is_cyclic};
-ghost use Rattle.ob_sched.specs.Quiet.{Lasts, RunLastsIn, run_shortened_in};
-ghost use Rattle.ob_sched.specs.Views.{scheduler_of, course_of};
+ghost use Rattle.ob_sched.specs.Quiet.{NothingDueFor, RunLastsIn, run_shortened_in};
+ghost use Rattle.ob_sched.specs.Views.{scheduler_of, tick_state_of};
 
 use crate::organization_blocks::class_in;
-use crate::passed::Passed;
 use crate::sched::Sched;
 use crate::start_infos::{StartEvent, StartInfo};
+use crate::tick_results::TickResult;
 use plc_base::{Mode, stop_causes};
 
 impl Sched {
     /// A delay has ended: its organization block is requested.
-    fn end_delay(&mut self, mode: Mode, ob: u16, passed: &mut Passed)
+    fn end_delay(&mut self, mode: Mode, ob: u16, passed: &mut TickResult)
         requires { IsTrue (is_delay ob) }
-        ensures { course_of self.new passed.new
-            ≡ delay_ended mode ob (course_of self.old passed.old) }
+        ensures { tick_state_of self.new passed.new
+            ≡ delay_ended mode ob (tick_state_of self.old passed.old) }
     {
         let info = StartInfo::new(StartEvent::Delay { ob }, class_in(mode, ob));
         self.request(mode, ob, info, passed);
@@ -27,10 +27,10 @@ impl Sched {
     /// A period has ended: its organization block is requested, unless it is disabled or isn't loaded.
     /// One that is still pending or active is a time error.
     #[tactic(auto, unfolding(crate::specs::Millisecond::period_ended))]
-    fn end_period(&mut self, mode: Mode, active: &[u16], ob: u16, passed: &mut Passed)
+    fn end_period(&mut self, mode: Mode, active: &[u16], ob: u16, passed: &mut TickResult)
         requires { IsTrue (is_cyclic ob) }
-        ensures { course_of self.new passed.new
-            ≡ period_ended mode active.now ob (course_of self.old passed.old) }
+        ensures { tick_state_of self.new passed.new
+            ≡ period_ended mode active.now ob (tick_state_of self.old passed.old) }
     {
         if self.is_disabled(ob) || !self.is_loaded(ob) {
             return;
@@ -45,9 +45,9 @@ impl Sched {
 
     /// A millisecond of the cycle counter.
     #[tactic(auto, unfolding(crate::specs::Millisecond::cycle_counted))]
-    fn count_cycle(&mut self, mode: Mode, passed: &mut Passed)
-        ensures { course_of self.new passed.new
-            ≡ cycle_counted mode (course_of self.old passed.old) }
+    fn count_cycle(&mut self, mode: Mode, passed: &mut TickResult)
+        ensures { tick_state_of self.new passed.new
+            ≡ cycle_counted mode (tick_state_of self.old passed.old) }
     {
         if self.cycle.ms_left() > 1 {
             self.cycle.count(1);
@@ -63,10 +63,10 @@ impl Sched {
     }
 
     /// The delays that have ended, until the controller stops.
-    fn end_delays(&mut self, mode: Mode, obs: &[u16], passed: &mut Passed)
+    fn end_delays(&mut self, mode: Mode, obs: &[u16], passed: &mut TickResult)
         requires { AllPass is_delay obs.now }
-        ensures { course_of self.new passed.new
-            ≡ each_of (delay_ended mode) obs.now (course_of self.old passed.old) }
+        ensures { tick_state_of self.new passed.new
+            ≡ each_ob (delay_ended mode) obs.now (tick_state_of self.old passed.old) }
     {
         for ob in obs {
             if passed.stop.is_some() {
@@ -77,10 +77,10 @@ impl Sched {
     }
 
     /// The periods that have ended, until the controller stops.
-    fn end_periods(&mut self, mode: Mode, active: &[u16], obs: &[u16], passed: &mut Passed)
+    fn end_periods(&mut self, mode: Mode, active: &[u16], obs: &[u16], passed: &mut TickResult)
         requires { AllPass is_cyclic obs.now }
-        ensures { course_of self.new passed.new
-            ≡ each_of (period_ended mode active.now) obs.now (course_of self.old passed.old) }
+        ensures { tick_state_of self.new passed.new
+            ≡ each_ob (period_ended mode active.now) obs.now (tick_state_of self.old passed.old) }
     {
         for ob in obs {
             if passed.stop.is_some() {
@@ -91,18 +91,18 @@ impl Sched {
     }
 
     /// A millisecond of the clock.
-    fn count_time(&mut self, passed: &mut Passed)
+    fn count_time(&mut self, passed: &mut TickResult)
         requires { passed.old.ms + 1 < 2 ^ 32 }
-        ensures { course_of self.new passed.new ≡ time_counted (course_of self.old passed.old) }
+        ensures { tick_state_of self.new passed.new ≡ time_counted (tick_state_of self.old passed.old) }
     {
         passed.ms += 1;
         self.clock.count(1);
     }
 
     /// A millisecond of the started delays.
-    fn pass_delays(&mut self, mode: Mode, passed: &mut Passed)
-        ensures { course_of self.new passed.new
-            ≡ delays_passed mode (course_of self.old passed.old) }
+    fn pass_delays(&mut self, mode: Mode, passed: &mut TickResult)
+        ensures { tick_state_of self.new passed.new
+            ≡ delays_passed mode (tick_state_of self.old passed.old) }
     {
         let obs = self.countdowns.ending();
         self.countdowns.count_delays();
@@ -110,9 +110,9 @@ impl Sched {
     }
 
     /// A millisecond of the periods.
-    fn pass_periods(&mut self, mode: Mode, active: &[u16], passed: &mut Passed)
-        ensures { course_of self.new passed.new
-            ≡ periods_passed mode active.now (course_of self.old passed.old) }
+    fn pass_periods(&mut self, mode: Mode, active: &[u16], passed: &mut TickResult)
+        ensures { tick_state_of self.new passed.new
+            ≡ periods_passed mode active.now (tick_state_of self.old passed.old) }
     {
         let obs = self.countdowns.due();
         self.countdowns.count_periods();
@@ -120,9 +120,9 @@ impl Sched {
     }
 
     /// A millisecond of what moves in RUN alone, until the controller stops.
-    fn pass_run(&mut self, mode: Mode, active: &[u16], passed: &mut Passed)
-        ensures { course_of self.new passed.new
-            ≡ run_passed mode active.now (course_of self.old passed.old) }
+    fn pass_run(&mut self, mode: Mode, active: &[u16], passed: &mut TickResult)
+        ensures { tick_state_of self.new passed.new
+            ≡ run_passed mode active.now (tick_state_of self.old passed.old) }
     {
         if mode != Mode::Run || passed.stop.is_some() {
             return;
@@ -134,11 +134,11 @@ impl Sched {
     }
 
     /// One millisecond.
-    #[tactic(auto, unfolding(crate::specs::Millisecond::one_ms))]
-    fn pass_one_ms(&mut self, mode: Mode, active: &[u16], passed: &mut Passed)
+    #[tactic(auto, unfolding(crate::specs::Millisecond::after_ms))]
+    fn pass_one_ms(&mut self, mode: Mode, active: &[u16], passed: &mut TickResult)
         requires { passed.old.ms + 1 < 2 ^ 32 }
-        ensures { course_of self.new passed.new
-            ≡ one_ms mode active.now (course_of self.old passed.old) }
+        ensures { tick_state_of self.new passed.new
+            ≡ after_ms mode active.now (tick_state_of self.old passed.old) }
     {
         if passed.stop.is_some() {
             return;
@@ -150,7 +150,7 @@ impl Sched {
 
     /// Before so many milliseconds have passed nothing ends and nothing is due.
     fn ms_to_next(&self, mode: Mode) -> u32
-        ensures { Lasts mode result (scheduler_of self.now) }
+        ensures { NothingDueFor mode result (scheduler_of self.now) }
     {
         match mode {
             Mode::Run => self.countdowns.least().min(self.cycle.ms_left()),
@@ -159,12 +159,12 @@ impl Sched {
     }
 
     /// Milliseconds in which nothing ends and nothing is due.
-    fn wait(&mut self, mode: Mode, ms: u32, passed: &mut Passed)
+    fn wait(&mut self, mode: Mode, ms: u32, passed: &mut TickResult)
         requires fits { passed.old.ms + ms < 2 ^ 32 }
         requires running { passed.old.stop ≡ None }
-        requires quiet { 0 < ms → Lasts mode (ms + 1) (scheduler_of self.old) }
-        ensures { (active : List ℕ) → course_of self.new passed.new
-            ≡ iterate (one_ms mode active) ms (course_of self.old passed.old) }
+        requires quiet { 0 < ms → NothingDueFor mode (ms + 1) (scheduler_of self.old) }
+        ensures { (active : List ℕ) → tick_state_of self.new passed.new
+            ≡ iterate (after_ms mode active) ms (tick_state_of self.old passed.old) }
     {
         if ms == 0 {
             return;
@@ -187,11 +187,11 @@ impl Sched {
     }
 
     /// Milliseconds, from one moment at which something ends or is due to the next.
-    fn pass(&mut self, n: u32, mode: Mode, active: &[u16]) -> Passed
-        ensures { course_of self.new result
-            ≡ iterate (one_ms mode active.now) n (begun (scheduler_of self.old)) }
+    fn pass(&mut self, n: u32, mode: Mode, active: &[u16]) -> TickResult
+        ensures { tick_state_of self.new result
+            ≡ iterate (after_ms mode active.now) n (tick_begun (scheduler_of self.old)) }
     {
-        let mut passed = Passed::new();
+        let mut passed = TickResult::new();
         let mut left = n;
         while left > 0 {
             let quiet = self.ms_to_next(mode).min(left).saturating_sub(1);
@@ -208,13 +208,13 @@ impl Sched {
     /// Passes `n` milliseconds in an operating mode, where the given organization blocks are active:
     /// the clock, the started delays by number, and in RUN the cyclic interrupts by number and the
     /// cycle counter. A stop ends it. In STOP nothing passes.
-    pub fn pass_ms(&mut self, n: u32, mode: Mode, active: &[u16]) -> Passed
-        ensures { course_of self.new result ≡ ticked mode active.now n (scheduler_of self.old) }
+    pub fn pass_ms(&mut self, n: u32, mode: Mode, active: &[u16]) -> TickResult
+        ensures { tick_state_of self.new result ≡ after_tick mode active.now n (scheduler_of self.old) }
     {
         match mode {
             Mode::Run => self.pass(n, Mode::Run, active),
             Mode::Startup => self.pass(n, Mode::Startup, active),
-            Mode::Stop { .. } => Passed::new(),
+            Mode::Stop { .. } => TickResult::new(),
         }
     }
 }

@@ -2,7 +2,7 @@
 use Rattle.std.proofs.Common.{◌≡◌, ℕ, zero, suc, ◌+◌, ◌-◌, ◌*◌, ◌/◌, ◌%◌, ◌^◌, ◌<◌, ◌≤◌, Bool, true, false, ◌&&◌, nat_le, refl, sym, ◌∙◌, ap, arith, lit<}
 use Rattle.std.proofs.Math.Nat.{div-div-eq-div-mul, pow-succ', pow-le-pow_right}
 use Rattle.std.proofs.lemmas.Nat.{pow-add}
-use Rattle.plc_base.specs.Bcd.{are_decimal, spelled, bcd_digits}
+use Rattle.plc_base.specs.Bcd.{are_bcd_digits, bcd_value, bcd_digits}
 
 -- the bits above the lowest digit, moved down by k digits, are those above digit k
 div-shift : (w k : ℕ) → w / 16 / 2 ^ (4 * k) ≡ w / 2 ^ (4 * suc k)
@@ -15,7 +15,7 @@ and-assoc true b c = refl
 and-assoc false b c = refl
 
 -- one digit more: the highest one weighs the most
-pub spelled-suc : (i w : ℕ) → spelled (suc i) w ≡ spelled i w + 10 ^ i * (w / 2 ^ (4 * i) % 16)
+pub spelled-suc : (i w : ℕ) → bcd_value (suc i) w ≡ bcd_value i w + 10 ^ i * (w / 2 ^ (4 * i) % 16)
 spelled-suc zero w = grind arith
 spelled-suc (suc i) w =
     let e : 10 ^ suc i * (w / 2 ^ (4 * suc i) % 16) ≡ 10 * (10 ^ i * (w / 16 / 2 ^ (4 * i) % 16)) =
@@ -23,29 +23,29 @@ spelled-suc (suc i) w =
     ∙ omega (arith, ap (λ p. p * (w / 16 / 2 ^ (4 * i) % 16)) (pow-succ' 10 i)) in
     omega (arith, spelled-suc i (w / 16), e)
 
-pub are_decimal-suc : (i w : ℕ) → are_decimal (suc i) w ≡ are_decimal i w && nat_le (w / 2 ^ (4 * i) % 16) 9
+pub are_decimal-suc : (i w : ℕ) → are_bcd_digits (suc i) w ≡ are_bcd_digits i w && nat_le (w / 2 ^ (4 * i) % 16) 9
 are_decimal-suc zero w = grind arith
 are_decimal-suc (suc i) w =
     ap (λ b. nat_le (w % 16) 9 && b) (are_decimal-suc i (w / 16))
-    ∙ ap (λ m. nat_le (w % 16) 9 && (are_decimal i (w / 16) && nat_le (m % 16) 9)) (div-shift w i)
-    ∙ sym (and-assoc (nat_le (w % 16) 9) (are_decimal i (w / 16)) (nat_le (w / 2 ^ (4 * suc i) % 16) 9))
+    ∙ ap (λ m. nat_le (w % 16) 9 && (are_bcd_digits i (w / 16) && nat_le (m % 16) 9)) (div-shift w i)
+    ∙ sym (and-assoc (nat_le (w % 16) 9) (are_bcd_digits i (w / 16)) (nat_le (w / 2 ^ (4 * suc i) % 16) 9))
 
-decimal_digit : (i w : ℕ) → w / 2 ^ (4 * i) % 16 ≤ 9 → are_decimal (suc i) w ≡ are_decimal i w
+decimal_digit : (i w : ℕ) → w / 2 ^ (4 * i) % 16 ≤ 9 → are_bcd_digits (suc i) w ≡ are_bcd_digits i w
 decimal_digit i w small =
     let e : nat_le (w / 2 ^ (4 * i) % 16) 9 ≡ true = grind arith in
-    are_decimal-suc i w ∙ ap (λ b. are_decimal i w && b) e ∙ and-true (are_decimal i w)
+    are_decimal-suc i w ∙ ap (λ b. are_bcd_digits i w && b) e ∙ and-true (are_bcd_digits i w)
   where
     and-true : (a : Bool) → a && true ≡ a
     and-true true = refl
     and-true false = refl
 
 -- a digit above 9 below digit i
-pub bad_digit : (i w : ℕ) → 0 < i → 9 < w / 2 ^ (4 * (i - 1)) % 16 → are_decimal i w ≡ false
+pub bad_digit : (i w : ℕ) → 0 < i → 9 < w / 2 ^ (4 * (i - 1)) % 16 → are_bcd_digits i w ≡ false
 bad_digit zero w some bad = absurd (omega arith)
 bad_digit (suc i) w some bad =
     let d : suc i - 1 ≡ i = omega arith in
     let e : nat_le (w / 2 ^ (4 * i) % 16) 9 ≡ false = grind (arith, ap (λ j. w / 2 ^ (4 * j) % 16) d) in
-    are_decimal-suc i w ∙ ap (λ b. are_decimal i w && b) e ∙ and-false (are_decimal i w)
+    are_decimal-suc i w ∙ ap (λ b. are_bcd_digits i w && b) e ∙ and-false (are_bcd_digits i w)
   where
     and-false : (a : Bool) → a && false ≡ false
     and-false true = refl
@@ -57,8 +57,8 @@ pow_bound count i few some = pow-le-pow_right (lit< tt) {i = count - i} {j = 6} 
 
 -- the digit below the ones that were read
 pub step : (count i w number : ℕ) → 0 < i → i ≤ count → w / 2 ^ (4 * (i - 1)) % 16 ≤ 9
-    → (are_decimal i w ≡ are_decimal (i - 1) w)
-    × (spelled i w + 10 ^ i * number ≡ spelled (i - 1) w + 10 ^ (i - 1) * (10 * number + w / 2 ^ (4 * (i - 1)) % 16))
+    → (are_bcd_digits i w ≡ are_bcd_digits (i - 1) w)
+    × (bcd_value i w + 10 ^ i * number ≡ bcd_value (i - 1) w + 10 ^ (i - 1) * (10 * number + w / 2 ^ (4 * (i - 1)) % 16))
     × (number < 10 ^ (count - i) → 10 * number + w / 2 ^ (4 * (i - 1)) % 16 < 10 ^ (count - (i - 1)))
 step count zero w number some fits small = absurd (omega arith)
 step count (suc i) w number some fits small =
@@ -112,7 +112,7 @@ above : (digit rest : ℕ) → digit < 16 → (digit + 16 * rest) / 16 ≡ rest
 above digit rest small = omega arith
 
 -- digits spell the number that they were made of, whatever stands above them
-pub spelled-bcd_digits : (n high number : ℕ) → number < 10 ^ n → spelled n (2 ^ (4 * n) * high + bcd_digits n number) ≡ number
+pub spelled-bcd_digits : (n high number : ℕ) → number < 10 ^ n → bcd_value n (2 ^ (4 * n) * high + bcd_digits n number) ≡ number
 spelled-bcd_digits zero high number small = omega arith
 spelled-bcd_digits (suc n) high number small =
     let rest : ℕ = 2 ^ (4 * n) * high + bcd_digits n (number / 10) in
@@ -121,7 +121,7 @@ spelled-bcd_digits (suc n) high number small =
     (omega arith)
 
 -- they are decimal digits
-pub are_decimal-bcd_digits : (n high number : ℕ) → are_decimal n (2 ^ (4 * n) * high + bcd_digits n number) ≡ true
+pub are_decimal-bcd_digits : (n high number : ℕ) → are_bcd_digits n (2 ^ (4 * n) * high + bcd_digits n number) ≡ true
 are_decimal-bcd_digits zero high number = refl
 are_decimal-bcd_digits (suc n) high number =
     let rest : ℕ = 2 ^ (4 * n) * high + bcd_digits n (number / 10) in

@@ -3,7 +3,7 @@ use Rattle.std.specs.List.{flat_map, AllByRecursion}
 use Rattle.std.proofs.lemmas.List.Elements.{Contains-append_right}
 use Rattle.std.proofs.lemmas.Bool.{cases_Bool}
 use Rattle.plc_base.specs.declared.refusals.Refusal.{Refusal}
-use Rattle.plc_base.specs.Least.{least, lesser, is_before, IsLeast}
+use Rattle.plc_base.specs.Least.{least, lesser, is_refusal_before, IsLeastRefusal}
 
 pub lesser_assoc : (a b c : Option Refusal) → lesser (lesser a b) c ≡ lesser a (lesser b c)
 unfolding lesser
@@ -49,36 +49,36 @@ least_none [] e = refl
 least_none (r ∷ rs) e = absurd (least_cons_some r (least rs) e)
 
 -- none that is before a lesser one is before
-all_after : (a b : Refusal) (rs : List Refusal) → is_before a b ≡ true → AllByRecursion (λ q. is_before q a ≡ false) rs → AllByRecursion (λ q. is_before q a ≡ false) rs
+all_after : (a b : Refusal) (rs : List Refusal) → is_refusal_before a b ≡ true → AllByRecursion (λ q. is_refusal_before q a ≡ false) rs → AllByRecursion (λ q. is_refusal_before q a ≡ false) rs
 all_after a b rs e h = h
 
-not_before : (a b : Refusal) → is_before b a ≡ true → is_before a b ≡ false
+not_before : (a b : Refusal) → is_refusal_before b a ≡ true → is_refusal_before a b ≡ false
 not_before a b e = grind arith
 
-not_self : (a : Refusal) → is_before a a ≡ false
+not_self : (a : Refusal) → is_refusal_before a a ≡ false
 not_self a = grind arith
 
-after_all : (a b : Refusal) (rs : List Refusal) → is_before b a ≡ false → AllByRecursion (λ q. is_before q b ≡ false) rs → AllByRecursion (λ q. is_before q a ≡ false) rs
+after_all : (a b : Refusal) (rs : List Refusal) → is_refusal_before b a ≡ false → AllByRecursion (λ q. is_refusal_before q b ≡ false) rs → AllByRecursion (λ q. is_refusal_before q a ≡ false) rs
 after_all a b [] e h = tt
 after_all a b (q ∷ rs) e h = (let here = h.0 in grind arith, after_all a b rs e h.1)
 
-least_step : (q : Refusal) (rs : List Refusal) (o : Option Refusal) (r : Refusal) → least rs ≡ o → ((s : Refusal) → o ≡ Some s → IsLeast rs s) → lesser (Some q) o ≡ Some r → IsLeast (q ∷ rs) r
+least_step : (q : Refusal) (rs : List Refusal) (o : Option Refusal) (r : Refusal) → least rs ≡ o → ((s : Refusal) → o ≡ Some s → IsLeastRefusal rs s) → lesser (Some q) o ≡ Some r → IsLeastRefusal (q ∷ rs) r
 unfolding lesser
 least_step q rs None r is_o later e =
     let same : q ≡ r = cc in
     let none : rs ≡ [] = least_none rs is_o in
-    subst (λ (s : Refusal). IsLeast (q ∷ rs) s) same (subst (λ (l : List Refusal). IsLeast (q ∷ l) q) (sym none) ((0, omega arith, refl), (not_self q, tt)))
+    subst (λ (s : Refusal). IsLeastRefusal (q ∷ rs) s) same (subst (λ (l : List Refusal). IsLeastRefusal (q ∷ l) q) (sym none) ((0, omega arith, refl), (not_self q, tt)))
 least_step q rs (Some s) r is_o later e =
     ⊎_elim
     (λ y.
     let same : s ≡ r = let taken = rw y at e in cc in
-    subst (λ (t : Refusal). IsLeast (q ∷ rs) t) same (Contains-append_right (q ∷ []) rs s (later s refl).0, (not_before q s y, (later s refl).1)))
+    subst (λ (t : Refusal). IsLeastRefusal (q ∷ rs) t) same (Contains-append_right (q ∷ []) rs s (later s refl).0, (not_before q s y, (later s refl).1)))
     (λ n.
     let same : q ≡ r = let taken = rw n at e in cc in
-    subst (λ (t : Refusal). IsLeast (q ∷ rs) t) same ((0, omega arith, refl), (not_self q, after_all q s rs n (later s refl).1)))
-    (cases_Bool (is_before s q))
+    subst (λ (t : Refusal). IsLeastRefusal (q ∷ rs) t) same ((0, omega arith, refl), (not_self q, after_all q s rs n (later s refl).1)))
+    (cases_Bool (is_refusal_before s q))
 
-pub least_some : (rs : List Refusal) (r : Refusal) → least rs ≡ Some r → IsLeast rs r
+pub least_some : (rs : List Refusal) (r : Refusal) → least rs ≡ Some r → IsLeastRefusal rs r
 least_some [] r e = cc
 least_some (q ∷ rs) r e = least_step q rs (least rs) r refl (λ s h. least_some rs s h) e
 

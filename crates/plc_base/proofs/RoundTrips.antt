@@ -2,8 +2,8 @@
 use Rattle.std.proofs.Common.{◌≡◌, ℕ, suc, ◌+◌, ◌*◌, ◌/◌, ◌%◌, ◌^◌, ◌<◌, ◌≤◌, Bool, true, false, nat_le, nat_lt, refl, sym, ◌∙◌, ap, arith, lit<, ℤ, pos, negsuc, nat_abs, Some, option_and_then, List, [], ◌∷◌, find, if◌then◌else◌}
 use Rattle.std.proofs.Math.Nat.{mul-add-div, one-le-pow, div-eq_of_lt}
 use Rattle.plc_base.specs.Bcd.{bcd_digits, unsigned_of_bcd, signed_of_bcd, bcd_of_signed, with_sign}
-use Rattle.plc_base.specs.Pointer.{area_of, area_number, place_of, pointer_of}
-use Rattle.plc_base.specs.S5Time.{unit_of, base_number, base_of_s5time, s5time_of_units, time_bases, smallest_base, s5time_of, ms_of}
+use Rattle.plc_base.specs.Pointer.{area_numbered, area_number, place_at_pointer, pointer_of}
+use Rattle.plc_base.specs.S5Time.{unit_of, base_number, base_of_s5time, s5time_of_units, time_bases, smallest_base, s5time_of_ms, ms_of_s5time}
 use Rattle.plc_base.specs.declared.s5times.TimeBase.{TimeBase}
 use Rattle.plc_base.specs.declared.s5times.TimeBase.TheVariants.{TenMs, HundredMs, OneSecond, TenSeconds}
 use Rattle.plc_base.specs.declared.places.Area.{Area}
@@ -43,7 +43,7 @@ signed_of_bcd-bcd_of_signed n (negsuc size) small =
     rw (e, signed-bcd n 15 (suc size) (lit< tt) small)
 
 -- the number of each area names it
-area_of-area_number : (area : Area) → area_of (area_number area) ≡ Some area
+area_of-area_number : (area : Area) → area_numbered (area_number area) ≡ Some area
 area_of-area_number P = refl
 area_of-area_number I = refl
 area_of-area_number Q = refl
@@ -62,8 +62,8 @@ area_number-bound Di = omega arith
 area_number-bound L = omega arith
 
 pub place_of-pointer_of : (place : Place) → place.number ≡ 0 → place.byte < 2 ^ 16 → place.bit ≤ 7
-    → place_of (pointer_of place) ≡ Some place
-unfolding place_of
+    → place_at_pointer (pointer_of place) ≡ Some place
+unfolding place_at_pointer
 place_of-pointer_of place no_number byte bit =
     let most : area_number place.area ≤ 6 = area_number-bound place.area in
     let pointer : ℕ = 2 ^ 31 + 2 ^ 24 * area_number place.area + 2 ^ 3 * place.byte + place.bit in
@@ -85,8 +85,8 @@ base_of-s5time_of_units base units =
     ]
 
 -- an S5TIME has the milliseconds of its units
-ms_of-s5time_of_units : (base : TimeBase) (units : ℕ) → units < 1000 → ms_of (s5time_of_units base units) ≡ Some (units * unit_of base)
-unfolding ms_of
+ms_of-s5time_of_units : (base : TimeBase) (units : ℕ) → units < 1000 → ms_of_s5time (s5time_of_units base units) ≡ Some (units * unit_of base)
+unfolding ms_of_s5time
 ms_of-s5time_of_units base units small =
     rw (unsigned_of_bcd-digits 3 (base_number base) units small, base_of-s5time_of_units base units)
 
@@ -112,8 +112,8 @@ units-bound ms OneSecond fits = omega arith
 units-bound ms TenSeconds fits = omega arith
 
 pub ms_of-s5time_of : (ms : ℕ) (base : TimeBase) → smallest_base ms ≡ Some base
-    → option_and_then ms_of (s5time_of ms) ≡ Some (ms / unit_of base * unit_of base)
-unfolding s5time_of
+    → option_and_then ms_of_s5time (s5time_of_ms ms) ≡ Some (ms / unit_of base * unit_of base)
+unfolding s5time_of_ms
 ms_of-s5time_of ms base smallest =
     let small : ms / unit_of base < 1000 = units-bound ms base (fits-smallest_base ms base smallest) in
     rw (smallest, ms_of-s5time_of_units base (ms / unit_of base) small)

@@ -3,14 +3,14 @@
 use Rattle.std.specs.Prelude.{ℕ, zero, suc, ◌+◌, ◌*◌, ◌/◌, ◌%◌, ◌^◌, Bool, true, ◌&&◌, nat_le, nat_lt, ◌==◌, if◌then◌else◌, ℤ, pos, negsuc, neg_ℤ, nat_abs, Option, Some, None, option_and_then}
 
 -- whether each of the lowest n digits of the word is a decimal digit, 0 to 9
-abbrev pub are_decimal : ℕ → ℕ → Bool
-are_decimal zero word = true
-are_decimal (suc n) word = nat_le (word % 16) 9 && are_decimal n (word / 16)
+abbrev pub are_bcd_digits : ℕ → ℕ → Bool
+are_bcd_digits zero word = true
+are_bcd_digits (suc n) word = nat_le (word % 16) 9 && are_bcd_digits n (word / 16)
 
 -- the number that the lowest n digits of the word spell
-abbrev pub spelled : ℕ → ℕ → ℕ
-spelled zero word = 0
-spelled (suc n) word = word % 16 + 10 * spelled n (word / 16)
+abbrev pub bcd_value : ℕ → ℕ → ℕ
+bcd_value zero word = 0
+bcd_value (suc n) word = word % 16 + 10 * bcd_value n (word / 16)
 
 -- the word whose lowest n digits are the lowest n decimal digits of the number, and all above 0
 abbrev pub bcd_digits : ℕ → ℕ → ℕ
@@ -19,7 +19,7 @@ bcd_digits (suc n) number = number % 10 + 16 * bcd_digits n (number / 10)
 
 -- the number of a BCD word of n digits with no sign; none where a digit is above 9
 unfoldable pub unsigned_of_bcd : ℕ → ℕ → Option ℕ
-unsigned_of_bcd n word = if are_decimal n word then Some (spelled n word) else None
+unsigned_of_bcd n word = if are_bcd_digits n word then Some (bcd_value n word) else None
 
 -- the size with the sign of a sign digit; none where that is neither 0 nor 15
 abbrev pub with_sign : ℕ → ℕ → Option ℤ

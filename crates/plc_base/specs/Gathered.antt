@@ -4,8 +4,8 @@ use Rattle.plc_base.specs.declared.refusals.Refusal.{Refusal}
 
 -- `broken` of each element with what is `known` before it; the walk ends before the first element
 -- that stops it
-abbrev pub gathered : {S X : Type 0} → (stops : X → Bool) → (broken : S → X → List Refusal)
+abbrev pub refusals_along : {S X : Type 0} → (stops : X → Bool) → (broken : S → X → List Refusal)
     → (known : S → X → S) → S → List X → List Refusal
-gathered stops broken known s [] = []
-gathered stops broken known s (x ∷ xs) =
-    if stops x then [] else broken s x ++ gathered stops broken known (known s x) xs
+refusals_along stops broken known s [] = []
+refusals_along stops broken known s (x ∷ xs) =
+    if stops x then [] else broken s x ++ refusals_along stops broken known (known s x) xs

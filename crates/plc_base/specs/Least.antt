@@ -4,14 +4,14 @@ use Rattle.std.specs.List.{Contains, AllByRecursion}
 use Rattle.plc_base.specs.declared.refusals.Refusal.{Refusal}
 
 -- one refusal comes before another: by line, then by rule
-abbrev pub is_before : Refusal → Refusal → Bool
-is_before a b = nat_lt a.line b.line || (nat_eq a.line b.line && nat_lt a.rule b.rule)
+abbrev pub is_refusal_before : Refusal → Refusal → Bool
+is_refusal_before a b = nat_lt a.line b.line || (nat_eq a.line b.line && nat_lt a.rule b.rule)
 
 -- the lesser of two refusals
 unfoldable pub lesser : Option Refusal → Option Refusal → Option Refusal
 lesser None other = other
 lesser (Some a) None = Some a
-lesser (Some a) (Some b) = if is_before b a then Some b else Some a
+lesser (Some a) (Some b) = if is_refusal_before b a then Some b else Some a
 
 -- the least refusal of a list
 abbrev pub least : List Refusal → Option Refusal
@@ -19,8 +19,8 @@ least [] = None
 least (r ∷ rs) = lesser (Some r) (least rs)
 
 -- a refusal of the list, and none of the list is before it
-abbrev pub IsLeast : List Refusal → Refusal → Type 0
-IsLeast rs r = Contains rs r × AllByRecursion (λ q. is_before q r ≡ false) rs
+abbrev pub IsLeastRefusal : List Refusal → Refusal → Type 0
+IsLeastRefusal rs r = Contains rs r × AllByRecursion (λ q. is_refusal_before q r ≡ false) rs
 
 -- the refusal by a rule that a line breaks, or none
 abbrev pub broken_if : Bool → (line rule : ℕ) → List Refusal

@@ -16,8 +16,8 @@ area_number Di = 5
 area_number L = 6
 
 -- the area of a number; none for 7
-abbrev pub area_of : ℕ → Option Area
-area_of number =
+abbrev pub area_numbered : ℕ → Option Area
+area_numbered number =
     if number == 0 then Some P
     else if number == 1 then Some I
     else if number == 2 then Some Q
@@ -29,11 +29,11 @@ area_of number =
 
 -- the place that an area-crossing pointer names, with data block number 0; none where bit 31 is 0 or
 -- the area number is 7
-unfoldable pub place_of : ℕ → Option Place
-place_of pointer =
+unfoldable pub place_at_pointer : ℕ → Option Place
+place_at_pointer pointer =
     if pointer / 2 ^ 31 % 2 == 1
     then option_map (λ area. record { area = area; number = 0; byte = pointer / 2 ^ 3 % 2 ^ 16; bit = pointer % 2 ^ 3 })
-    (area_of (pointer / 2 ^ 24 % 8))
+    (area_numbered (pointer / 2 ^ 24 % 8))
     else None
 
 -- the area-crossing pointer to a place, with all bits that mean nothing 0

@@ -43,9 +43,9 @@ smallest_base ms = find (λ base. nat_le ms (999 * unit_of base)) time_bases
 
 -- the S5TIME of a number of milliseconds, cut down to whole units of the smallest base that holds
 -- it; none above 9,990,000
-unfoldable pub s5time_of : ℕ → Option ℕ
-s5time_of ms = option_map (λ base. s5time_of_units base (ms / unit_of base)) (smallest_base ms)
+unfoldable pub s5time_of_ms : ℕ → Option ℕ
+s5time_of_ms ms = option_map (λ base. s5time_of_units base (ms / unit_of base)) (smallest_base ms)
 
 -- the milliseconds of an S5TIME; none where a digit is above 9
-unfoldable pub ms_of : ℕ → Option ℕ
-ms_of word = option_map (λ units. units * unit_of (base_of_s5time word)) (unsigned_of_bcd 3 word)
+unfoldable pub ms_of_s5time : ℕ → Option ℕ
+ms_of_s5time word = option_map (λ units. units * unit_of (base_of_s5time word)) (unsigned_of_bcd 3 word)

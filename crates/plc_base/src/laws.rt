@@ -2,10 +2,10 @@
 
 ghost use Rattle.std.specs.Prelude.{◌≡◌, ◌≤◌, ◌*◌, ◌/◌, List, [], None, Some, nat_abs, option_and_then};
 ghost use Rattle.plc_base.specs.Bcd.{signed_of_bcd, bcd_of_signed};
-ghost use Rattle.plc_base.specs.Least.{least, IsLeast};
-ghost use Rattle.plc_base.specs.Pointer.{place_of, pointer_of};
+ghost use Rattle.plc_base.specs.Least.{least, IsLeastRefusal};
+ghost use Rattle.plc_base.specs.Pointer.{place_at_pointer, pointer_of};
 ghost use Rattle.plc_base.specs.declared.refusals.Refusal.{Refusal};
-ghost use Rattle.plc_base.specs.S5Time.{ms_of, s5time_of, smallest_base, unit_of};
+ghost use Rattle.plc_base.specs.S5Time.{ms_of_s5time, s5time_of_ms, smallest_base, unit_of};
 
 use crate::places::Place;
 use crate::s5times::TimeBase;
@@ -26,7 +26,7 @@ pub fn dint_and_back(number: i32)
 pub fn place_and_back(place: &Place)
     requires no_number { place.now.number ≡ 0 }
     requires bit { place.now.bit ≤ 7 }
-    ensures { place_of (pointer_of place.now) ≡ Some place.now }
+    ensures { place_at_pointer (pointer_of place.now) ≡ Some place.now }
 {
     let _byte = place.byte;
 }
@@ -34,12 +34,12 @@ pub fn place_and_back(place: &Place)
 /// A time comes back from its S5TIME, cut down to whole units of its base.
 pub fn ms_and_back(ms: u32, base: TimeBase)
     requires { smallest_base ms ≡ Some base }
-    ensures { option_and_then ms_of (s5time_of ms) ≡ Some (ms / unit_of base * unit_of base) }
+    ensures { option_and_then ms_of_s5time (s5time_of_ms ms) ≡ Some (ms / unit_of base * unit_of base) }
 {}
 
 /// The least refusal of a list is one of the list, and none of the list comes before it; only the
 /// empty list has none.
 pub fn law_of_least()
     ensures none { (rs : List Refusal) → least rs ≡ None → rs ≡ [] }
-    ensures some { (rs : List Refusal) (r : Refusal) → least rs ≡ Some r → IsLeast rs r }
+    ensures some { (rs : List Refusal) (r : Refusal) → least rs ≡ Some r → IsLeastRefusal rs r }
 {}

@@ -1,6 +1,6 @@
 ghost use Rattle.std.specs.Prelude.{◌≡◌, ◌≤◌};
 ghost use Rattle.plc_base.specs.AreaBytes.{is_peripheral_byte};
-ghost use Rattle.plc_base.specs.Pointer.{area_number, area_of};
+ghost use Rattle.plc_base.specs.Pointer.{area_number, area_numbered};
 ghost use Rattle.plc_base.specs.Widths.{byte_count, bit_count, width_number};
 
 /// The width of an operand: one bit, or one, two or four bytes.
@@ -81,7 +81,7 @@ impl Area {
 
     /// The area of this number in a pointer. `None` exactly for a number above 6.
     pub fn from_number(number: u8) -> Option<Area>
-        ensures { result ≡ area_of number }
+        ensures { result ≡ area_numbered number }
     {
         match number {
             0 => Some(Area::P),

@@ -1,5 +1,5 @@
 ghost use Rattle.std.specs.Prelude.{◌≡◌, ◌≤◌, MatchResult};
-ghost use Rattle.plc_base.specs.Pointer.{place_of, pointer_of};
+ghost use Rattle.plc_base.specs.Pointer.{place_at_pointer, pointer_of};
 
 use crate::places::{Area, Place};
 
@@ -12,11 +12,11 @@ pub struct BadArea;
 /// # Errors
 ///
 /// `BadArea` exactly where bit 31 is 0 or the area bits are 7.
-#[tactic(auto, unfolding(crate::specs::Pointer::place_of))]
+#[tactic(auto, unfolding(crate::specs::Pointer::place_at_pointer))]
 pub fn place_of_pointer(pointer: u32) -> Result<Place, BadArea>
     ensures { MatchResult result
-        (λ place. place_of pointer ≡ Some place)
-        (λ _. place_of pointer ≡ None) }
+        (λ place. place_at_pointer pointer ≡ Some place)
+        (λ _. place_at_pointer pointer ≡ None) }
 {
     if pointer >> 31 == 0 {
         return Err(BadArea);

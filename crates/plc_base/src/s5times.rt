@@ -1,5 +1,5 @@
 ghost use Rattle.std.specs.Prelude.{◌≡◌, ◌≤◌, ◌<◌, ◌*◌, ◌+◌, ◌↔◌, MatchResult, IfOk, IsErr};
-ghost use Rattle.plc_base.specs.S5Time.{unit_of, base_number, base_of_s5time, s5time_of_units, s5time_of, ms_of};
+ghost use Rattle.plc_base.specs.S5Time.{unit_of, base_number, base_of_s5time, s5time_of_units, s5time_of_ms, ms_of_s5time};
 
 use crate::bcd::{BadBcd, bcd_to_unsigned, unsigned_to_bcd};
 
@@ -67,11 +67,11 @@ impl TimeBase {
 /// # Errors
 ///
 /// `TooLong` exactly above 9,990,000.
-#[tactic(auto, unfolding(crate::specs::S5Time::s5time_of, crate::specs::S5Time::smallest_base))]
+#[tactic(auto, unfolding(crate::specs::S5Time::s5time_of_ms, crate::specs::S5Time::smallest_base))]
 pub fn s5time_of_ms(ms: u32) -> Result<u16, TooLong>
     ensures value { MatchResult result
-        (λ word. s5time_of ms ≡ Some word)
-        (λ _. s5time_of ms ≡ None) }
+        (λ word. s5time_of_ms ms ≡ Some word)
+        (λ _. s5time_of_ms ms ≡ None) }
     ensures refused { IsErr result ↔ (9990000 < ms) }
 {
     let base = match ms {
@@ -89,9 +89,9 @@ pub fn s5time_of_ms(ms: u32) -> Result<u16, TooLong>
 /// # Errors
 ///
 /// `BadBcd` exactly where one of its three digits is above 9.
-#[tactic(auto, unfolding(crate::specs::S5Time::ms_of))]
+#[tactic(auto, unfolding(crate::specs::S5Time::ms_of_s5time))]
 pub fn ms_of_s5time(word: u16) -> Result<u32, BadBcd>
-    ensures value { MatchResult result (λ ms. ms_of word ≡ Some ms) (λ _. ms_of word ≡ None) }
+    ensures value { MatchResult result (λ ms. ms_of_s5time word ≡ Some ms) (λ _. ms_of_s5time word ≡ None) }
     ensures bound { IfOk result (λ ms. ms ≤ 999 * unit_of (base_of_s5time word)) }
 {
     match bcd_to_unsigned(u32::from(word), 3) {

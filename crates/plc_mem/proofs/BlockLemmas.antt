@@ -4,7 +4,7 @@ use Rattle.std.proofs.Math.Seq.{take-suc}
 use Rattle.std.proofs.lemmas.List.{take-append-drop}
 use Rattle.plc_base.specs.declared.Width.{Width}
 use Rattle.plc_mem.specs.declared.faults.Missing.{Missing}
-use Rattle.plc_mem.specs.Writing.{put, put_in_block}
+use Rattle.plc_mem.specs.Writing.{put_number, put_in_block}
 use Rattle.std.specs.declared.cmp.Ordering.{Ordering}
 use Rattle.std.specs.declared.cmp.Ordering.TheVariants.{Less, Equal, Greater}
 use Rattle.std.specs.Ordering.{nat_cmp, eq_by_cmp, is_eq}
@@ -15,7 +15,7 @@ use Rattle.std.specs.FinMap as map
 use Rattle.std.specs.FinMap.{get-from_entries, get-insert, same_map, nat_cmp-IsAntisymmetric, find, from_entries_push}
 use Rattle.std.specs.BTreeMap as tree
 use Rattle.std.specs.BTreeMap.{BTreeMap}
-use Rattle.plc_mem.specs.Blocks.{blocks_of, bytes_of, numbers_of}
+use Rattle.plc_mem.specs.Blocks.{data_block_map, bytes_by_number, block_numbers}
 use Rattle.std.specs.List.{IsDistinct, AllByRecursion}
 use Rattle.std.proofs.lemmas.List.{map-append}
 use Rattle.std.proofs.lemmas.Map.Keys.{IsDistinct-head, IsDistinct-tail}
@@ -26,14 +26,14 @@ mapped_cond : (b : Bool) (v : Vec ℕ Global) (o : Option (Vec ℕ Global)) (r :
 mapped_cond true v o r e = refl
 mapped_cond false v o r e = e
 
-find_bytes : (k : ℕ) (entries : List (ℕ × Vec ℕ Global)) → find nat_cmp k (bytes_of entries) ≡ option_map (λ (v : Vec ℕ Global). v.items) (lookup (tree.is_at (nat_cmp k)) entries)
+find_bytes : (k : ℕ) (entries : List (ℕ × Vec ℕ Global)) → find nat_cmp k (bytes_by_number entries) ≡ option_map (λ (v : Vec ℕ Global). v.items) (lookup (tree.is_at (nat_cmp k)) entries)
 find_bytes k [] = refl
-find_bytes k (e ∷ es) = mapped_cond (eq_by_cmp nat_cmp k e.0) e.1 (lookup (tree.is_at (nat_cmp k)) es) (find nat_cmp k (bytes_of es)) (find_bytes k es)
+find_bytes k (e ∷ es) = mapped_cond (eq_by_cmp nat_cmp k e.0) e.1 (lookup (tree.is_at (nat_cmp k)) es) (find nat_cmp k (bytes_by_number es)) (find_bytes k es)
 
 -- a block's bytes are those of the vector at its number
-pub get_blocks : (m : BTreeMap ℕ (Vec ℕ Global)) (k : ℕ) → map.get (blocks_of m.entries) k ≡ option_map (λ (v : Vec ℕ Global). v.items) (tree.get nat_cmp m k)
-unfolding blocks_of
-get_blocks m k = get-from_entries nat_cmp_total (bytes_of m.entries) k ∙ find_bytes k m.entries
+pub get_blocks : (m : BTreeMap ℕ (Vec ℕ Global)) (k : ℕ) → map.get (data_block_map m.entries) k ≡ option_map (λ (v : Vec ℕ Global). v.items) (tree.get nat_cmp m k)
+unfolding data_block_map
+get_blocks m k = get-from_entries nat_cmp_total (bytes_by_number m.entries) k ∙ find_bytes k m.entries
 
 written_get : (b : Bool) (w : Vec ℕ Global) (o : Option (Vec ℕ Global)) → option_map (λ (x : Vec ℕ Global). x.items) (cond b (Some w) o) ≡ cond b (Some w.items) (option_map (λ (x : Vec ℕ Global). x.items) o)
 written_get true w o = refl
@@ -43,7 +43,7 @@ is_there : (v : Vec ℕ Global) (o : Option (Vec ℕ Global)) → o ≡ Some v �
 is_there v o e = subst IsSome (sym e) refl
 
 -- to put a vector at a number is to insert its bytes there
-pub inserted : (m n : BTreeMap ℕ (Vec ℕ Global)) (k : ℕ) (w : Vec ℕ Global) → tree.Updates nat_cmp m n k (Some w) → blocks_of n.entries ≡ map.insert (blocks_of m.entries) k w.items
+pub inserted : (m n : BTreeMap ℕ (Vec ℕ Global)) (k : ℕ) (w : Vec ℕ Global) → tree.Updates nat_cmp m n k (Some w) → data_block_map n.entries ≡ map.insert (data_block_map m.entries) k w.items
 inserted m n k w updates =
     same_map nat_cmp_total nat_cmp-IsAntisymmetric _ _ (λ q.
     get_blocks n q
@@ -51,9 +51,9 @@ inserted m n k w updates =
     ∙ written_get (tree.is_at (nat_cmp k) q) w (tree.get nat_cmp m q)
     ∙ ap (λ (b : Bool). cond b (Some w.items) (option_map (λ (x : Vec ℕ Global). x.items) (tree.get nat_cmp m q))) ((eq_by_cmp_equiv nat_cmp_total).symm k q)
     ∙ ap (cond (eq_by_cmp nat_cmp q k) (Some w.items)) (sym (get_blocks m q))
-    ∙ sym (get-insert nat_cmp_total (blocks_of m.entries) k w.items q))
+    ∙ sym (get-insert nat_cmp_total (data_block_map m.entries) k w.items q))
 
-put_blocks : (m n : BTreeMap ℕ (Vec ℕ Global)) (k : ℕ) (v w : Vec ℕ Global) → tree.get nat_cmp m k ≡ Some v → tree.WritesThrough nat_cmp (nat_cmp k) m w n → blocks_of n.entries ≡ map.insert (blocks_of m.entries) k w.items
+put_blocks : (m n : BTreeMap ℕ (Vec ℕ Global)) (k : ℕ) (v w : Vec ℕ Global) → tree.get nat_cmp m k ≡ Some v → tree.WritesThrough nat_cmp (nat_cmp k) m w n → data_block_map n.entries ≡ map.insert (data_block_map m.entries) k w.items
 put_blocks m n k v w found through = inserted m n k w (through.3 (is_there v _ found))
 
 same_choice : (b : map.FinMap nat_cmp (List ℕ)) (k q : ℕ) (x : List ℕ) (r : Ordering) → nat_cmp q k ≡ r → map.get b k ≡ Some x → cond (is_eq r) (Some x) (map.get b q) ≡ map.get b q
@@ -72,27 +72,27 @@ pub put_through :
     → tree.get nat_cmp m k ≡ Some v
     → tree.WritesThrough nat_cmp (nat_cmp k) m w n
     → w.items ≡ new
-    → MatchResult r (λ _. put v.items at bit width value ≡ Some new) (λ _. (put v.items at bit width value ≡ None) × (new ≡ v.items))
+    → MatchResult r (λ _. put_number v.items at bit width value ≡ Some new) (λ _. (put_number v.items at bit width value ≡ None) × (new ≡ v.items))
     → MatchResult
     r
-    (λ _. put_in_block (blocks_of m.entries) k at bit width value ≡ Some (blocks_of n.entries))
-    (λ _. (put_in_block (blocks_of m.entries) k at bit width value ≡ None) × (blocks_of n.entries ≡ blocks_of m.entries))
+    (λ _. put_in_block (data_block_map m.entries) k at bit width value ≡ Some (data_block_map n.entries))
+    (λ _. (put_in_block (data_block_map m.entries) k at bit width value ≡ None) × (data_block_map n.entries ≡ data_block_map m.entries))
 unfolding put_in_block
 put_through m n k at bit width value v w new (Ok _) found through same done =
-    let here : map.get (blocks_of m.entries) k ≡ Some v.items = get_blocks m k ∙ ap (option_map (λ (x : Vec ℕ Global). x.items)) found in
+    let here : map.get (data_block_map m.entries) k ≡ Some v.items = get_blocks m k ∙ ap (option_map (λ (x : Vec ℕ Global). x.items)) found in
     rw (here, done, put_blocks m n k v w found through, same) refl
 put_through m n k at bit width value v w new (Err _) found through same done =
-    let here : map.get (blocks_of m.entries) k ≡ Some v.items = get_blocks m k ∙ ap (option_map (λ (x : Vec ℕ Global). x.items)) found in
-    (rw (here, done.0) refl, put_blocks m n k v w found through ∙ ap (map.insert (blocks_of m.entries) k) (same ∙ done.1) ∙ insert_same (blocks_of m.entries) k v.items here)
+    let here : map.get (data_block_map m.entries) k ≡ Some v.items = get_blocks m k ∙ ap (option_map (λ (x : Vec ℕ Global). x.items)) found in
+    (rw (here, done.0) refl, put_blocks m n k v w found through ∙ ap (map.insert (data_block_map m.entries) k) (same ∙ done.1) ∙ insert_same (data_block_map m.entries) k v.items here)
 
 -- a write into a block that isn't there
-pub put_nowhere : (m : BTreeMap ℕ (Vec ℕ Global)) (k at bit : ℕ) (width : Width) (value : ℕ) → tree.get nat_cmp m k ≡ None → put_in_block (blocks_of m.entries) k at bit width value ≡ None
+pub put_nowhere : (m : BTreeMap ℕ (Vec ℕ Global)) (k at bit : ℕ) (width : Width) (value : ℕ) → tree.get nat_cmp m k ≡ None → put_in_block (data_block_map m.entries) k at bit width value ≡ None
 unfolding put_in_block
 put_nowhere m k at bit width value none = rw (get_blocks, none) refl
 
 -- ---- copies of a list of data blocks
 
-reached : (P : ℕ → Type 0) (k : ℕ) (v : Vec ℕ Global) (done rest : List (ℕ × Vec ℕ Global)) → AllByRecursion P (numbers_of (done ++ (k, v) ∷ rest)) → P k
+reached : (P : ℕ → Type 0) (k : ℕ) (v : Vec ℕ Global) (done rest : List (ℕ × Vec ℕ Global)) → AllByRecursion P (block_numbers (done ++ (k, v) ∷ rest)) → P k
 reached P k v [] rest h = h.0
 reached P k v (e ∷ es) rest h = reached P k v es rest h.1
 
@@ -102,7 +102,7 @@ apart a b Equal e differ = let same : b ≡ a = nat_cmp-IsAntisymmetric b a e in
 apart a b Greater e differ = refl
 
 -- a number that comes later isn't among the first blocks
-absent : (k : ℕ) (v : Vec ℕ Global) (done rest : List (ℕ × Vec ℕ Global)) → IsDistinct nat_eq (numbers_of (done ++ (k, v) ∷ rest)) → find nat_cmp k (bytes_of done) ≡ None
+absent : (k : ℕ) (v : Vec ℕ Global) (done rest : List (ℕ × Vec ℕ Global)) → IsDistinct nat_eq (block_numbers (done ++ (k, v) ∷ rest)) → find nat_cmp k (bytes_by_number done) ≡ None
 absent k v [] rest differ = refl
 absent k v (e ∷ es) rest differ =
     let other : eq_by_cmp nat_cmp k e.0 ≡ false =
@@ -112,16 +112,16 @@ absent k v (e ∷ es) rest differ =
 -- one more block
 pub one_more :
     (m n : BTreeMap ℕ (Vec ℕ Global)) (k : ℕ) (v w : Vec ℕ Global) (done rest : List (ℕ × Vec ℕ Global))
-    → IsDistinct nat_eq (numbers_of (done ++ (k, v) ∷ rest))
-    → blocks_of m.entries ≡ map.from_entries (bytes_of done)
+    → IsDistinct nat_eq (block_numbers (done ++ (k, v) ∷ rest))
+    → data_block_map m.entries ≡ map.from_entries (bytes_by_number done)
     → tree.Updates nat_cmp m n k (Some w)
     → w.items ≡ v.items
-    → blocks_of n.entries ≡ map.from_entries (bytes_of (done ++ (k, v) ∷ []))
+    → data_block_map n.entries ≡ map.from_entries (bytes_by_number (done ++ (k, v) ∷ []))
 one_more m n k v w done rest differ before updates same =
     inserted m n k w updates
     ∙ ap (λ (b : map.FinMap nat_cmp (List ℕ)). map.insert b k w.items) before
-    ∙ ap (map.insert (map.from_entries (bytes_of done)) k) same
-    ∙ sym (from_entries_push nat_cmp_total nat_cmp-IsAntisymmetric (bytes_of done) k v.items (absent k v done rest differ))
+    ∙ ap (map.insert (map.from_entries (bytes_by_number done)) k) same
+    ∙ sym (from_entries_push nat_cmp_total nat_cmp-IsAntisymmetric (bytes_by_number done) k v.items (absent k v done rest differ))
     ∙ ap map.from_entries (sym (map-append (λ (e : ℕ × Vec ℕ Global). (e.0, e.1.items)) done ((k, v) ∷ [])))
 
 -- a list at one of its elements

@@ -11,17 +11,17 @@ use Rattle.std.proofs.lemmas.Nat.Bits.{bit_at-lt, same_from_bits_below}
 use Rattle.std.proofs.lemmas.Bool.{true≢false}
 use Rattle.plc_mem.specs.Areas.{Areas, PeripheralBytes}
 use Rattle.plc_mem.specs.BitPlace.{BitPlace, Region, Inputs, Outputs, BitMemory, PeripheralInputs, PeripheralOutputs, DataBlock}
-use Rattle.plc_mem.specs.Bits.{bit_at, bit_in, bit_of, byte_at, peripheral_byte, block_byte}
+use Rattle.plc_mem.specs.Bits.{bit_at, bit_of_byte, is_bit_one, region_byte, peripheral_byte, block_byte}
 use Rattle.plc_mem.specs.Places.{SameBlocks, AreBytes, IsPeripheral, IsMemory}
 use Rattle.plc_mem.proofs.Numbers.{bit_in_some}
 use Rattle.plc_mem.proofs.Runs.{none_some, in_low, in_high}
 
 SameBits : (xs ys : List ℕ) → Type 0
-SameBits xs ys = (i b : ℕ) → bit_in (slice_get ys i) b ≡ bit_in (slice_get xs i) b
+SameBits xs ys = (i b : ℕ) → bit_of_byte (slice_get ys i) b ≡ bit_of_byte (slice_get xs i) b
 
 -- a bit of a byte that stands
-standing : (xs : List ℕ) (i b : ℕ) → i < length xs → b < 8 → bit_in (slice_get xs i) b ≡ Some (bit_of (slice_index xs i) b)
-standing xs i b within low = ap (λ (o : Option ℕ). bit_in o b) (slice_get-get_or xs i 0 within) ∙ bit_in_some (slice_index xs i) b low
+standing : (xs : List ℕ) (i b : ℕ) → i < length xs → b < 8 → bit_of_byte (slice_get xs i) b ≡ Some (is_bit_one (slice_index xs i) b)
+standing xs i b within low = ap (λ (o : Option ℕ). bit_of_byte o b) (slice_get-get_or xs i 0 within) ∙ bit_in_some (slice_index xs i) b low
 
 at_most_or_more : (a b : ℕ) → (a ≤ b) ⊎ (b < a)
 at_most_or_more a b = grind arith
@@ -32,7 +32,7 @@ no_longer xs ys same =
     elim (at_most_or_more (length ys) (length xs)) [
       | inl most ↦ most
       | inr more ↦
-          absurd (none_some (bit_of (slice_index ys (length xs)) 0) (sym (ap (λ (o : Option ℕ). bit_in o 0) (slice_get_past xs (length xs) (omega arith))) ∙ sym (same (length xs) 0) ∙ standing ys (length xs) 0 more (lit< tt)))
+          absurd (none_some (is_bit_one (slice_index ys (length xs)) 0) (sym (ap (λ (o : Option ℕ). bit_of_byte o 0) (slice_get_past xs (length xs) (omega arith))) ∙ sym (same (length xs) 0) ∙ standing ys (length xs) 0 more (lit< tt)))
     ]
 
 -- truth values tell bits apart
@@ -58,7 +58,7 @@ same_runs xs ys bx by same =
 -- ---- peripheral areas
 
 SamePeripheralBits : (p q : PeripheralBytes) → Type 0
-SamePeripheralBits p q = (i b : ℕ) → bit_in (peripheral_byte q i) b ≡ bit_in (peripheral_byte p i) b
+SamePeripheralBits p q = (i b : ℕ) → bit_of_byte (peripheral_byte q i) b ≡ bit_of_byte (peripheral_byte p i) b
 
 below_or_from : (n : ℕ) → (n < 256) ⊎ (256 ≤ n)
 below_or_from n = grind arith
@@ -68,18 +68,18 @@ unfolding SameBits SamePeripheralBits
 same_low p q hp hq same i b =
     elim (below_or_from i) [
       | inl below ↦
-          sym (ap (λ (o : Option ℕ). bit_in o b) (in_low q i below)) ∙ same i b ∙ ap (λ (o : Option ℕ). bit_in o b) (in_low p i below)
+          sym (ap (λ (o : Option ℕ). bit_of_byte o b) (in_low q i below)) ∙ same i b ∙ ap (λ (o : Option ℕ). bit_of_byte o b) (in_low p i below)
       | inr from ↦
-          ap (λ (o : Option ℕ). bit_in o b) (slice_get_past q.low i (omega (arith, hq.low.count_is)) ∙ sym (slice_get_past p.low i (omega (arith, hp.low.count_is))))
+          ap (λ (o : Option ℕ). bit_of_byte o b) (slice_get_past q.low i (omega (arith, hq.low.count_is)) ∙ sym (slice_get_past p.low i (omega (arith, hp.low.count_is))))
     ]
 
 same_high : (p q : PeripheralBytes) → SamePeripheralBits p q → SameBits p.high q.high
 unfolding SameBits SamePeripheralBits
 same_high p q same i b =
     let index : i + 256 - 256 ≡ i = omega arith in
-    sym (ap (λ (o : Option ℕ). bit_in o b) (in_high q (i + 256) (omega arith) ∙ ap (slice_get q.high) index))
+    sym (ap (λ (o : Option ℕ). bit_of_byte o b) (in_high q (i + 256) (omega arith) ∙ ap (slice_get q.high) index))
     ∙ same (i + 256) b
-    ∙ ap (λ (o : Option ℕ). bit_in o b) (in_high p (i + 256) (omega arith) ∙ ap (slice_get p.high) index)
+    ∙ ap (λ (o : Option ℕ). bit_of_byte o b) (in_high p (i + 256) (omega arith) ∙ ap (slice_get p.high) index)
 
 same_peripherals : (p q : PeripheralBytes) → IsPeripheral p → IsPeripheral q → SamePeripheralBits p q → q ≡ p
 same_peripherals p q hp hq same =
@@ -94,7 +94,7 @@ block_cases :
     → ((bytes : List ℕ) → xs ≡ Some bytes → AreBytes bytes)
     → ((bytes : List ℕ) → ys ≡ Some bytes → AreBytes bytes)
     → is_some ys ≡ is_some xs
-    → ((i b : ℕ) → bit_in (option_and_then (λ (s : List ℕ). slice_get s i) ys) b ≡ bit_in (option_and_then (λ (s : List ℕ). slice_get s i) xs) b)
+    → ((i b : ℕ) → bit_of_byte (option_and_then (λ (s : List ℕ). slice_get s i) ys) b ≡ bit_of_byte (option_and_then (λ (s : List ℕ). slice_get s i) xs) b)
     → ys ≡ xs
 unfolding SameBits
 block_cases (Some xs) (Some ys) bx by loaded same = ap Some (same_runs xs ys (bx xs refl) (by ys refl) same)
@@ -103,7 +103,7 @@ block_cases (Some xs) None bx by loaded same = absurd (true≢false (sym loaded)
 block_cases None (Some ys) bx by loaded same = absurd (true≢false loaded)
 
 same_block :
-    (m n : Areas) (k : ℕ) → IsMemory m → IsMemory n → SameBlocks m n → ((i b : ℕ) → bit_in (block_byte n.data_blocks k i) b ≡ bit_in (block_byte m.data_blocks k i) b)
+    (m n : Areas) (k : ℕ) → IsMemory m → IsMemory n → SameBlocks m n → ((i b : ℕ) → bit_of_byte (block_byte n.data_blocks k i) b ≡ bit_of_byte (block_byte m.data_blocks k i) b)
     → map.get n.data_blocks k ≡ map.get m.data_blocks k
 same_block m n k hm hn loaded same =
     block_cases (map.get m.data_blocks k) (map.get n.data_blocks k) (λ bytes e. hm.data_blocks k bytes e) (λ bytes e. hn.data_blocks k bytes e) (loaded k) same
@@ -113,7 +113,7 @@ same_block m n k hm hn loaded same =
 pub same_memory : (m n : Areas) → IsMemory m → IsMemory n → SameBlocks m n → ((place : BitPlace) → bit_at n place ≡ bit_at m place) → n ≡ m
 unfolding bit_at SameBits SamePeripheralBits
 same_memory m n hm hn loaded same =
-    let at : (region : Region) (i b : ℕ) → bit_in (byte_at n region i) b ≡ bit_in (byte_at m region i) b = λ region i b. same (record { region = region; byte = i; bit = b }) in
+    let at : (region : Region) (i b : ℕ) → bit_of_byte (region_byte n region i) b ≡ bit_of_byte (region_byte m region i) b = λ region i b. same (record { region = region; byte = i; bit = b }) in
     let inputs : n.inputs ≡ m.inputs = same_runs m.inputs n.inputs hm.inputs.bytes_are hn.inputs.bytes_are (at Inputs) in
     let outputs : n.outputs ≡ m.outputs = same_runs m.outputs n.outputs hm.outputs.bytes_are hn.outputs.bytes_are (at Outputs) in
     let bit_memory : n.bit_memory ≡ m.bit_memory = same_runs m.bit_memory n.bit_memory hm.bit_memory.bytes_are hn.bit_memory.bytes_are (at BitMemory) in

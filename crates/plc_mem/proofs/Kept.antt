@@ -13,27 +13,27 @@ use Rattle.plc_base.specs.Changes.{ChangesOrStays}
 use Rattle.plc_base.specs.Widths.{bit_count}
 use Rattle.plc_mem.specs.Areas.{Areas, PeripheralBytes}
 use Rattle.plc_mem.specs.declared.faults.Missing.{Missing}
-use Rattle.plc_mem.specs.Number.{weights_of, plus_weight, number_at, number_of, region_read, operand_bit}
+use Rattle.plc_mem.specs.Number.{weights_of, plus_weight, number_at, region_number, region_read, operand_bit}
 use Rattle.plc_mem.specs.BitPlace.{Region}
 use Rattle.plc_mem.specs.Bits.{bit_at}
 use Rattle.plc_base.specs.Profiles.{bit_memory_size}
 use Rattle.plc_base.specs.declared.Profile.{Profile}
 use Rattle.plc_mem.specs.Places.{IsBitMemory, AreBlocks, AreBytes, IsRun, IsPeripheral, HasParts, IsMemory}
-use Rattle.plc_mem.specs.Fresh.{clear_peripheral, cleared}
-use Rattle.plc_mem.specs.Restart.{bits_retained}
+use Rattle.plc_mem.specs.Fresh.{clear_peripheral, zeroed_memory}
+use Rattle.plc_mem.specs.Restart.{retained_bit_memory}
 use Rattle.plc_mem.specs.Run.{number_over, operand_bit_of}
-use Rattle.plc_mem.specs.Writing.{put, put_peripheral, put_in_block}
+use Rattle.plc_mem.specs.Writing.{put_number, put_peripheral, put_in_block}
 use Rattle.plc_mem.proofs.OneMemory.{put_run, put_peripheral_run, put_blocks_bytes, found_block}
 use Rattle.plc_mem.proofs.Lawful.{zero_count, zero_memory}
 use Rattle.plc_mem.proofs.Runs.{none_some, chained}
 
 pub run_kept : (count : ℕ) (old new : List ℕ) (at bit : ℕ) (width : Width) (value : ℕ) (r : Result (Unit {0}) Missing)
-    → IsRun count old → value < 2 ^ bit_count width → ChangesOrStays (put old at bit width value) old new r → IsRun count new
+    → IsRun count old → value < 2 ^ bit_count width → ChangesOrStays (put_number old at bit width value) old new r → IsRun count new
 run_kept count old new at bit width value (Ok _) run fits done = put_run count old new at bit width value run fits done
 run_kept count old new at bit width value (Err _) run fits stays = subst (IsRun count) (sym stays.1) run
 
 pub bits_kept : (old new : List ℕ) (at bit : ℕ) (width : Width) (value : ℕ) (r : Result (Unit {0}) Missing)
-    → IsBitMemory old → value < 2 ^ bit_count width → ChangesOrStays (put old at bit width value) old new r → IsBitMemory new
+    → IsBitMemory old → value < 2 ^ bit_count width → ChangesOrStays (put_number old at bit width value) old new r → IsBitMemory new
 bits_kept old new at bit width value r is fits done =
     let run : IsRun (bit_memory_size is.profile) new =
     run_kept (bit_memory_size is.profile) old new at bit width value r (record { count_is = is.count_is; bytes_are = is.bytes_are }) fits done in
@@ -57,7 +57,7 @@ pub clear_is : IsPeripheral clear_peripheral
 clear_is = record { low = zero_count 128; high = zero_count 512 }
 
 -- memory as it begins
-pub cleared_is : (profile : Profile) (blocks : map.FinMap nat_cmp (List ℕ)) → AreBlocks blocks → IsMemory (cleared profile blocks)
+pub cleared_is : (profile : Profile) (blocks : map.FinMap nat_cmp (List ℕ)) → AreBlocks blocks → IsMemory (zeroed_memory profile blocks)
 cleared_is profile blocks all = record {
   inputs = zero_count 128;
   outputs = zero_count 128;
@@ -89,12 +89,12 @@ append_bytes [] ys first second i = second i
 append_bytes (x ∷ xs) ys first second zero = first zero
 append_bytes (x ∷ xs) ys first second (suc i) = append_bytes xs ys (λ j. first (suc j)) second i
 
-retained_length : (bytes : List ℕ) → length (bits_retained bytes) ≡ length bytes
+retained_length : (bytes : List ℕ) → length (retained_bit_memory bytes) ≡ length bytes
 retained_length bytes =
     let rest : List ℕ = replicate (length bytes - 16) 0 in
     omega (arith, length-append (take 16 bytes) rest, length-take 16 bytes, length-replicate {A = ℕ} (length bytes - 16) 0)
 
-pub retained_is : (bytes : List ℕ) → IsBitMemory bytes → IsBitMemory (bits_retained bytes)
+pub retained_is : (bytes : List ℕ) → IsBitMemory bytes → IsBitMemory (retained_bit_memory bytes)
 retained_is bytes is = record {
   profile = is.profile;
   count_is = retained_length bytes ∙ is.count_is;
@@ -121,9 +121,9 @@ weights_below f zero v e = omega (arith, same_Some 0 v e)
 weights_below f (suc n) v e = more_weight n (weights_of f n) (f n) v (λ x is. weights_below f n x is) e
 
 pub number_fits : (m : Areas) (place : Place) (width : Width) (v : ℕ) → number_at m place width ≡ Some v → v < 2 ^ bit_count width
-unfolding number_at number_of
+unfolding number_at region_number
 number_fits m place width v e =
-    let found = chained (λ (region : Region). number_of m region place width) (region_read place) v e in
+    let found = chained (λ (region : Region). region_number m region place width) (region_read place) v e in
     weights_below (λ j. bit_at m (operand_bit found.0 place width j)) (bit_count width) v found.2
 
 pub over_fits : (bytes : ℕ → Option ℕ) (at bit : ℕ) (width : Width) (o : Option ℕ) → o ≡ number_over bytes at bit width → IfSome o (λ n. n < 2 ^ bit_count width)

@@ -19,19 +19,19 @@ use Rattle.plc_base.specs.declared.Width.TheVariants.{Bit, Byte, Word, Dword}
 use Rattle.plc_base.specs.declared.Place.{Place}
 use Rattle.plc_mem.specs.Areas.{Areas, PeripheralBytes}
 use Rattle.plc_mem.specs.BitPlace.{Region, bit_place, Inputs, Outputs, BitMemory, PeripheralInputs, PeripheralOutputs, DataBlock}
-use Rattle.plc_mem.specs.Bits.{bit_at, bit_in, bit_of, byte_at, peripheral_byte, block_byte}
+use Rattle.plc_mem.specs.Bits.{bit_at, bit_of_byte, is_bit_one, region_byte, peripheral_byte, block_byte}
 use Rattle.plc_base.specs.Widths.{bit_count}
-use Rattle.plc_mem.specs.Number.{weights_of, plus_weight, number_of, number_at, region_of, region_read, region_written, operand_bit, EachBitExists}
+use Rattle.plc_mem.specs.Number.{weights_of, plus_weight, region_number, number_at, region_of, region_read, region_written, operand_bit, EachBitExists}
 use Rattle.plc_base.specs.Profiles.{bit_memory_size}
 use Rattle.plc_base.specs.declared.Profile.{Profile}
 use Rattle.plc_mem.specs.Places.{IsBitMemory, IsRun, SamePlaces, IsMemory, IsPeripheral, AreBytes, HasImage, HasParts}
-use Rattle.plc_mem.specs.Writing.{written, written_in, put, put_peripheral, put_in_block, is_within}
-use Rattle.plc_mem.specs.Written.{IsWritten, bit_after, value_of_bit}
+use Rattle.plc_mem.specs.Writing.{number_written, number_written_in, put_number, put_peripheral, put_in_block, is_within}
+use Rattle.plc_mem.specs.Written.{IsNumberWritten, bit_after_write, value_of_bit}
 use Rattle.plc_mem.specs.Run.{number_over, operand_bit_of}
 use Rattle.plc_base.specs.AreaBytes.{is_peripheral_byte}
 use Rattle.plc_mem.specs.Peripherals.{with_input, outputs_cleared}
-use Rattle.plc_mem.specs.Refresh.{refreshed, IsRefreshed}
-use Rattle.plc_mem.specs.Fresh.{fresh, clear_peripheral}
+use Rattle.plc_mem.specs.Refresh.{memory_refreshed, IsRefreshed}
+use Rattle.plc_mem.specs.Fresh.{initial_memory, clear_peripheral}
 use Rattle.plc_mem.specs.Laws.{MemoryStarts, ReadsWhereEachBitExists, WritesWhereEachBitExists, NumbersAreReadBack, RefreshesBits, ClearsBits, SetsInputBits, PlacesStay}
 use Rattle.plc_mem.proofs.Numbers.{weights_none, no_byte as nothing, run_none, bit_in_some, low_number, high_number, over_none}
 use Rattle.plc_mem.proofs.Writes.{written_is, input_written, number_of_region}
@@ -58,8 +58,8 @@ unfolding weights_of
 weights_there f zero all = refl
 weights_there f (suc n) all = some_weight n (weights_of f n) (f n) (weights_there f n (λ j h. all j (omega arith))) (all n (omega arith))
 
-pub number_exists : (m : Areas) (region : Option Region) (place : Place) (width : Width) → IsSome (option_and_then (λ (r : Region). number_of m r place width) region) ↔ EachBitExists m region place width
-unfolding number_of
+pub number_exists : (m : Areas) (region : Option Region) (place : Place) (width : Width) → IsSome (option_and_then (λ (r : Region). region_number m r place width) region) ↔ EachBitExists m region place width
+unfolding region_number
 number_exists m None place width = (λ h. true≢false (sym h), λ h. absurd h)
 number_exists m (Some r) place width =
     (λ h j below. weights_need (λ (j : ℕ). bit_at m (operand_bit r place width j)) (bit_count width) h j below, λ h. weights_there (λ (j : ℕ). bit_at m (operand_bit r place width j)) (bit_count width) h)
@@ -83,7 +83,7 @@ pub numbers_are_read_back : (m : Areas) → IsMemory m → NumbersAreReadBack m
 unfolding number_at
 numbers_are_read_back m is n place width value fits other done =
     let words = written_is m n place width value (λ _. has_image m is) fits done in
-    ap (option_and_then (λ (r : Region). number_of n r place width)) (same_regions place.area place.number other ∙ words.1) ∙ words.2.number
+    ap (option_and_then (λ (r : Region). region_number n r place width)) (same_regions place.area place.number other ∙ words.1) ∙ words.2.number
 
 -- ---- places
 
@@ -91,11 +91,11 @@ kept_place : {A B : Type 0} (f : A → B) (o : Option A) → is_some (option_map
 kept_place f (Some x) = refl
 kept_place f None = refl
 
-pub written_places : (m n : Areas) (place : Place) (width : Width) (value : ℕ) → IsMemory m → value < 2 ^ bit_count width → written m place width value ≡ Some n → SamePlaces m n
+pub written_places : (m n : Areas) (place : Place) (width : Width) (value : ℕ) → IsMemory m → value < 2 ^ bit_count width → number_written m place width value ≡ Some n → SamePlaces m n
 written_places m n place width value is fits done =
     let words = written_is m n place width value (λ _. has_image m is) fits done in
     record {
-      bits = λ q. ap is_some (words.2.bits q) ∙ kept_place (bit_after words.0 place.byte place.bit width value q) (bit_at m q);
+      bits = λ q. ap is_some (words.2.bits q) ∙ kept_place (bit_after_write words.0 place.byte place.bit width value q) (bit_at m q);
       blocks = words.2.blocks;
     }
 
@@ -107,19 +107,19 @@ below_or_from n = grind arith
 within_or_past : (n : ℕ) (xs : List ℕ) → (n < length xs) ⊎ (length xs ≤ n)
 within_or_past n xs = grind arith
 
-low_byte : (p : PeripheralBytes) (n b : ℕ) → n < 128 → bit_in (peripheral_byte p n) b ≡ bit_in (slice_get p.low n) b
-low_byte p n b below = ap (λ (o : Option ℕ). bit_in o b) (in_low p n (omega arith))
+low_byte : (p : PeripheralBytes) (n b : ℕ) → n < 128 → bit_of_byte (peripheral_byte p n) b ≡ bit_of_byte (slice_get p.low n) b
+low_byte p n b below = ap (λ (o : Option ℕ). bit_of_byte o b) (in_low p n (omega arith))
 
-upper_byte : (p q : PeripheralBytes) (n b : ℕ) → length p.low ≡ 128 → length q.low ≡ 128 → q.high ≡ p.high → 128 ≤ n → bit_in (peripheral_byte q n) b ≡ bit_in (peripheral_byte p n) b
+upper_byte : (p q : PeripheralBytes) (n b : ℕ) → length p.low ≡ 128 → length q.low ≡ 128 → q.high ≡ p.high → 128 ≤ n → bit_of_byte (peripheral_byte q n) b ≡ bit_of_byte (peripheral_byte p n) b
 upper_byte p q n b hp hq same from =
     elim (below_or_from n) [
       | inl gap ↦
-          ap (λ (o : Option ℕ). bit_in o b) (in_low q n gap ∙ slice_get_past q.low n (omega (arith, hq)) ∙ sym (in_low p n gap ∙ slice_get_past p.low n (omega (arith, hp))))
-      | inr high ↦ ap (λ (o : Option ℕ). bit_in o b) (in_high q n high ∙ ap (λ (s : List ℕ). slice_get s (n - 256)) same ∙ sym (in_high p n high))
+          ap (λ (o : Option ℕ). bit_of_byte o b) (in_low q n gap ∙ slice_get_past q.low n (omega (arith, hq)) ∙ sym (in_low p n gap ∙ slice_get_past p.low n (omega (arith, hp))))
+      | inr high ↦ ap (λ (o : Option ℕ). bit_of_byte o b) (in_high q n high ∙ ap (λ (s : List ℕ). slice_get s (n - 256)) same ∙ sym (in_high p n high))
     ]
 
-refreshed_others : (m : Areas) (region : Region) (n b : ℕ) → region ≢ Inputs → region ≢ PeripheralOutputs → bit_at (refreshed m) (bit_place region n b) ≡ bit_at m (bit_place region n b)
-unfolding bit_at refreshed
+refreshed_others : (m : Areas) (region : Region) (n b : ℕ) → region ≢ Inputs → region ≢ PeripheralOutputs → bit_at (memory_refreshed m) (bit_place region n b) ≡ bit_at m (bit_place region n b)
+unfolding bit_at memory_refreshed
 refreshed_others m Inputs n b inputs outputs = absurd (inputs refl)
 refreshed_others m PeripheralOutputs n b inputs outputs = absurd (outputs refl)
 refreshed_others m Outputs n b inputs outputs = refl
@@ -131,39 +131,39 @@ either_some : (t p q : Bool) → is_some (cond t (Some p) None) ≡ is_some (con
 either_some true p q = refl
 either_some false p q = refl
 
-some_places : (b x y : ℕ) → is_some (bit_in (Some x) b) ≡ is_some (bit_in (Some y) b)
-some_places b x y = either_some (nat_lt b 8) (bit_of x b) (bit_of y b)
+some_places : (b x y : ℕ) → is_some (bit_of_byte (Some x) b) ≡ is_some (bit_of_byte (Some y) b)
+some_places b x y = either_some (nat_lt b 8) (is_bit_one x b) (is_bit_one y b)
 
 -- two runs of one length have the same bit places
-same_length_places : (xs ys : List ℕ) (n b : ℕ) → length ys ≡ length xs → is_some (bit_in (slice_get ys n) b) ≡ is_some (bit_in (slice_get xs n) b)
+same_length_places : (xs ys : List ℕ) (n b : ℕ) → length ys ≡ length xs → is_some (bit_of_byte (slice_get ys n) b) ≡ is_some (bit_of_byte (slice_get xs n) b)
 same_length_places xs ys n b same =
     elim (within_or_past n xs) [
       | inl within ↦
-          ap (λ (o : Option ℕ). is_some (bit_in o b)) (slice_get-get_or ys n 0 (omega (arith, same)))
+          ap (λ (o : Option ℕ). is_some (bit_of_byte o b)) (slice_get-get_or ys n 0 (omega (arith, same)))
           ∙ some_places b (get_or ys n 0) (get_or xs n 0)
-          ∙ sym (ap (λ (o : Option ℕ). is_some (bit_in o b)) (slice_get-get_or xs n 0 within))
-      | inr past ↦ ap (λ (o : Option ℕ). is_some (bit_in o b)) (slice_get_past ys n (omega (arith, same)) ∙ sym (slice_get_past xs n past))
+          ∙ sym (ap (λ (o : Option ℕ). is_some (bit_of_byte o b)) (slice_get-get_or xs n 0 within))
+      | inr past ↦ ap (λ (o : Option ℕ). is_some (bit_of_byte o b)) (slice_get_past ys n (omega (arith, same)) ∙ sym (slice_get_past xs n past))
     ]
 
-refreshed_places : (m : Areas) → IsMemory m → (region : Region) (n b : ℕ) → is_some (bit_at (refreshed m) (bit_place region n b)) ≡ is_some (bit_at m (bit_place region n b))
-unfolding bit_at refreshed
+refreshed_places : (m : Areas) → IsMemory m → (region : Region) (n b : ℕ) → is_some (bit_at (memory_refreshed m) (bit_place region n b)) ≡ is_some (bit_at m (bit_place region n b))
+unfolding bit_at memory_refreshed
 refreshed_places m is Inputs n b = same_length_places m.inputs m.peripheral_inputs.low n b (is.peripheral_inputs.low.count_is ∙ sym is.inputs.count_is)
 refreshed_places m is PeripheralOutputs n b =
     elim (below_or_from n) [
       | inl below ↦
-          ap (λ (o : Option ℕ). is_some (bit_in o b)) (in_low (record m.peripheral_outputs { low = m.outputs }) n below)
+          ap (λ (o : Option ℕ). is_some (bit_of_byte o b)) (in_low (record m.peripheral_outputs { low = m.outputs }) n below)
           ∙ same_length_places m.peripheral_outputs.low m.outputs n b (is.outputs.count_is ∙ sym is.peripheral_outputs.low.count_is)
-          ∙ sym (ap (λ (o : Option ℕ). is_some (bit_in o b)) (in_low m.peripheral_outputs n below))
+          ∙ sym (ap (λ (o : Option ℕ). is_some (bit_of_byte o b)) (in_low m.peripheral_outputs n below))
       | inr high ↦
-          ap (λ (o : Option ℕ). is_some (bit_in o b)) (in_high (record m.peripheral_outputs { low = m.outputs }) n high ∙ sym (in_high m.peripheral_outputs n high))
+          ap (λ (o : Option ℕ). is_some (bit_of_byte o b)) (in_high (record m.peripheral_outputs { low = m.outputs }) n high ∙ sym (in_high m.peripheral_outputs n high))
     ]
 refreshed_places m is Outputs n b = refl
 refreshed_places m is BitMemory n b = refl
 refreshed_places m is PeripheralInputs n b = refl
 refreshed_places m is (DataBlock k) n b = refl
 
-refreshed_memory : (m : Areas) → IsMemory m → IsMemory (refreshed m)
-unfolding refreshed
+refreshed_memory : (m : Areas) → IsMemory m → IsMemory (memory_refreshed m)
+unfolding memory_refreshed
 refreshed_memory m is = record {
   inputs = is.peripheral_inputs.low;
   outputs = is.outputs;
@@ -173,8 +173,8 @@ refreshed_memory m is = record {
   data_blocks = is.data_blocks;
 }
 
-refreshed_bits : (m : Areas) → IsMemory m → IsRefreshed m (refreshed m)
-unfolding bit_at refreshed
+refreshed_bits : (m : Areas) → IsMemory m → IsRefreshed m (memory_refreshed m)
+unfolding bit_at memory_refreshed
 refreshed_bits m is =
     let new : PeripheralBytes = record m.peripheral_outputs { low = m.outputs } in
     record {
@@ -194,39 +194,39 @@ no_ones : (t x : Bool) → cond t (Some false) None ≡ option_map (λ (_ : Bool
 no_ones true x = refl
 no_ones false x = refl
 
-zero_bits : (b x : ℕ) → bit_in (Some 0) b ≡ option_map (λ (_ : Bool). false) (bit_in (Some x) b)
+zero_bits : (b x : ℕ) → bit_of_byte (Some 0) b ≡ option_map (λ (_ : Bool). false) (bit_of_byte (Some x) b)
 zero_bits b x =
-    let zero_bit : bit_of 0 b ≡ false = ap (λ (d : ℕ). nat_eq d 1) (bit_at-zero b) in
-    ap (λ (z : Bool). cond (nat_lt b 8) (Some z) None) zero_bit ∙ no_ones (nat_lt b 8) (bit_of x b)
+    let zero_bit : is_bit_one 0 b ≡ false = ap (λ (d : ℕ). nat_eq d 1) (bit_at-zero b) in
+    ap (λ (z : Bool). cond (nat_lt b 8) (Some z) None) zero_bit ∙ no_ones (nat_lt b 8) (is_bit_one x b)
 
-zero_run : (count : ℕ) (xs : List ℕ) (n b : ℕ) → length xs ≡ count → bit_in (slice_get (replicate count 0) n) b ≡ option_map (λ (_ : Bool). false) (bit_in (slice_get xs n) b)
+zero_run : (count : ℕ) (xs : List ℕ) (n b : ℕ) → length xs ≡ count → bit_of_byte (slice_get (replicate count 0) n) b ≡ option_map (λ (_ : Bool). false) (bit_of_byte (slice_get xs n) b)
 zero_run count xs n b size =
     elim (within_or_past n xs) [
       | inl within ↦
           let zero_there : slice_get (replicate count 0) n ≡ Some 0 =
           slice_get-get_or (replicate count 0) n 0 (simp length-replicate (omega (arith, size))) ∙ ap Some (get_or-replicate count n 0 0 (omega (arith, size))) in
-          ap (λ (o : Option ℕ). bit_in o b) zero_there
+          ap (λ (o : Option ℕ). bit_of_byte o b) zero_there
           ∙ zero_bits b (get_or xs n 0)
-          ∙ sym (ap (λ (o : Option ℕ). option_map (λ (_ : Bool). false) (bit_in o b)) (slice_get-get_or xs n 0 within))
+          ∙ sym (ap (λ (o : Option ℕ). option_map (λ (_ : Bool). false) (bit_of_byte o b)) (slice_get-get_or xs n 0 within))
       | inr past ↦
-          ap (λ (o : Option ℕ). bit_in o b) (slice_get_past (replicate count 0) n (simp length-replicate (omega (arith, size))))
+          ap (λ (o : Option ℕ). bit_of_byte o b) (slice_get_past (replicate count 0) n (simp length-replicate (omega (arith, size))))
           ∙ nothing (nat_lt b 8) b
           ∙ sym
-          (ap (λ (o : Option ℕ). option_map (λ (_ : Bool). false) (bit_in o b)) (slice_get_past xs n past)
+          (ap (λ (o : Option ℕ). option_map (λ (_ : Bool). false) (bit_of_byte o b)) (slice_get_past xs n past)
           ∙ ap (option_map (λ (_ : Bool). false)) (nothing (nat_lt b 8) b))
     ]
 
-cleared_bits : (p : PeripheralBytes) (n b : ℕ) → IsPeripheral p → bit_in (peripheral_byte clear_peripheral n) b ≡ option_map (λ (_ : Bool). false) (bit_in (peripheral_byte p n) b)
+cleared_bits : (p : PeripheralBytes) (n b : ℕ) → IsPeripheral p → bit_of_byte (peripheral_byte clear_peripheral n) b ≡ option_map (λ (_ : Bool). false) (bit_of_byte (peripheral_byte p n) b)
 cleared_bits p n b is =
     elim (below_or_from n) [
       | inl below ↦
-          ap (λ (o : Option ℕ). bit_in o b) (in_low clear_peripheral n below)
+          ap (λ (o : Option ℕ). bit_of_byte o b) (in_low clear_peripheral n below)
           ∙ zero_run 128 p.low n b is.low.count_is
-          ∙ sym (ap (λ (o : Option ℕ). option_map (λ (_ : Bool). false) (bit_in o b)) (in_low p n below))
+          ∙ sym (ap (λ (o : Option ℕ). option_map (λ (_ : Bool). false) (bit_of_byte o b)) (in_low p n below))
       | inr high ↦
-          ap (λ (o : Option ℕ). bit_in o b) (in_high clear_peripheral n high)
+          ap (λ (o : Option ℕ). bit_of_byte o b) (in_high clear_peripheral n high)
           ∙ zero_run 512 p.high (n - 256) b is.high.count_is
-          ∙ sym (ap (λ (o : Option ℕ). option_map (λ (_ : Bool). false) (bit_in o b)) (in_high p n high))
+          ∙ sym (ap (λ (o : Option ℕ). option_map (λ (_ : Bool). false) (bit_of_byte o b)) (in_high p n high))
     ]
 
 cleared_others : (m : Areas) (region : Region) (n b : ℕ) → region ≢ PeripheralOutputs → bit_at (outputs_cleared m) (bit_place region n b) ≡ bit_at m (bit_place region n b)
@@ -269,22 +269,22 @@ clears_bits m is = (
 byte_place : ℕ → Place
 byte_place byte = record { area = P; number = 0; byte = byte; bit = 0 }
 
-number_places : (m : Areas) (region : Region) (place : Place) (width : Width) (value : ℕ) → number_of m region place width ≡ Some value → (j : ℕ) → j < bit_count width → IsSome (bit_at m (operand_bit region place width j))
-unfolding number_of
+number_places : (m : Areas) (region : Region) (place : Place) (width : Width) (value : ℕ) → region_number m region place width ≡ Some value → (j : ℕ) → j < bit_count width → IsSome (bit_at m (operand_bit region place width j))
+unfolding region_number
 number_places m region place width value is j h = weights_need (λ (j : ℕ). bit_at m (operand_bit region place width j)) (bit_count width) (ap is_some is) j h
 
 value_there : (f : Bool → Bool) (b : Bool) (o : Option Bool) → IsSome (option_map f o) → ((x : Bool) → f x ≡ b) → option_map f o ≡ Some b
 value_there f b (Some x) some is = ap Some (is x)
 value_there f b None some is = absurd (true≢false (sym some))
 
-input_value : (byte bit value : ℕ) (x : Bool) → bit_after PeripheralInputs byte 0 Byte value (bit_place PeripheralInputs byte bit) x ≡ bit_of value bit
+input_value : (byte bit value : ℕ) (x : Bool) → bit_after_write PeripheralInputs byte 0 Byte value (bit_place PeripheralInputs byte bit) x ≡ is_bit_one value bit
 input_value byte bit value x =
     let first : nat_le byte byte ≡ true = grind (arith, nat_tests) in
     let last : nat_lt byte (byte + 1) ≡ true = grind (arith, nat_tests) in
     let weight : 8 * (1 - 1 - (byte - byte)) + bit ≡ bit = omega arith in
-    rw (first, last) (ap (bit_of value) weight)
+    rw (first, last) (ap (is_bit_one value) weight)
 
-input_others : (byte value : ℕ) (region : Region) (n b : ℕ) (o : Option Bool) → bit_place region n b ≢ bit_place PeripheralInputs byte b → option_map (bit_after PeripheralInputs byte 0 Byte value (bit_place region n b)) o ≡ o
+input_others : (byte value : ℕ) (region : Region) (n b : ℕ) (o : Option Bool) → bit_place region n b ≢ bit_place PeripheralInputs byte b → option_map (bit_after_write PeripheralInputs byte 0 Byte value (bit_place region n b)) o ≡ o
 input_others byte value PeripheralInputs n b o other =
     let elsewhere : n ≢ byte = λ same. other (ap (λ (k : ℕ). bit_place PeripheralInputs k b) same) in
     let outside : (n < byte) ⊎ (byte + 1 ≤ n) = grind arith in
@@ -308,7 +308,7 @@ sets_input_bits m is n byte value fits done =
             subst (λ (i : ℕ). IsSome (bit_at n (bit_place PeripheralInputs byte i))) index
             (subst (λ (i : ℕ). IsSome (bit_at n (bit_place PeripheralInputs i (bit % 8)))) start (number_places n PeripheralInputs (byte_place byte) Byte value words.number bit low)) in
             words.bits (bit_place PeripheralInputs byte bit)
-            ∙ value_there (bit_after PeripheralInputs byte 0 Byte value (bit_place PeripheralInputs byte bit)) (bit_of value bit) (bit_at m (bit_place PeripheralInputs byte bit)) (subst IsSome (words.bits (bit_place PeripheralInputs byte bit)) there) (input_value byte bit value);
+            ∙ value_there (bit_after_write PeripheralInputs byte 0 Byte value (bit_place PeripheralInputs byte bit)) (is_bit_one value bit) (bit_at m (bit_place PeripheralInputs byte bit)) (subst IsSome (words.bits (bit_place PeripheralInputs byte bit)) there) (input_value byte bit value);
         others = λ q other. words.bits q ∙ input_others byte value q.region q.byte q.bit (bit_at m q) other;
         blocks = words.blocks;
       },
@@ -319,7 +319,7 @@ unfolding with_input byte_place
 input_places m n byte value is fits done =
     let words = input_written m n (byte_place byte) Byte value is.peripheral_inputs.low.count_is fits done in
     record {
-      bits = λ q. ap is_some (words.bits q) ∙ kept_place (bit_after PeripheralInputs byte 0 Byte value q) (bit_at m q);
+      bits = λ q. ap is_some (words.bits q) ∙ kept_place (bit_after_write PeripheralInputs byte 0 Byte value q) (bit_at m q);
       blocks = words.blocks;
     }
 
@@ -341,8 +341,8 @@ places_stay m is = (
 same_some_of : {A B C : Type 0} (f : B → C) (o : Option A) (p : Option B) → is_some p ≡ is_some o → is_some (option_map f p) ≡ is_some o
 same_some_of f o p same = kept_place f p ∙ same
 
-bit_stands : (bytes : List ℕ) (n b : ℕ) → n < length bytes → b < 8 → IsSome (bit_in (slice_get bytes n) b)
-bit_stands bytes n b within low = ap is_some (ap (λ (o : Option ℕ). bit_in o b) (slice_get-get_or bytes n 0 within) ∙ bit_in_some (slice_index bytes n) b low)
+bit_stands : (bytes : List ℕ) (n b : ℕ) → n < length bytes → b < 8 → IsSome (bit_of_byte (slice_get bytes n) b)
+bit_stands bytes n b within low = ap is_some (ap (λ (o : Option ℕ). bit_of_byte o b) (slice_get-get_or bytes n 0 within) ∙ bit_in_some (slice_index bytes n) b low)
 
 run_some : (bytes : List ℕ) (at bit : ℕ) (width : Width) → is_within bytes at bit width ≡ true → IsSome (number_over (slice_get bytes) at bit width)
 unfolding number_over
@@ -359,8 +359,8 @@ run_some bytes at bit Dword within =
     let room : at + 4 ≤ length bytes = grind (arith, nat_tests) in
     weights_there (operand_bit_of (slice_get bytes) at bit Dword) 32 (λ j h. bit_stands bytes (at + (4 - 1 - j / 8)) (j % 8) (omega arith) (omega arith))
 
-pub run_exists : (bytes : List ℕ) (at bit : ℕ) (width : Width) (value : ℕ) (within : Bool) → is_within bytes at bit width ≡ within → is_some (put bytes at bit width value) ≡ is_some (number_over (slice_get bytes) at bit width)
-unfolding put
+pub run_exists : (bytes : List ℕ) (at bit : ℕ) (width : Width) (value : ℕ) (within : Bool) → is_within bytes at bit width ≡ within → is_some (put_number bytes at bit width value) ≡ is_some (number_over (slice_get bytes) at bit width)
+unfolding put_number
 run_exists bytes at bit width value true e = rw e (sym (run_some bytes at bit width e))
 run_exists bytes at bit width value false e = rw e (sym (ap is_some (run_none bytes at bit width e)))
 
@@ -368,45 +368,45 @@ part_exists : (p : PeripheralBytes) (at bit : ℕ) (width : Width) (value : ℕ)
 unfolding put_peripheral
 part_exists p at bit width value size true e =
     let low : at < 256 = ltb-true at 256 e in
-    rw e (kept_place (λ (bytes : List ℕ). let r : PeripheralBytes = record p { low = bytes } in r) (put p.low at bit width value)
+    rw e (kept_place (λ (bytes : List ℕ). let r : PeripheralBytes = record p { low = bytes } in r) (put_number p.low at bit width value)
     ∙ run_exists p.low at bit width value (is_within p.low at bit width) refl
     ∙ sym (ap is_some (low_number p at bit width (omega (arith, size)) low)))
 part_exists p at bit width value size false e =
     let high : 256 ≤ at = grind (arith, nat_tests) in
-    rw e (kept_place (λ (bytes : List ℕ). let r : PeripheralBytes = record p { high = bytes } in r) (put p.high (at - 256) bit width value)
+    rw e (kept_place (λ (bytes : List ℕ). let r : PeripheralBytes = record p { high = bytes } in r) (put_number p.high (at - 256) bit width value)
     ∙ run_exists p.high (at - 256) bit width value (is_within p.high (at - 256) bit width) refl
     ∙ sym (ap is_some (high_number p at bit width high)))
 
 block_exists : (blocks : map.FinMap nat_cmp (List ℕ)) (k at bit : ℕ) (width : Width) (value : ℕ) → (o : Option (List ℕ)) → map.get blocks k ≡ o → is_some (put_in_block blocks k at bit width value) ≡ is_some (number_over (block_byte blocks k) at bit width)
 unfolding put_in_block
 block_exists blocks k at bit width value (Some bytes) e =
-    rw e (kept_place (λ (new : List ℕ). map.insert blocks k new) (put bytes at bit width value) ∙ run_exists bytes at bit width value (is_within bytes at bit width) refl
+    rw e (kept_place (λ (new : List ℕ). map.insert blocks k new) (put_number bytes at bit width value) ∙ run_exists bytes at bit width value (is_within bytes at bit width) refl
     ∙ sym (ap (λ (o : Option (List ℕ)). is_some (number_over (λ (n : ℕ). option_and_then (λ (s : List ℕ). slice_get s n) o) at bit width)) e))
 block_exists blocks k at bit width value None e =
     let none : block_byte blocks k at ≡ None = ap (option_and_then (λ (s : List ℕ). slice_get s at)) e in
     rw e (sym (ap is_some (over_none (block_byte blocks k) at bit width none)))
 
 abbrev SameExistence : Areas → Region → Place → Width → ℕ → Type 0
-SameExistence m region place width value = is_some (written_in m region place.byte place.bit width value) ≡ is_some (number_over (byte_at m region) place.byte place.bit width)
+SameExistence m region place width value = is_some (number_written_in m region place.byte place.bit width value) ≡ is_some (number_over (region_byte m region) place.byte place.bit width)
 
 inputs_exist : (m : Areas) (place : Place) (width : Width) (value : ℕ) → SameExistence m Inputs place width value
 inputs_exist m place width value =
-    kept_place (λ (s : List ℕ). let r : Areas = record m { inputs = s } in r) (put m.inputs place.byte place.bit width value)
+    kept_place (λ (s : List ℕ). let r : Areas = record m { inputs = s } in r) (put_number m.inputs place.byte place.bit width value)
     ∙ run_exists m.inputs place.byte place.bit width value (is_within m.inputs place.byte place.bit width) refl
 
 outputs_exist : (m : Areas) (place : Place) (width : Width) (value : ℕ) → SameExistence m Outputs place width value
 outputs_exist m place width value =
-    kept_place (λ (s : List ℕ). let r : Areas = record m { outputs = s } in r) (put m.outputs place.byte place.bit width value)
+    kept_place (λ (s : List ℕ). let r : Areas = record m { outputs = s } in r) (put_number m.outputs place.byte place.bit width value)
     ∙ run_exists m.outputs place.byte place.bit width value (is_within m.outputs place.byte place.bit width) refl
 
 memory_exists : (m : Areas) (place : Place) (width : Width) (value : ℕ) → SameExistence m BitMemory place width value
 memory_exists m place width value =
-    kept_place (λ (s : List ℕ). let r : Areas = record m { bit_memory = s } in r) (put m.bit_memory place.byte place.bit width value)
+    kept_place (λ (s : List ℕ). let r : Areas = record m { bit_memory = s } in r) (put_number m.bit_memory place.byte place.bit width value)
     ∙ run_exists m.bit_memory place.byte place.bit width value (is_within m.bit_memory place.byte place.bit width) refl
 
 peripheral_exists : (m : Areas) (place : Place) (width : Width) (value : ℕ) → HasImage m → SameExistence m PeripheralOutputs place width value
 peripheral_exists m place width value sizes =
-    kept_place (λ (p : PeripheralBytes). let r : Areas = record m { outputs = unwrap_or (put m.outputs place.byte place.bit width value) m.outputs; peripheral_outputs = p } in r) (put_peripheral m.peripheral_outputs place.byte place.bit width value)
+    kept_place (λ (p : PeripheralBytes). let r : Areas = record m { outputs = unwrap_or (put_number m.outputs place.byte place.bit width value) m.outputs; peripheral_outputs = p } in r) (put_peripheral m.peripheral_outputs place.byte place.bit width value)
     ∙ part_exists m.peripheral_outputs place.byte place.bit width value sizes.outputs_low (nat_lt place.byte 256) refl
 
 in_block_exists : (m : Areas) (k : ℕ) (place : Place) (width : Width) (value : ℕ) → SameExistence m (DataBlock k) place width value
@@ -418,14 +418,14 @@ in_block_exists m k place width value =
 lone_exists :
     (m : Areas) (region : Region) (place : Place) (width : Width) (value : ℕ) (is_zero : Bool)
     → (is_zero ≡ true → SameExistence m region place width value)
-    → is_some (option_and_then (λ (r : Region). written_in m r place.byte place.bit width value) (cond is_zero (Some region) None)) ≡ is_some (option_and_then (λ (r : Region). number_of m r place width) (cond is_zero (Some region) None))
+    → is_some (option_and_then (λ (r : Region). number_written_in m r place.byte place.bit width value) (cond is_zero (Some region) None)) ≡ is_some (option_and_then (λ (r : Region). region_number m r place width) (cond is_zero (Some region) None))
 lone_exists m region place width value true same = same refl ∙ sym (ap is_some (number_of_region m region place width))
 lone_exists m region place width value false same = refl
 
 exists_by_area :
     (m : Areas) (area : Area) (place : Place) (width : Width) (value : ℕ)
     → (region_of PeripheralOutputs area place.number ≡ Some PeripheralOutputs → HasImage m)
-    → is_some (option_and_then (λ (r : Region). written_in m r place.byte place.bit width value) (region_of PeripheralOutputs area place.number)) ≡ is_some (option_and_then (λ (r : Region). number_of m r place width) (region_of PeripheralOutputs area place.number))
+    → is_some (option_and_then (λ (r : Region). number_written_in m r place.byte place.bit width value) (region_of PeripheralOutputs area place.number)) ≡ is_some (option_and_then (λ (r : Region). region_number m r place width) (region_of PeripheralOutputs area place.number))
 exists_by_area m P place width value sizes =
     lone_exists m PeripheralOutputs place width value (nat_eq place.number 0)
     (λ zero_number. peripheral_exists m place width value (sizes (ap (λ (t : Bool). let r : Option Region = cond t (Some PeripheralOutputs) None in r) zero_number)))
@@ -436,8 +436,8 @@ exists_by_area m Db place width value sizes = in_block_exists m place.number pla
 exists_by_area m Di place width value sizes = refl
 exists_by_area m L place width value sizes = refl
 
-pub writing_exists : (m : Areas) (place : Place) (width : Width) (value : ℕ) → (region_written place ≡ Some PeripheralOutputs → HasImage m) → IsSome (written m place width value) ↔ EachBitExists m (region_written place) place width
-unfolding written
+pub writing_exists : (m : Areas) (place : Place) (width : Width) (value : ℕ) → (region_written place ≡ Some PeripheralOutputs → HasImage m) → IsSome (number_written m place width value) ↔ EachBitExists m (region_written place) place width
+unfolding number_written
 writing_exists m place width value sizes =
     let same = exists_by_area m place.area place width value sizes in
     let exists = number_exists m (region_written place) place width in
@@ -455,7 +455,7 @@ read_answers m place width (Err _) is = let exists = reads_where_each_bit_exists
 pub write_answers :
     (m n : Areas) (place : Place) (width : Width) (value : ℕ) (r : Result (Unit {0}) Missing)
     → (region_written place ≡ Some PeripheralOutputs → HasImage m)
-    → MatchResult r (λ _. written m place width value ≡ Some n) (λ _. (written m place width value ≡ None) × (n ≡ m))
+    → MatchResult r (λ _. number_written m place width value ≡ Some n) (λ _. (number_written m place width value ≡ None) × (n ≡ m))
     → IsOk r ↔ EachBitExists m (region_written place) place width
 write_answers m n place width value (Ok _) sizes is = let exists = writing_exists m place width value sizes in (λ _. exists.0 (ap is_some is), λ _. refl)
 write_answers m n place width value (Err _) sizes is =
@@ -466,8 +466,8 @@ pub write_bits :
     (m n : Areas) (place : Place) (width : Width) (value : ℕ) (r : Result (Unit {0}) Missing)
     → (region_written place ≡ Some PeripheralOutputs → HasImage m)
     → value < 2 ^ bit_count width
-    → MatchResult r (λ _. written m place width value ≡ Some n) (λ _. (written m place width value ≡ None) × (n ≡ m))
-    → OnOk r (IsWritten m n place width value)
+    → MatchResult r (λ _. number_written m place width value ≡ Some n) (λ _. (number_written m place width value ≡ None) × (n ≡ m))
+    → OnOk r (IsNumberWritten m n place width value)
 write_bits m n place width value (Ok _) sizes fits is = written_is m n place width value sizes fits is
 write_bits m n place width value (Err _) sizes fits is = tt
 
@@ -484,7 +484,7 @@ part_of_byte : (at : ℕ) → is_peripheral_byte at ≡ true → (at < 128) ⊎ 
 part_of_byte at there = grind (arith, nat_tests)
 
 byte_put : (p : PeripheralBytes) (at value : ℕ) → HasParts p → (at < 128) ⊎ ((256 ≤ at) × (at < 768)) → IsSome (put_peripheral p at 0 Byte value)
-unfolding put_peripheral put
+unfolding put_peripheral put_number
 byte_put p at value parts (inl low) =
     let first : nat_lt at 256 ≡ true = grind (arith, nat_tests) in
     let within : nat_le (at + 1) (length p.low) ≡ true = le-leb (at + 1) (length p.low) (omega (arith, parts.low)) in
@@ -520,7 +520,7 @@ block_found (e ∷ es) k bytes all found =
     found_block (eq_by_cmp nat_cmp k e.0) bytes e.1 (find nat_cmp k es) all.0 (λ s rest. block_found es k s all.1 rest) found
 
 pub memory_starts : MemoryStarts
-unfolding fresh
+unfolding initial_memory
 memory_starts profile blocks all = record {
   inputs = zero_count 128;
   outputs = zero_count 128;

@@ -13,8 +13,8 @@ use Rattle.plc_base.specs.declared.Place.{Place}
 use Rattle.plc_mem.specs.Areas.{Areas, PeripheralBytes}
 use Rattle.plc_mem.specs.Run.{number_over, operand_bit_of, number_of_bytes}
 use Rattle.plc_mem.specs.Writing.{is_within}
-use Rattle.plc_mem.specs.Bits.{bit_of, bit_in, bit_at as place_bit, byte_at, peripheral_byte}
-use Rattle.plc_mem.specs.Number.{weights_of, plus_weight, number_at, number_of, region_read}
+use Rattle.plc_mem.specs.Bits.{is_bit_one, bit_of_byte, bit_at as place_bit, region_byte, peripheral_byte}
+use Rattle.plc_mem.specs.Number.{weights_of, plus_weight, number_at, region_number, region_read}
 
 -- sums of the same bits are the same
 pub weights_same : (f g : ℕ → Option Bool) (n : ℕ) → ((j : ℕ) → j < n → f j ≡ g j) → weights_of f n ≡ weights_of g n
@@ -54,7 +54,7 @@ weight_step v n (suc zero) e h = ap Some (omega (arith, more_bits v n 1 e))
 weight_step v n (suc (suc b)) e h = absurd (omega arith)
 
 -- the bits of a number weigh that number
-pub weights_value : (f : ℕ → Option Bool) (v n : ℕ) → ((j : ℕ) → j < n → f j ≡ Some (bit_of v j)) → weights_of f n ≡ Some (v % 2 ^ n)
+pub weights_value : (f : ℕ → Option Bool) (v n : ℕ) → ((j : ℕ) → j < n → f j ≡ Some (is_bit_one v j)) → weights_of f n ≡ Some (v % 2 ^ n)
 unfolding weights_of
 weights_value f v zero bits = ap Some (omega arith)
 weights_value f v (suc n) bits =
@@ -71,34 +71,34 @@ bytes_value g at (suc k) = bytes_value g at k * 2 ^ 8 + g (at + k)
 
 -- bit j of that number, among the bytes
 abbrev pub byte_bit : (ℕ → Option ℕ) → (at k j : ℕ) → Option Bool
-byte_bit f at k j = bit_in (f (at + (k - 1 - j / 8))) (j % 8)
+byte_bit f at k j = bit_of_byte (f (at + (k - 1 - j / 8))) (j % 8)
 
-pub bit_in_some : (byte k : ℕ) → k < 8 → bit_in (Some byte) k ≡ Some (bit_of byte k)
+pub bit_in_some : (byte k : ℕ) → k < 8 → bit_of_byte (Some byte) k ≡ Some (is_bit_one byte k)
 bit_in_some byte k h = rw (lt-ltb k 8 h) refl
 
-low_bit : (f : ℕ → Option ℕ) (above low at k : ℕ) → f (at + k) ≡ Some low → (j : ℕ) → j < 8 → byte_bit f at (suc k) j ≡ Some (bit_of (above * 2 ^ 8 + low) j)
+low_bit : (f : ℕ → Option ℕ) (above low at k : ℕ) → f (at + k) ≡ Some low → (j : ℕ) → j < 8 → byte_bit f at (suc k) j ≡ Some (is_bit_one (above * 2 ^ 8 + low) j)
 low_bit f above low at k there j h =
     let last : at + (suc k - 1 - j / 8) ≡ at + k = omega arith in
     let bit : j % 8 ≡ j = omega arith in
-    ap (λ (i : ℕ). bit_in (f i) (j % 8)) last
-    ∙ ap (λ (o : Option ℕ). bit_in o (j % 8)) there
-    ∙ ap (bit_in (Some low)) bit
+    ap (λ (i : ℕ). bit_of_byte (f i) (j % 8)) last
+    ∙ ap (λ (o : Option ℕ). bit_of_byte o (j % 8)) there
+    ∙ ap (bit_of_byte (Some low)) bit
     ∙ bit_in_some low j h
     ∙ ap (λ (b : ℕ). Some (nat_eq b 1)) (sym (bit_at_cat_low above 8 low j h))
 
-high_bit : (f : ℕ → Option ℕ) (above low at k : ℕ) → low < 256 → (j : ℕ) → 8 ≤ j → byte_bit f at k (j - 8) ≡ Some (bit_of above (j - 8)) → byte_bit f at (suc k) j ≡ Some (bit_of (above * 2 ^ 8 + low) j)
+high_bit : (f : ℕ → Option ℕ) (above low at k : ℕ) → low < 256 → (j : ℕ) → 8 ≤ j → byte_bit f at k (j - 8) ≡ Some (is_bit_one above (j - 8)) → byte_bit f at (suc k) j ≡ Some (is_bit_one (above * 2 ^ 8 + low) j)
 high_bit f above low at k small j h before =
     let same : suc k - 1 - j / 8 ≡ k - 1 - (j - 8) / 8 = omega arith in
     let bit : j % 8 ≡ (j - 8) % 8 = omega arith in
-    ap (λ (i : ℕ). bit_in (f (at + i)) (j % 8)) same
-    ∙ ap (bit_in (f (at + (k - 1 - (j - 8) / 8)))) bit
+    ap (λ (i : ℕ). bit_of_byte (f (at + i)) (j % 8)) same
+    ∙ ap (bit_of_byte (f (at + (k - 1 - (j - 8) / 8)))) bit
     ∙ before
     ∙ ap (λ (b : ℕ). Some (nat_eq b 1)) (sym (bit_at_cat_high above 8 low j small h))
 
 low_or_high : (j : ℕ) → (j < 8) ⊎ (8 ≤ j)
 low_or_high j = grind arith
 
-pub byte_bits : (f : ℕ → Option ℕ) (g : ℕ → ℕ) (at k : ℕ) → ((i : ℕ) → i < k → g (at + i) < 256) → ((i : ℕ) → i < k → f (at + i) ≡ Some (g (at + i))) → (j : ℕ) → j < 8 * k → byte_bit f at k j ≡ Some (bit_of (bytes_value g at k) j)
+pub byte_bits : (f : ℕ → Option ℕ) (g : ℕ → ℕ) (at k : ℕ) → ((i : ℕ) → i < k → g (at + i) < 256) → ((i : ℕ) → i < k → f (at + i) ≡ Some (g (at + i))) → (j : ℕ) → j < 8 * k → byte_bit f at k j ≡ Some (is_bit_one (bytes_value g at k) j)
 byte_bits f g at zero small there j h = absurd (omega arith)
 byte_bits f g at (suc k) small there j h =
     elim (low_or_high j) [
@@ -111,8 +111,8 @@ byte_bits f g at (suc k) small there j h =
 -- ---- operands
 
 -- the number of a place is that of its region's bytes
-pub number_at_bytes : (m : Areas) (place : Place) (width : Width) → number_at m place width ≡ option_and_then (λ region. number_over (byte_at m region) place.byte place.bit width) (region_read place)
-unfolding number_at number_of number_over place_bit
+pub number_at_bytes : (m : Areas) (place : Place) (width : Width) → number_at m place width ≡ option_and_then (λ region. number_over (region_byte m region) place.byte place.bit width) (region_read place)
+unfolding number_at region_number number_over place_bit
 number_at_bytes m place Bit = refl
 number_at_bytes m place Byte = refl
 number_at_bytes m place Word = refl
@@ -122,7 +122,7 @@ pub one_false : (a b : Bool) → (a && b) ≡ false → (a ≡ false) ⊎ (b ≡
 one_false true b e = inr e
 one_false false b e = inl refl
 
-pub no_byte : (b : Bool) (k : ℕ) → if◌then◌else◌ b (option_map (λ (n : ℕ). bit_of n k) None) None ≡ None
+pub no_byte : (b : Bool) (k : ℕ) → if◌then◌else◌ b (option_map (λ (n : ℕ). is_bit_one n k) None) None ≡ None
 no_byte true k = refl
 no_byte false k = refl
 
@@ -142,8 +142,8 @@ run_number bytes at bit Bit small within =
     let tests = and_parts _ _ within in
     let here : at < length bytes = ltb-true _ _ tests.0 in
     let low : bit < 8 = ltb-true _ _ tests.1 in
-    let found : bit_in (slice_get bytes at) bit ≡ Some (bit_of (slice_index bytes at) bit) =
-    ap (λ (o : Option ℕ). bit_in o bit) (slice_get-get_or bytes at 0 here) ∙ bit_in_some (slice_index bytes at) bit low in
+    let found : bit_of_byte (slice_get bytes at) bit ≡ Some (is_bit_one (slice_index bytes at) bit) =
+    ap (λ (o : Option ℕ). bit_of_byte o bit) (slice_get-get_or bytes at 0 here) ∙ bit_in_some (slice_index bytes at) bit low in
     ap (plus_weight 0 (Some 0)) found ∙ lone_bit (bit_at (slice_index bytes at) bit) (bit_at-lt (slice_index bytes at) bit)
 run_number bytes at bit Byte small within =
     let room : at + 1 ≤ length bytes = grind (arith, nat_tests) in
@@ -161,10 +161,10 @@ run_number bytes at bit Dword small within =
 -- where an operand's first byte doesn't exist, or its last, it has no number
 pub over_none : (bytes : ℕ → Option ℕ) (at bit : ℕ) (width : Width) → bytes at ≡ None → number_over bytes at bit width ≡ None
 unfolding number_over
-over_none bytes at bit Bit none = weights_none (operand_bit_of bytes at bit Bit) 1 0 (lit< tt) (ap (λ (o : Option ℕ). bit_in o bit) none ∙ no_byte (nat_lt bit 8) bit)
-over_none bytes at bit Byte none = weights_none (operand_bit_of bytes at bit Byte) 8 0 (lit< tt) (ap (λ (i : ℕ). bit_in (bytes i) 0) (add-zero at) ∙ ap (λ (o : Option ℕ). bit_in o 0) none)
-over_none bytes at bit Word none = weights_none (operand_bit_of bytes at bit Word) 16 8 (lit< tt) (ap (λ (i : ℕ). bit_in (bytes i) 0) (add-zero at) ∙ ap (λ (o : Option ℕ). bit_in o 0) none)
-over_none bytes at bit Dword none = weights_none (operand_bit_of bytes at bit Dword) 32 24 (lit< tt) (ap (λ (i : ℕ). bit_in (bytes i) 0) (add-zero at) ∙ ap (λ (o : Option ℕ). bit_in o 0) none)
+over_none bytes at bit Bit none = weights_none (operand_bit_of bytes at bit Bit) 1 0 (lit< tt) (ap (λ (o : Option ℕ). bit_of_byte o bit) none ∙ no_byte (nat_lt bit 8) bit)
+over_none bytes at bit Byte none = weights_none (operand_bit_of bytes at bit Byte) 8 0 (lit< tt) (ap (λ (i : ℕ). bit_of_byte (bytes i) 0) (add-zero at) ∙ ap (λ (o : Option ℕ). bit_of_byte o 0) none)
+over_none bytes at bit Word none = weights_none (operand_bit_of bytes at bit Word) 16 8 (lit< tt) (ap (λ (i : ℕ). bit_of_byte (bytes i) 0) (add-zero at) ∙ ap (λ (o : Option ℕ). bit_of_byte o 0) none)
+over_none bytes at bit Dword none = weights_none (operand_bit_of bytes at bit Dword) 32 24 (lit< tt) (ap (λ (i : ℕ). bit_of_byte (bytes i) 0) (add-zero at) ∙ ap (λ (o : Option ℕ). bit_of_byte o 0) none)
 
 -- an operand that doesn't lie within a run has none
 pub run_none : (bytes : List ℕ) (at bit : ℕ) (width : Width) → is_within bytes at bit width ≡ false → number_over (slice_get bytes) at bit width ≡ None
@@ -172,31 +172,31 @@ unfolding number_over
 run_none bytes at bit Bit without =
     weights_none (operand_bit_of (slice_get bytes) at bit Bit) 1 0 (lit< tt)
     (elim (one_false (nat_lt at (length bytes)) (nat_lt bit 8) without) [
-      | inl past ↦ let far : length bytes ≤ at = grind (arith, nat_tests) in ap (λ (o : Option ℕ). bit_in o bit) (slice_get_past bytes at far) ∙ no_byte (nat_lt bit 8) bit
+      | inl past ↦ let far : length bytes ≤ at = grind (arith, nat_tests) in ap (λ (o : Option ℕ). bit_of_byte o bit) (slice_get_past bytes at far) ∙ no_byte (nat_lt bit 8) bit
       | inr high ↦ rw high refl
     ])
 run_none bytes at bit Byte without =
     let past : length bytes ≤ at + (1 - 1 - 0 / 8) = grind (arith, nat_tests) in
-    weights_none (operand_bit_of (slice_get bytes) at bit Byte) 8 0 (lit< tt) (ap (λ (o : Option ℕ). bit_in o 0) (slice_get_past bytes (at + (1 - 1 - 0 / 8)) past))
+    weights_none (operand_bit_of (slice_get bytes) at bit Byte) 8 0 (lit< tt) (ap (λ (o : Option ℕ). bit_of_byte o 0) (slice_get_past bytes (at + (1 - 1 - 0 / 8)) past))
 run_none bytes at bit Word without =
     let past : length bytes ≤ at + (2 - 1 - 0 / 8) = grind (arith, nat_tests) in
-    weights_none (operand_bit_of (slice_get bytes) at bit Word) 16 0 (lit< tt) (ap (λ (o : Option ℕ). bit_in o 0) (slice_get_past bytes (at + (2 - 1 - 0 / 8)) past))
+    weights_none (operand_bit_of (slice_get bytes) at bit Word) 16 0 (lit< tt) (ap (λ (o : Option ℕ). bit_of_byte o 0) (slice_get_past bytes (at + (2 - 1 - 0 / 8)) past))
 run_none bytes at bit Dword without =
     let past : length bytes ≤ at + (4 - 1 - 0 / 8) = grind (arith, nat_tests) in
-    weights_none (operand_bit_of (slice_get bytes) at bit Dword) 32 0 (lit< tt) (ap (λ (o : Option ℕ). bit_in o 0) (slice_get_past bytes (at + (4 - 1 - 0 / 8)) past))
+    weights_none (operand_bit_of (slice_get bytes) at bit Dword) 32 0 (lit< tt) (ap (λ (o : Option ℕ). bit_of_byte o 0) (slice_get_past bytes (at + (4 - 1 - 0 / 8)) past))
 
 -- operands of the same four bytes have the same number
 pub over_same : (f g : ℕ → Option ℕ) (at here bit : ℕ) (width : Width) → ((i : ℕ) → i < 4 → f (at + i) ≡ g (here + i)) → number_over f at bit width ≡ number_over g here bit width
 unfolding number_over
 over_same f g at here bit Bit same =
     weights_same (operand_bit_of f at bit Bit) (operand_bit_of g here bit Bit) 1
-    (λ j h. ap (λ (o : Option ℕ). bit_in o bit) (ap f (sym (add-zero at)) ∙ same 0 (lit< tt) ∙ ap g (add-zero here)))
+    (λ j h. ap (λ (o : Option ℕ). bit_of_byte o bit) (ap f (sym (add-zero at)) ∙ same 0 (lit< tt) ∙ ap g (add-zero here)))
 over_same f g at here bit Byte same =
-    weights_same (operand_bit_of f at bit Byte) (operand_bit_of g here bit Byte) 8 (λ j h. ap (λ (o : Option ℕ). bit_in o (j % 8)) (same (1 - 1 - j / 8) (omega arith)))
+    weights_same (operand_bit_of f at bit Byte) (operand_bit_of g here bit Byte) 8 (λ j h. ap (λ (o : Option ℕ). bit_of_byte o (j % 8)) (same (1 - 1 - j / 8) (omega arith)))
 over_same f g at here bit Word same =
-    weights_same (operand_bit_of f at bit Word) (operand_bit_of g here bit Word) 16 (λ j h. ap (λ (o : Option ℕ). bit_in o (j % 8)) (same (2 - 1 - j / 8) (omega arith)))
+    weights_same (operand_bit_of f at bit Word) (operand_bit_of g here bit Word) 16 (λ j h. ap (λ (o : Option ℕ). bit_of_byte o (j % 8)) (same (2 - 1 - j / 8) (omega arith)))
 over_same f g at here bit Dword same =
-    weights_same (operand_bit_of f at bit Dword) (operand_bit_of g here bit Dword) 32 (λ j h. ap (λ (o : Option ℕ). bit_in o (j % 8)) (same (4 - 1 - j / 8) (omega arith)))
+    weights_same (operand_bit_of f at bit Dword) (operand_bit_of g here bit Dword) 32 (λ j h. ap (λ (o : Option ℕ). bit_of_byte o (j % 8)) (same (4 - 1 - j / 8) (omega arith)))
 
 far_or_near : (at : ℕ) → (at ≤ 252) ⊎ (252 < at)
 far_or_near at = grind arith

@@ -13,10 +13,10 @@ use Rattle.std.proofs.lemmas.Option.{same_Some}
 use Rattle.plc_base.specs.declared.Width.{Width}
 use Rattle.plc_base.specs.declared.Width.TheVariants.{Bit, Byte, Word, Dword}
 use Rattle.plc_mem.specs.Areas.{PeripheralBytes}
-use Rattle.plc_mem.specs.Bits.{bit_in, peripheral_byte, block_byte}
+use Rattle.plc_mem.specs.Bits.{bit_of_byte, peripheral_byte, block_byte}
 use Rattle.plc_base.specs.Widths.{bit_count, byte_count}
 use Rattle.plc_mem.specs.Run.{number_over}
-use Rattle.plc_mem.specs.Writing.{is_within, stored, put, put_peripheral, put_in_block}
+use Rattle.plc_mem.specs.Writing.{is_within, bytes_with_number, put_number, put_peripheral, put_in_block}
 use Rattle.plc_mem.specs.Written.{weight_in, value_of_bit}
 use Rattle.plc_mem.proofs.Numbers.{low_number, high_number}
 use Rattle.plc_mem.proofs.Stored.{stored_after, stored_number, length-stored, kept_bit}
@@ -33,13 +33,13 @@ pub chained : {A B : Type 0} (f : A → Option B) (o : Option A) (y : B) → opt
 chained f (Some x) y e = (x, refl, e)
 chained f None y e = absurd (cc)
 
-put_cases : (bytes new : List ℕ) (at bit : ℕ) (width : Width) (value : ℕ) (within : Bool) → is_within bytes at bit width ≡ within → cond within (Some (stored bytes at bit width value)) None ≡ Some new → (is_within bytes at bit width ≡ true) × (stored bytes at bit width value ≡ new)
+put_cases : (bytes new : List ℕ) (at bit : ℕ) (width : Width) (value : ℕ) (within : Bool) → is_within bytes at bit width ≡ within → cond within (Some (bytes_with_number bytes at bit width value)) None ≡ Some new → (is_within bytes at bit width ≡ true) × (bytes_with_number bytes at bit width value ≡ new)
 put_cases bytes new at bit width value true e is = (e, same_Some _ new is)
 put_cases bytes new at bit width value false e is = absurd (cc)
 
 -- what a write to a run was
-pub put_done : (bytes new : List ℕ) (at bit : ℕ) (width : Width) (value : ℕ) → put bytes at bit width value ≡ Some new → (is_within bytes at bit width ≡ true) × (stored bytes at bit width value ≡ new)
-unfolding put
+pub put_done : (bytes new : List ℕ) (at bit : ℕ) (width : Width) (value : ℕ) → put_number bytes at bit width value ≡ Some new → (is_within bytes at bit width ≡ true) × (bytes_with_number bytes at bit width value ≡ new)
+unfolding put_number
 put_done bytes new at bit width value e = put_cases bytes new at bit width value (is_within bytes at bit width) refl e
 
 -- ---- runs
@@ -47,29 +47,29 @@ put_done bytes new at bit width value e = put_cases bytes new at bit width value
 pub run_after :
     (bytes new : List ℕ) (at bit : ℕ) (width : Width) (value : ℕ)
     → value < 2 ^ bit_count width
-    → put bytes at bit width value ≡ Some new
+    → put_number bytes at bit width value ≡ Some new
     → (n b : ℕ)
-    → bit_in (slice_get new n) b ≡ option_map (value_of_bit value (weight_in at bit width n b)) (bit_in (slice_get bytes n) b)
+    → bit_of_byte (slice_get new n) b ≡ option_map (value_of_bit value (weight_in at bit width n b)) (bit_of_byte (slice_get bytes n) b)
 run_after bytes new at bit width value fits done n b =
     let was = put_done bytes new at bit width value done in
-    subst (λ (s : List ℕ). bit_in (slice_get s n) b ≡ option_map (value_of_bit value (weight_in at bit width n b)) (bit_in (slice_get bytes n) b)) was.1 (stored_after bytes at bit width value was.0 fits n b)
+    subst (λ (s : List ℕ). bit_of_byte (slice_get s n) b ≡ option_map (value_of_bit value (weight_in at bit width n b)) (bit_of_byte (slice_get bytes n) b)) was.1 (stored_after bytes at bit width value was.0 fits n b)
 
 pub run_holds :
     (bytes new : List ℕ) (at bit : ℕ) (width : Width) (value : ℕ)
     → value < 2 ^ bit_count width
-    → put bytes at bit width value ≡ Some new
+    → put_number bytes at bit width value ≡ Some new
     → number_over (slice_get new) at bit width ≡ Some value
 run_holds bytes new at bit width value fits done =
     let was = put_done bytes new at bit width value done in
     subst (λ (s : List ℕ). number_over (slice_get s) at bit width ≡ Some value) was.1 (stored_number bytes at bit width value was.0 fits)
 
-pub length-put : (bytes new : List ℕ) (at bit : ℕ) (width : Width) (value : ℕ) → put bytes at bit width value ≡ Some new → length new ≡ length bytes
+pub length-put : (bytes new : List ℕ) (at bit : ℕ) (width : Width) (value : ℕ) → put_number bytes at bit width value ≡ Some new → length new ≡ length bytes
 length-put bytes new at bit width value done =
     let was = put_done bytes new at bit width value done in
     sym (ap length was.1) ∙ length-stored bytes at bit width value
 
 -- an operand ends within its run
-pub put_within : (bytes new : List ℕ) (at bit : ℕ) (width : Width) (value : ℕ) → put bytes at bit width value ≡ Some new → at + byte_count width ≤ length bytes
+pub put_within : (bytes new : List ℕ) (at bit : ℕ) (width : Width) (value : ℕ) → put_number bytes at bit width value ≡ Some new → at + byte_count width ≤ length bytes
 put_within bytes new at bit Bit value done = let was = put_done bytes new at bit Bit value done in grind (arith, nat_tests)
 put_within bytes new at bit Byte value done = let was = put_done bytes new at bit Byte value done in grind (arith, nat_tests)
 put_within bytes new at bit Word value done = let was = put_done bytes new at bit Word value done in grind (arith, nat_tests)
@@ -143,27 +143,27 @@ in_low p n low = rw (lt-ltb n 256 low) refl
 pub in_high : (p : PeripheralBytes) (n : ℕ) → 256 ≤ n → peripheral_byte p n ≡ slice_get p.high (n - 256)
 in_high p n high = let test : nat_lt n 256 ≡ false = grind (arith, nat_tests) in rw test refl
 
-pub unchanged : (old new : Option ℕ) (at bit : ℕ) (width : Width) (value n b : ℕ) → (n < at) ⊎ (at + byte_count width ≤ n) → new ≡ old → bit_in new b ≡ option_map (value_of_bit value (weight_in at bit width n b)) (bit_in old b)
+pub unchanged : (old new : Option ℕ) (at bit : ℕ) (width : Width) (value n b : ℕ) → (n < at) ⊎ (at + byte_count width ≤ n) → new ≡ old → bit_of_byte new b ≡ option_map (value_of_bit value (weight_in at bit width n b)) (bit_of_byte old b)
 unchanged old new at bit width value n b out same =
-    ap (λ (o : Option ℕ). bit_in o b) same
-    ∙ kept_bit (bit_in old b)
-    ∙ sym (ap (λ (w : Option ℕ). option_map (value_of_bit value w) (bit_in old b)) (no_weight at bit width n b out))
+    ap (λ (o : Option ℕ). bit_of_byte o b) same
+    ∙ kept_bit (bit_of_byte old b)
+    ∙ sym (ap (λ (w : Option ℕ). option_map (value_of_bit value w) (bit_of_byte old b)) (no_weight at bit width n b out))
 
 low_part_after :
     (p : PeripheralBytes) (low : List ℕ) (at bit : ℕ) (width : Width) (value : ℕ)
     → length p.low ≤ 252
     → at < 256
     → value < 2 ^ bit_count width
-    → put p.low at bit width value ≡ Some low
+    → put_number p.low at bit width value ≡ Some low
     → (n b : ℕ)
-    → bit_in (peripheral_byte (record p { low = low }) n) b ≡ option_map (value_of_bit value (weight_in at bit width n b)) (bit_in (peripheral_byte p n) b)
+    → bit_of_byte (peripheral_byte (record p { low = low }) n) b ≡ option_map (value_of_bit value (weight_in at bit width n b)) (bit_of_byte (peripheral_byte p n) b)
 low_part_after p low at bit width value short first fits done n b =
     let q : PeripheralBytes = record p { low = low } in
     elim (below_or_from n) [
       | inl below ↦
-          ap (λ (o : Option ℕ). bit_in o b) (in_low q n below)
+          ap (λ (o : Option ℕ). bit_of_byte o b) (in_low q n below)
           ∙ run_after p.low low at bit width value fits done n b
-          ∙ sym (ap (λ (o : Option ℕ). option_map (value_of_bit value (weight_in at bit width n b)) (bit_in o b)) (in_low p n below))
+          ∙ sym (ap (λ (o : Option ℕ). option_map (value_of_bit value (weight_in at bit width n b)) (bit_of_byte o b)) (in_low p n below))
       | inr from ↦
           let end = put_within p.low low at bit width value done in
           unchanged (peripheral_byte p n) (peripheral_byte q n) at bit width value n b (inr (omega arith)) (in_high q n from ∙ sym (in_high p n from))
@@ -173,36 +173,36 @@ high_part_after :
     (p : PeripheralBytes) (high : List ℕ) (at bit : ℕ) (width : Width) (value : ℕ)
     → 256 ≤ at
     → value < 2 ^ bit_count width
-    → put p.high (at - 256) bit width value ≡ Some high
+    → put_number p.high (at - 256) bit width value ≡ Some high
     → (n b : ℕ)
-    → bit_in (peripheral_byte (record p { high = high }) n) b ≡ option_map (value_of_bit value (weight_in at bit width n b)) (bit_in (peripheral_byte p n) b)
+    → bit_of_byte (peripheral_byte (record p { high = high }) n) b ≡ option_map (value_of_bit value (weight_in at bit width n b)) (bit_of_byte (peripheral_byte p n) b)
 high_part_after p high at bit width value first fits done n b =
     let q : PeripheralBytes = record p { high = high } in
     elim (below_or_from n) [
       | inl below ↦ unchanged (peripheral_byte p n) (peripheral_byte q n) at bit width value n b (inl (omega arith)) (in_low q n below ∙ sym (in_low p n below))
       | inr from ↦
-          ap (λ (o : Option ℕ). bit_in o b) (in_high q n from)
+          ap (λ (o : Option ℕ). bit_of_byte o b) (in_high q n from)
           ∙ run_after p.high high (at - 256) bit width value fits done (n - 256) b
-          ∙ ap (λ (w : Option ℕ). option_map (value_of_bit value w) (bit_in (slice_get p.high (n - 256)) b)) (shifted_weight at bit width n b first from)
-          ∙ sym (ap (λ (o : Option ℕ). option_map (value_of_bit value (weight_in at bit width n b)) (bit_in o b)) (in_high p n from))
+          ∙ ap (λ (w : Option ℕ). option_map (value_of_bit value w) (bit_of_byte (slice_get p.high (n - 256)) b)) (shifted_weight at bit width n b first from)
+          ∙ sym (ap (λ (o : Option ℕ). option_map (value_of_bit value (weight_in at bit width n b)) (bit_of_byte o b)) (in_high p n from))
     ]
 
 -- which part a write to a peripheral area changed
 abbrev pub PartPut : (p q : PeripheralBytes) (at bit : ℕ) (width : Width) (value : ℕ) → Type 0
 PartPut p q at bit width value =
-    ((low : List ℕ) × (at < 256) × (put p.low at bit width value ≡ Some low) × (record p { low = low } ≡ q))
-    ⊎ ((high : List ℕ) × (256 ≤ at) × (put p.high (at - 256) bit width value ≡ Some high) × (record p { high = high } ≡ q))
+    ((low : List ℕ) × (at < 256) × (put_number p.low at bit width value ≡ Some low) × (record p { low = low } ≡ q))
+    ⊎ ((high : List ℕ) × (256 ≤ at) × (put_number p.high (at - 256) bit width value ≡ Some high) × (record p { high = high } ≡ q))
 
 part_cases :
     (p q : PeripheralBytes) (at bit : ℕ) (width : Width) (value : ℕ) (first : Bool)
     → nat_lt at 256 ≡ first
-    → cond first (option_map (λ (bytes : List ℕ). record p { low = bytes }) (put p.low at bit width value)) (option_map (λ (bytes : List ℕ). record p { high = bytes }) (put p.high (at - 256) bit width value)) ≡ Some q
+    → cond first (option_map (λ (bytes : List ℕ). record p { low = bytes }) (put_number p.low at bit width value)) (option_map (λ (bytes : List ℕ). record p { high = bytes }) (put_number p.high (at - 256) bit width value)) ≡ Some q
     → PartPut p q at bit width value
 part_cases p q at bit width value true e done =
-    let was = mapped (λ (bytes : List ℕ). let r : PeripheralBytes = record p { low = bytes } in r) (put p.low at bit width value) q done in
+    let was = mapped (λ (bytes : List ℕ). let r : PeripheralBytes = record p { low = bytes } in r) (put_number p.low at bit width value) q done in
     inl (was.0, ltb-true at 256 e, was.1, was.2)
 part_cases p q at bit width value false e done =
-    let was = mapped (λ (bytes : List ℕ). let r : PeripheralBytes = record p { high = bytes } in r) (put p.high (at - 256) bit width value) q done in
+    let was = mapped (λ (bytes : List ℕ). let r : PeripheralBytes = record p { high = bytes } in r) (put_number p.high (at - 256) bit width value) q done in
     inr (was.0, grind (arith, nat_tests), was.1, was.2)
 
 pub part_put : (p q : PeripheralBytes) (at bit : ℕ) (width : Width) (value : ℕ) → put_peripheral p at bit width value ≡ Some q → PartPut p q at bit width value
@@ -215,17 +215,17 @@ pub peripheral_after :
     → value < 2 ^ bit_count width
     → put_peripheral p at bit width value ≡ Some q
     → (n b : ℕ)
-    → bit_in (peripheral_byte q n) b ≡ option_map (value_of_bit value (weight_in at bit width n b)) (bit_in (peripheral_byte p n) b)
+    → bit_of_byte (peripheral_byte q n) b ≡ option_map (value_of_bit value (weight_in at bit width n b)) (bit_of_byte (peripheral_byte p n) b)
 peripheral_after p q at bit width value short fits done n b =
     elim (part_put p q at bit width value done) [
       | inl w ↦
           subst
-          (λ (r : PeripheralBytes). bit_in (peripheral_byte r n) b ≡ option_map (value_of_bit value (weight_in at bit width n b)) (bit_in (peripheral_byte p n) b))
+          (λ (r : PeripheralBytes). bit_of_byte (peripheral_byte r n) b ≡ option_map (value_of_bit value (weight_in at bit width n b)) (bit_of_byte (peripheral_byte p n) b))
           w.3
           (low_part_after p w.0 at bit width value short w.1 fits w.2 n b)
       | inr w ↦
           subst
-          (λ (r : PeripheralBytes). bit_in (peripheral_byte r n) b ≡ option_map (value_of_bit value (weight_in at bit width n b)) (bit_in (peripheral_byte p n) b))
+          (λ (r : PeripheralBytes). bit_of_byte (peripheral_byte r n) b ≡ option_map (value_of_bit value (weight_in at bit width n b)) (bit_of_byte (peripheral_byte p n) b))
           w.3
           (high_part_after p w.0 at bit width value w.1 fits w.2 n b)
     ]
@@ -274,41 +274,41 @@ tests_agree k r false true e f =
 pub block_put :
     (blocks new : map.FinMap nat_cmp (List ℕ)) (k at bit : ℕ) (width : Width) (value : ℕ)
     → put_in_block blocks k at bit width value ≡ Some new
-    → (bytes : List ℕ) × (stored : List ℕ) × (map.get blocks k ≡ Some bytes) × (put bytes at bit width value ≡ Some stored) × (map.insert blocks k stored ≡ new)
+    → (bytes : List ℕ) × (stored : List ℕ) × (map.get blocks k ≡ Some bytes) × (put_number bytes at bit width value ≡ Some stored) × (map.insert blocks k stored ≡ new)
 unfolding put_in_block
 block_put blocks new k at bit width value done =
-    let found = chained (λ (bytes : List ℕ). option_map (λ (s : List ℕ). map.insert blocks k s) (put bytes at bit width value)) (map.get blocks k) new done in
-    let was = mapped (λ (s : List ℕ). map.insert blocks k s) (put found.0 at bit width value) new found.2 in
+    let found = chained (λ (bytes : List ℕ). option_map (λ (s : List ℕ). map.insert blocks k s) (put_number bytes at bit width value)) (map.get blocks k) new done in
+    let was = mapped (λ (s : List ℕ). map.insert blocks k s) (put_number found.0 at bit width value) new found.2 in
     (found.0, was.0, found.1, was.1, was.2)
 
 block_byte_after :
     (blocks : map.FinMap nat_cmp (List ℕ)) (k r at bit : ℕ) (width : Width) (value : ℕ) (bytes stored : List ℕ)
     → map.get blocks k ≡ Some bytes
     → value < 2 ^ bit_count width
-    → put bytes at bit width value ≡ Some stored
+    → put_number bytes at bit width value ≡ Some stored
     → (n b : ℕ)
     → (same : Bool)
     → nat_eq k r ≡ same
-    → bit_in (option_and_then (λ (s : List ℕ). slice_get s n) (cond same (Some stored) (map.get blocks r))) b
-    ≡ option_map (λ (before : Bool). if◌then◌else◌ same (value_of_bit value (weight_in at bit width n b) before) before) (bit_in (block_byte blocks r n) b)
+    → bit_of_byte (option_and_then (λ (s : List ℕ). slice_get s n) (cond same (Some stored) (map.get blocks r))) b
+    ≡ option_map (λ (before : Bool). if◌then◌else◌ same (value_of_bit value (weight_in at bit width n b) before) before) (bit_of_byte (block_byte blocks r n) b)
 block_byte_after blocks k r at bit width value bytes stored found fits done n b true e =
     let is : k ≡ r = grind (arith, nat_tests) in
     run_after bytes stored at bit width value fits done n b
-    ∙ sym (ap (λ (o : Option (List ℕ)). option_map (value_of_bit value (weight_in at bit width n b)) (bit_in (option_and_then (λ (s : List ℕ). slice_get s n) o) b)) (ap (map.get blocks) (sym is) ∙ found))
-block_byte_after blocks k r at bit width value bytes stored found fits done n b false e = kept_bit (bit_in (block_byte blocks r n) b)
+    ∙ sym (ap (λ (o : Option (List ℕ)). option_map (value_of_bit value (weight_in at bit width n b)) (bit_of_byte (option_and_then (λ (s : List ℕ). slice_get s n) o) b)) (ap (map.get blocks) (sym is) ∙ found))
+block_byte_after blocks k r at bit width value bytes stored found fits done n b false e = kept_bit (bit_of_byte (block_byte blocks r n) b)
 
 pub block_after :
     (blocks new : map.FinMap nat_cmp (List ℕ)) (k at bit : ℕ) (width : Width) (value : ℕ)
     → value < 2 ^ bit_count width
     → put_in_block blocks k at bit width value ≡ Some new
     → (r n b : ℕ)
-    → bit_in (block_byte new r n) b
-    ≡ option_map (λ (before : Bool). if◌then◌else◌ (nat_eq k r) (value_of_bit value (weight_in at bit width n b) before) before) (bit_in (block_byte blocks r n) b)
+    → bit_of_byte (block_byte new r n) b
+    ≡ option_map (λ (before : Bool). if◌then◌else◌ (nat_eq k r) (value_of_bit value (weight_in at bit width n b) before) before) (bit_of_byte (block_byte blocks r n) b)
 block_after blocks new k at bit width value fits done r n b =
     let was = block_put blocks new k at bit width value done in
-    ap (λ (m : map.FinMap nat_cmp (List ℕ)). bit_in (block_byte m r n) b) (sym was.4)
-    ∙ ap (λ (o : Option (List ℕ)). bit_in (option_and_then (λ (s : List ℕ). slice_get s n) o) b) (get-insert nat_cmp_total blocks k was.1 r)
-    ∙ ap (λ (t : Bool). bit_in (option_and_then (λ (s : List ℕ). slice_get s n) (cond t (Some was.1) (map.get blocks r))) b) (sym (tests_agree k r (nat_eq k r) (eq_by_cmp nat_cmp r k) refl refl))
+    ap (λ (m : map.FinMap nat_cmp (List ℕ)). bit_of_byte (block_byte m r n) b) (sym was.4)
+    ∙ ap (λ (o : Option (List ℕ)). bit_of_byte (option_and_then (λ (s : List ℕ). slice_get s n) o) b) (get-insert nat_cmp_total blocks k was.1 r)
+    ∙ ap (λ (t : Bool). bit_of_byte (option_and_then (λ (s : List ℕ). slice_get s n) (cond t (Some was.1) (map.get blocks r))) b) (sym (tests_agree k r (nat_eq k r) (eq_by_cmp nat_cmp r k) refl refl))
     ∙ block_byte_after blocks k r at bit width value was.0 was.1 was.2 fits was.3 n b (nat_eq k r) refl
 
 pub block_holds :

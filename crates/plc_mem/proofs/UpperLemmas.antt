@@ -5,7 +5,7 @@ use Rattle.plc_base.specs.declared.Width.{Width}
 use Rattle.plc_base.specs.declared.Width.TheVariants.{Bit, Byte, Word, Dword}
 use Rattle.plc_base.specs.Widths.{byte_count}
 use Rattle.plc_mem.specs.Places.{IsClearFrom}
-use Rattle.plc_mem.specs.Writing.{stored, put, with_bit}
+use Rattle.plc_mem.specs.Writing.{bytes_with_number, put_number, byte_with_bit}
 use Rattle.plc_mem.proofs.Runs.{put_done}
 
 -- zeros are clear
@@ -18,8 +18,8 @@ zeros_clear (suc count) (suc i) = zeros_clear count i
 set_clear : (bytes : List ℕ) (end at value : ℕ) → IsClearFrom end bytes → at + 1 ≤ end → IsClearFrom end (slice_set bytes at value)
 set_clear bytes end at value clear before i from = get_or-set_other bytes at i value 0 (omega arith) ∙ clear i from
 
-stored_clear : (bytes : List ℕ) (end at bit : ℕ) (width : Width) (value : ℕ) → IsClearFrom end bytes → at + byte_count width ≤ end → IsClearFrom end (stored bytes at bit width value)
-stored_clear bytes end at bit Bit value clear before = set_clear bytes end at (with_bit (slice_index bytes at) bit value) clear before
+stored_clear : (bytes : List ℕ) (end at bit : ℕ) (width : Width) (value : ℕ) → IsClearFrom end bytes → at + byte_count width ≤ end → IsClearFrom end (bytes_with_number bytes at bit width value)
+stored_clear bytes end at bit Bit value clear before = set_clear bytes end at (byte_with_bit (slice_index bytes at) bit value) clear before
 stored_clear bytes end at bit Byte value clear before = set_clear bytes end at value clear before
 stored_clear bytes end at bit Word value clear before =
     set_clear (slice_set bytes at (value / 2 ^ 8)) end (at + 1) (value % 2 ^ 8) (set_clear bytes end at (value / 2 ^ 8) clear (omega arith)) (omega arith)
@@ -37,7 +37,7 @@ stored_clear bytes end at bit Dword value clear before =
 pub put_clear :
     (bytes new : List ℕ) (old_end end at bit : ℕ) (width : Width) (value : ℕ)
     → IsClearFrom old_end bytes
-    → put bytes at bit width value ≡ Some new
+    → put_number bytes at bit width value ≡ Some new
     → old_end ≤ end
     → at + byte_count width ≤ end
     → IsClearFrom end new

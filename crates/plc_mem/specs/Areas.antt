@@ -6,17 +6,25 @@ use Rattle.std.specs.Coded.{Coded, code_by, coded×, coded_ℕ, coded_list}
 
 -- The bytes of a peripheral area, in rising order: bytes 0 to 127, and bytes 256 to 767.
 pub record PeripheralBytes : Type 0 where
+  -- bytes 0 to 127, those of the process image
   pub low : List ℕ
+  -- bytes 256 to 767
   pub high : List ℕ
 
 -- The memory areas but local data: the bytes of each, in rising order, and those of each loaded
 -- data block by its number.
 pub record Areas : Type 0 where
+  -- the process image of the inputs (I)
   pub inputs : List ℕ
+  -- the process image of the outputs (Q)
   pub outputs : List ℕ
+  -- bit memory (M)
   pub bit_memory : List ℕ
+  -- peripheral inputs (PI)
   pub peripheral_inputs : PeripheralBytes
+  -- peripheral outputs (PQ)
   pub peripheral_outputs : PeripheralBytes
+  -- the loaded data blocks (DB) by number
   pub data_blocks : map.FinMap nat_cmp (List ℕ)
 
 -- Data blocks as stored.

@@ -17,22 +17,22 @@ abbrev pub block_byte : map.FinMap nat_cmp (List ℕ) → (number : ℕ) → ℕ
 block_byte blocks number n = option_and_then (λ bytes. slice_get bytes n) (map.get blocks number)
 
 -- The byte of a region by its number, if there is one.
-abbrev pub byte_at : Areas → Region → ℕ → Option ℕ
-byte_at m Inputs n = slice_get m.inputs n
-byte_at m Outputs n = slice_get m.outputs n
-byte_at m BitMemory n = slice_get m.bit_memory n
-byte_at m PeripheralInputs n = peripheral_byte m.peripheral_inputs n
-byte_at m PeripheralOutputs n = peripheral_byte m.peripheral_outputs n
-byte_at m (DataBlock number) n = block_byte m.data_blocks number n
+abbrev pub region_byte : Areas → Region → ℕ → Option ℕ
+region_byte m Inputs n = slice_get m.inputs n
+region_byte m Outputs n = slice_get m.outputs n
+region_byte m BitMemory n = slice_get m.bit_memory n
+region_byte m PeripheralInputs n = peripheral_byte m.peripheral_inputs n
+region_byte m PeripheralOutputs n = peripheral_byte m.peripheral_outputs n
+region_byte m (DataBlock number) n = block_byte m.data_blocks number n
 
 -- Whether bit k of a number is 1.
-abbrev pub bit_of : ℕ → ℕ → Bool
-bit_of n k = nat_eq (int.bit_at n k) 1
+abbrev pub is_bit_one : ℕ → ℕ → Bool
+is_bit_one n k = nat_eq (int.bit_at n k) 1
 
 -- Bit k of a byte, if there are such a byte and such a bit.
-abbrev pub bit_in : Option ℕ → ℕ → Option Bool
-bit_in byte k = if nat_lt k 8 then option_map (λ n. bit_of n k) byte else None
+abbrev pub bit_of_byte : Option ℕ → ℕ → Option Bool
+bit_of_byte byte k = if nat_lt k 8 then option_map (λ n. is_bit_one n k) byte else None
 
 -- The truth value at a bit place, if the place exists.
 unfoldable pub bit_at : Areas → BitPlace → Option Bool
-bit_at m place = bit_in (byte_at m place.region place.byte) place.bit
+bit_at m place = bit_of_byte (region_byte m place.region place.byte) place.bit

@@ -48,14 +48,14 @@ weights_of bits zero = Some 0
 weights_of bits (suc j) = plus_weight j (weights_of bits j) (bits j)
 
 -- The number in an operand of a region, if each bit of the operand exists.
-unfoldable pub number_of : Areas → Region → Place → Width → Option ℕ
-number_of m region place width =
+unfoldable pub region_number : Areas → Region → Place → Width → Option ℕ
+region_number m region place width =
     weights_of (λ j. bit_at m (operand_bit region place width j)) (bit_count width)
 
 -- The number at a place and width, if each bit of the operand exists.
 unfoldable pub number_at : Areas → Place → Width → Option ℕ
 number_at m place width =
-    option_and_then (λ region. number_of m region place width) (region_read place)
+    option_and_then (λ region. region_number m region place width) (region_read place)
 
 -- Each bit of an operand exists.
 abbrev pub EachBitExists : Areas → Option Region → Place → Width → Type 0

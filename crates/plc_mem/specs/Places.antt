@@ -2,7 +2,7 @@
 use Rattle.std.specs.Prelude.{◌≡◌, ℕ, ◌<◌, ◌≤◌, List, length, Some, is_some, slice_index}
 use Rattle.std.specs.FinMap as map
 use Rattle.std.specs.Ordering.{nat_cmp}
-use Rattle.plc_base.specs.AreaBytes.{image_size, upper_size}
+use Rattle.plc_base.specs.AreaBytes.{process_image_size, upper_size}
 use Rattle.plc_base.specs.Profiles.{bit_memory_size}
 use Rattle.plc_base.specs.declared.Profile.{Profile}
 use Rattle.plc_mem.specs.Areas.{Areas, PeripheralBytes}
@@ -16,7 +16,9 @@ SameBlocks old new =
 
 -- No place is added or removed.
 pub record SamePlaces (old new : Areas) : Type 0 where
+  -- the same bit places exist
   pub bits : (place : BitPlace) → is_some (bit_at new place) ≡ is_some (bit_at old place)
+  -- the same data blocks are loaded
   pub blocks : SameBlocks old new
 
 -- Each number of the list is a byte.
@@ -29,18 +31,25 @@ IsClearFrom start bytes = (i : ℕ) → start ≤ i → slice_index bytes i ≡ 
 
 -- As many bytes.
 pub record IsRun (count : ℕ) (bytes : List ℕ) : Type 0 where
+  -- so many
   pub count_is : length bytes ≡ count
+  -- each is a byte
   pub bytes_are : AreBytes bytes
 
 -- The bytes of bit memory: as many as in one of the profiles.
 pub record IsBitMemory (bytes : List ℕ) : Type 0 where
+  -- the profile
   pub profile : Profile
+  -- as many bytes as it has
   pub count_is : length bytes ≡ bit_memory_size profile
+  -- each is a byte
   pub bytes_are : AreBytes bytes
 
 -- The two parts of a peripheral area have their sizes and are made of bytes.
 pub record IsPeripheral (p : PeripheralBytes) : Type 0 where
-  pub low : IsRun image_size p.low
+  -- bytes 0 to 127
+  pub low : IsRun process_image_size p.low
+  -- bytes 256 to 767
   pub high : IsRun upper_size p.high
 
 -- Each data block is made of bytes.
@@ -50,19 +59,29 @@ AreBlocks blocks =
 
 -- The two parts of a peripheral area have their sizes.
 pub record HasParts (p : PeripheralBytes) : Type 0 where
-  pub low : length p.low ≡ image_size
+  -- bytes 0 to 127
+  pub low : length p.low ≡ process_image_size
+  -- bytes 256 to 767
   pub high : length p.high ≡ upper_size
 
 -- A memory that can be: each area has its size, and memory is made of bytes.
 pub record IsMemory (m : Areas) : Type 0 where
-  pub inputs : IsRun image_size m.inputs
-  pub outputs : IsRun image_size m.outputs
+  -- the process image of the inputs
+  pub inputs : IsRun process_image_size m.inputs
+  -- the process image of the outputs
+  pub outputs : IsRun process_image_size m.outputs
+  -- bit memory
   pub bit_memory : IsBitMemory m.bit_memory
+  -- peripheral inputs
   pub peripheral_inputs : IsPeripheral m.peripheral_inputs
+  -- peripheral outputs
   pub peripheral_outputs : IsPeripheral m.peripheral_outputs
+  -- the data blocks
   pub data_blocks : AreBlocks m.data_blocks
 
 -- The process image of the outputs has the bytes of the lower part of the peripheral outputs.
 pub record HasImage (m : Areas) : Type 0 where
-  pub image : length m.outputs ≡ image_size
-  pub outputs_low : length m.peripheral_outputs.low ≡ image_size
+  -- the bytes of the process image
+  pub image : length m.outputs ≡ process_image_size
+  -- and those of peripheral outputs 0 to 127
+  pub outputs_low : length m.peripheral_outputs.low ≡ process_image_size

@@ -3,7 +3,7 @@ use Rattle.std.specs.Prelude.{ℕ, ◌+◌, ◌-◌, ◌*◌, ◌/◌, ◌%◌, 
 use Rattle.std.specs.Int as int
 use Rattle.plc_base.specs.declared.Width.{Width}
 use Rattle.plc_base.specs.declared.Width.TheVariants.{Bit, Byte, Word, Dword}
-use Rattle.plc_mem.specs.Bits.{bit_in}
+use Rattle.plc_mem.specs.Bits.{bit_of_byte}
 use Rattle.plc_base.specs.Widths.{bit_count, byte_count}
 use Rattle.plc_mem.specs.Number.{weights_of}
 
@@ -18,8 +18,8 @@ number_of_bytes bytes at bit Dword =
 
 -- The bit of an operand that weighs 2 ^ j, where bytes are given by their numbers.
 abbrev pub operand_bit_of : (ℕ → Option ℕ) → (at bit : ℕ) → Width → ℕ → Option Bool
-operand_bit_of bytes at bit Bit j = bit_in (bytes at) bit
-operand_bit_of bytes at bit width j = bit_in (bytes (at + (byte_count width - 1 - j / 8))) (j % 8)
+operand_bit_of bytes at bit Bit j = bit_of_byte (bytes at) bit
+operand_bit_of bytes at bit width j = bit_of_byte (bytes (at + (byte_count width - 1 - j / 8))) (j % 8)
 
 -- The sum of the weights of an operand's bits that are 1, where bytes are given by their numbers.
 unfoldable pub number_over : (ℕ → Option ℕ) → (at bit : ℕ) → Width → Option ℕ

@@ -14,8 +14,8 @@ use Rattle.plc_base.specs.Widths.{byte_count}
 use Rattle.plc_mem.specs.Number.{region_written}
 
 -- A byte with another value of bit k.
-abbrev pub with_bit : ℕ → ℕ → ℕ → ℕ
-with_bit byte k value = byte + value * 2 ^ k - int.bit_at byte k * 2 ^ k
+abbrev pub byte_with_bit : ℕ → ℕ → ℕ → ℕ
+byte_with_bit byte k value = byte + value * 2 ^ k - int.bit_at byte k * 2 ^ k
 
 -- Whether an operand lies within a run of bytes, of a bit operand the bit within its byte.
 abbrev pub is_within : List ℕ → (at bit : ℕ) → Width → Bool
@@ -23,12 +23,12 @@ is_within bytes at bit Bit = nat_lt at (length bytes) && nat_lt bit 8
 is_within bytes at bit width = nat_le (at + byte_count width) (length bytes)
 
 -- The bytes with a number in the operand, the highest byte first.
-abbrev pub stored : List ℕ → (at bit : ℕ) → Width → ℕ → List ℕ
-stored bytes at bit Bit value = slice_set bytes at (with_bit (slice_index bytes at) bit value)
-stored bytes at bit Byte value = slice_set bytes at value
-stored bytes at bit Word value =
+abbrev pub bytes_with_number : List ℕ → (at bit : ℕ) → Width → ℕ → List ℕ
+bytes_with_number bytes at bit Bit value = slice_set bytes at (byte_with_bit (slice_index bytes at) bit value)
+bytes_with_number bytes at bit Byte value = slice_set bytes at value
+bytes_with_number bytes at bit Word value =
     slice_set (slice_set bytes at (value / 2 ^ 8)) (at + 1) (value % 2 ^ 8)
-stored bytes at bit Dword value =
+bytes_with_number bytes at bit Dword value =
     slice_set
     (slice_set
     (slice_set (slice_set bytes at (value / 2 ^ 24)) (at + 1) (value / 2 ^ 16 % 2 ^ 8))
@@ -38,54 +38,54 @@ stored bytes at bit Dword value =
     (value % 2 ^ 8)
 
 -- The same, if the operand lies within the bytes.
-unfoldable pub put : List ℕ → (at bit : ℕ) → Width → ℕ → Option (List ℕ)
-put bytes at bit width value =
-    if is_within bytes at bit width then Some (stored bytes at bit width value) else None
+unfoldable pub put_number : List ℕ → (at bit : ℕ) → Width → ℕ → Option (List ℕ)
+put_number bytes at bit width value =
+    if is_within bytes at bit width then Some (bytes_with_number bytes at bit width value) else None
 
 -- A peripheral area with a number in the operand, if the operand lies within one of its parts.
 unfoldable pub put_peripheral :
     PeripheralBytes → (byte bit : ℕ) → Width → ℕ → Option PeripheralBytes
 put_peripheral p byte bit width value =
     if nat_lt byte upper_start
-    then option_map (λ bytes. record p { low = bytes }) (put p.low byte bit width value)
-    else option_map (λ bytes. record p { high = bytes }) (put p.high (byte - upper_start) bit width value)
+    then option_map (λ bytes. record p { low = bytes }) (put_number p.low byte bit width value)
+    else option_map (λ bytes. record p { high = bytes }) (put_number p.high (byte - upper_start) bit width value)
 
 -- Data blocks with a number in the operand.
 unfoldable pub put_in_block :
     map.FinMap nat_cmp (List ℕ) → (number byte bit : ℕ) → Width → ℕ → Option (map.FinMap nat_cmp (List ℕ))
 put_in_block blocks number byte bit width value =
     option_and_then
-    (λ bytes. option_map (λ new. map.insert blocks number new) (put bytes byte bit width value))
+    (λ bytes. option_map (λ new. map.insert blocks number new) (put_number bytes byte bit width value))
     (map.get blocks number)
 
 -- The memory with a number in an operand of a region. What is written to peripheral outputs is
 -- written to the process image of the outputs as well, where that has these bytes.
-abbrev pub written_in : Areas → Region → (byte bit : ℕ) → Width → ℕ → Option Areas
-written_in m Inputs byte bit width value =
-    option_map (λ bytes. record m { inputs = bytes }) (put m.inputs byte bit width value)
-written_in m Outputs byte bit width value =
-    option_map (λ bytes. record m { outputs = bytes }) (put m.outputs byte bit width value)
-written_in m BitMemory byte bit width value =
-    option_map (λ bytes. record m { bit_memory = bytes }) (put m.bit_memory byte bit width value)
-written_in m PeripheralInputs byte bit width value =
+abbrev pub number_written_in : Areas → Region → (byte bit : ℕ) → Width → ℕ → Option Areas
+number_written_in m Inputs byte bit width value =
+    option_map (λ bytes. record m { inputs = bytes }) (put_number m.inputs byte bit width value)
+number_written_in m Outputs byte bit width value =
+    option_map (λ bytes. record m { outputs = bytes }) (put_number m.outputs byte bit width value)
+number_written_in m BitMemory byte bit width value =
+    option_map (λ bytes. record m { bit_memory = bytes }) (put_number m.bit_memory byte bit width value)
+number_written_in m PeripheralInputs byte bit width value =
     option_map
     (λ p. record m { peripheral_inputs = p })
     (put_peripheral m.peripheral_inputs byte bit width value)
-written_in m PeripheralOutputs byte bit width value =
+number_written_in m PeripheralOutputs byte bit width value =
     option_map
     (λ p. record m {
-      outputs = unwrap_or (put m.outputs byte bit width value) m.outputs;
+      outputs = unwrap_or (put_number m.outputs byte bit width value) m.outputs;
       peripheral_outputs = p;
     })
     (put_peripheral m.peripheral_outputs byte bit width value)
-written_in m (DataBlock number) byte bit width value =
+number_written_in m (DataBlock number) byte bit width value =
     option_map
     (λ blocks. record m { data_blocks = blocks })
     (put_in_block m.data_blocks number byte bit width value)
 
 -- The memory with a number at a place and width, if each bit of the operand exists.
-unfoldable pub written : Areas → Place → Width → ℕ → Option Areas
-written m place width value =
+unfoldable pub number_written : Areas → Place → Width → ℕ → Option Areas
+number_written m place width value =
     option_and_then
-    (λ region. written_in m region place.byte place.bit width value)
+    (λ region. number_written_in m region place.byte place.bit width value)
     (region_written place)

@@ -6,9 +6,9 @@ use Rattle.plc_base.specs.declared.Width.TheVariants.{Bit}
 use Rattle.plc_base.specs.declared.Place.{Place}
 use Rattle.plc_mem.specs.Areas.{Areas}
 use Rattle.plc_mem.specs.BitPlace.{BitPlace, Region, Inputs, Outputs, BitMemory, PeripheralInputs, PeripheralOutputs, DataBlock}
-use Rattle.plc_mem.specs.Bits.{bit_at, bit_of}
+use Rattle.plc_mem.specs.Bits.{bit_at, is_bit_one}
 use Rattle.plc_base.specs.Widths.{byte_count}
-use Rattle.plc_mem.specs.Number.{number_of, region_written}
+use Rattle.plc_mem.specs.Number.{region_number, region_written}
 use Rattle.plc_mem.specs.Places.{SameBlocks}
 
 -- Which power of 2 a bit weighs in an operand from byte `at`, if the bit is one of the operand's:
@@ -22,7 +22,7 @@ weight_in at bit width byte b =
 
 -- A truth value after a write: that of the number where the bit has a weight, else the one before.
 abbrev pub value_of_bit : ℕ → Option ℕ → Bool → Bool
-value_of_bit value (Some weight) before = bit_of value weight
+value_of_bit value (Some weight) before = is_bit_one value weight
 value_of_bit value None before = before
 
 -- Whether a write to a region sets bits of another: of itself, and from peripheral outputs also of
@@ -38,8 +38,8 @@ is_set_with (DataBlock n) (DataBlock k) = nat_eq n k
 is_set_with written other = false
 
 -- The truth value at a bit place after a write to a region, given the one before.
-abbrev pub bit_after : Region → (at bit : ℕ) → Width → ℕ → BitPlace → Bool → Bool
-bit_after region at bit width value place before =
+abbrev pub bit_after_write : Region → (at bit : ℕ) → Width → ℕ → BitPlace → Bool → Bool
+bit_after_write region at bit width value place before =
     if is_set_with region place.region
     then value_of_bit value (weight_in at bit width place.byte place.bit) before
     else before
@@ -47,15 +47,18 @@ bit_after region at bit width value place before =
 -- The new memory has the number in the operand, and is the old one in every other bit. What is
 -- written to peripheral outputs is written to the process image of the outputs as well, as far as
 -- that has these bytes.
-pub record IsWrittenIn (old new : Areas) (region : Region) (place : Place) (width : Width) (value : ℕ)
+pub record IsNumberWrittenIn (old new : Areas) (region : Region) (place : Place) (width : Width) (value : ℕ)
     : Type 0 where
-  pub number : number_of new region place width ≡ Some value
+  -- the operand has the number
+  pub number : region_number new region place width ≡ Some value
+  -- each bit is the number's, or as before
   pub bits :
       (at : BitPlace)
-      → bit_at new at ≡ option_map (bit_after region place.byte place.bit width value at) (bit_at old at)
+      → bit_at new at ≡ option_map (bit_after_write region place.byte place.bit width value at) (bit_at old at)
+  -- the same data blocks are loaded
   pub blocks : SameBlocks old new
 
 -- The same of the region that a place means when it is written.
-abbrev pub IsWritten : (old new : Areas) → Place → Width → ℕ → Type 0
-IsWritten old new place width value =
-    (region : Region) × (region_written place ≡ Some region) × IsWrittenIn old new region place width value
+abbrev pub IsNumberWritten : (old new : Areas) → Place → Width → ℕ → Type 0
+IsNumberWritten old new place width value =
+    (region : Region) × (region_written place ≡ Some region) × IsNumberWrittenIn old new region place width value

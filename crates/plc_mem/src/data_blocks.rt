@@ -3,7 +3,7 @@ ghost use Rattle.std.specs.Prelude.{◌≡◌, ◌^◌, ◌<◌, nat_eq, Option,
 ghost use Rattle.std.specs.Option.{option_copied, option_map};
 ghost use Rattle.std.specs.FinMap as map;
 ghost use Rattle.std.specs.List.{IsDistinct};
-ghost use Rattle.plc_mem.specs.Blocks.{bytes_of, numbers_of};
+ghost use Rattle.plc_mem.specs.Blocks.{bytes_by_number, block_numbers};
 ghost use Rattle.plc_mem.specs.Bits.{block_byte};
 ghost use Rattle.plc_base.specs.Changes.{ChangesOrStays};
 ghost use Rattle.plc_base.specs.Widths.{bit_count};
@@ -28,13 +28,13 @@ impl Model for DataBlocks {
     ghost use Rattle.std.specs.Ordering.{nat_cmp};
     ghost use Rattle.std.specs.FinMap as map;
     ghost use Rattle.plc_mem.specs.Areas.{data_blocks_code};
-    ghost use Rattle.plc_mem.specs.Blocks.{blocks_of};
+    ghost use Rattle.plc_mem.specs.Blocks.{data_block_map};
 
     ghost Value = { map.FinMap nat_cmp (List ℕ) };
 
     ghost coded = { data_blocks_code };
 
-    ghost view = { λ a. blocks_of a.by_number.entries };
+    ghost view = { λ a. data_block_map a.by_number.entries };
 }
 
 /// A copy of these bytes.
@@ -48,8 +48,8 @@ fn copied(alloc: Global, bytes: &[u8]) -> Result<Vec<u8>, NoMemory>
 impl DataBlocks {
     /// Copies of these data blocks.
     pub(crate) fn new(alloc: Global, blocks: &[(u16, Vec<u8>)]) -> Result<Self, NoMemory>
-        requires { IsDistinct nat_eq (numbers_of blocks.now) }
-        ensures blocks { IfOk result (λ r. r ≡ map.from_entries (bytes_of blocks.now)) }
+        requires { IsDistinct nat_eq (block_numbers blocks.now) }
+        ensures blocks { IfOk result (λ r. r ≡ map.from_entries (bytes_by_number blocks.now)) }
         ensures bytes { IfOk result AreBlocks }
     {
         let mut by_number = BTreeMap::new(alloc);

@@ -4,17 +4,17 @@ ghost use Rattle.std.specs.Prelude.{replicate, ◌≡◌, ◌^◌, ◌<◌, nat_
 ghost use Rattle.std.specs.Option.{option_copied};
 ghost use Rattle.std.specs.FinMap as map;
 ghost use Rattle.std.specs.List.{IsDistinct};
-ghost use Rattle.plc_mem.specs.Blocks.{bytes_of, numbers_of};
-ghost use Rattle.plc_mem.specs.Fresh.{cleared, fresh};
+ghost use Rattle.plc_mem.specs.Blocks.{bytes_by_number, block_numbers};
+ghost use Rattle.plc_mem.specs.Fresh.{zeroed_memory, initial_memory};
 ghost use Rattle.plc_base.specs.AreaBytes.{is_peripheral_byte};
 ghost use Rattle.plc_base.specs.Changes.{ChangesOrStays};
 ghost use Rattle.plc_base.specs.Widths.{bit_count};
 ghost use Rattle.plc_mem.specs.Number.{number_at, region_read, region_written, EachBitExists};
 ghost use Rattle.plc_mem.specs.Peripherals.{with_input, output_of, outputs_cleared};
-ghost use Rattle.plc_mem.specs.Refresh.{refreshed};
-ghost use Rattle.plc_mem.specs.Restart.{bits_retained, memory_cleared};
-ghost use Rattle.plc_mem.specs.Writing.{put, written, written_in};
-ghost use Rattle.plc_mem.specs.Written.{IsWritten};
+ghost use Rattle.plc_mem.specs.Refresh.{memory_refreshed};
+ghost use Rattle.plc_mem.specs.Restart.{retained_bit_memory, memory_after_restart};
+ghost use Rattle.plc_mem.specs.Writing.{put_number, number_written, number_written_in};
+ghost use Rattle.plc_mem.specs.Written.{IsNumberWritten};
 ghost use Rattle.plc_mem.specs.Places.{AreBlocks, HasImage, IsMemory};
 ghost use Rattle.plc_mem.specs.BitPlace.{Inputs, Outputs, BitMemory, PeripheralOutputs, DataBlock};
 
@@ -78,7 +78,7 @@ fn clear_bytes(alloc: Global, count: usize) -> Result<Vec<u8>, NoMemory>
 
 // Makes each byte 0 but those that a warm restart retains.
 fn clear_other_bytes(bytes: &mut [u8])
-    ensures { bytes.new ≡ bits_retained bytes.old }
+    ensures { bytes.new ≡ retained_bit_memory bytes.old }
 {
     let kept = bytes.len().min(RETAINED);
     bytes[kept..].fill(0);
@@ -86,7 +86,7 @@ fn clear_other_bytes(bytes: &mut [u8])
 
 // The same for a vector of bytes.
 fn clear_other_bits(bytes: &mut Vec<u8>)
-    ensures { bytes.new.items ≡ bits_retained bytes.old.items }
+    ensures { bytes.new.items ≡ retained_bit_memory bytes.old.items }
 {
     clear_other_bytes(bytes.as_mut_slice());
 }
@@ -96,7 +96,7 @@ fn clear_other_bits(bytes: &mut Vec<u8>)
 fn put_in(bytes: &mut Vec<u8>, at: usize, bit: u8, width: Width, value: u32) -> Result<(), Missing>
     requires near { at < 2 ^ 16 }
     requires fits { value < 2 ^ bit_count width }
-    ensures { ChangesOrStays (put bytes.old.items at bit width value)
+    ensures { ChangesOrStays (put_number bytes.old.items at bit width value)
         bytes.old.items bytes.new.items result }
 {
     operands::put(bytes.as_mut_slice(), at, bit, width, value)
@@ -104,10 +104,10 @@ fn put_in(bytes: &mut Vec<u8>, at: usize, bit: u8, width: Width, value: u32) -> 
 
 impl Memory {
     /// Memory with copies of these data blocks, each given by its number, in which all else is 0.
-    #[tactic(auto, unfolding(crate::specs::Fresh::fresh))]
+    #[tactic(auto, unfolding(crate::specs::Fresh::initial_memory))]
     pub fn new(alloc: Global, blocks: &[(u16, Vec<u8>)], profile: Profile) -> Result<Self, NoMemory>
-        requires { IsDistinct nat_eq (numbers_of blocks.now) }
-        ensures { IfOk result (λ m. m ≡ fresh profile (bytes_of blocks.now)) }
+        requires { IsDistinct nat_eq (block_numbers blocks.now) }
+        ensures { IfOk result (λ m. m ≡ initial_memory profile (bytes_by_number blocks.now)) }
     {
         let data_blocks = DataBlocks::new(alloc, blocks)?;
         let bit_memory = clear_bytes(alloc, profile.bit_memory_size())?;
@@ -140,9 +140,9 @@ impl Memory {
     #[inline(always)]
     pub fn write(&mut self, place: Place, width: Width, value: u32) -> Result<(), Missing>
         requires { value < 2 ^ bit_count width }
-        ensures cases { ChangesOrStays (written self.old place width value)
+        ensures cases { ChangesOrStays (number_written self.old place width value)
             self.old self.new result }
-        ensures bits { OnOk result (IsWritten self.old self.new place width value) }
+        ensures bits { OnOk result (IsNumberWritten self.old self.new place width value) }
         ensures exists { IsOk result ↔ EachBitExists self.old (region_written place) place width }
     {
         self.store(place, width, value)
@@ -192,9 +192,9 @@ impl Memory {
     /// Updates the process images, as at a cycle point: the process image of the outputs is written
     /// to peripheral outputs 0 to 127, and peripheral inputs 0 to 127 are read to the process image
     /// of the inputs.
-    #[tactic(auto, unfolding(crate::specs::Refresh::refreshed))]
+    #[tactic(auto, unfolding(crate::specs::Refresh::memory_refreshed))]
     pub fn refresh(&mut self)
-        ensures { self.new ≡ refreshed self.old }
+        ensures { self.new ≡ memory_refreshed self.old }
     {
         self.peripheral_outputs.low = self.outputs;
         self.inputs = self.peripheral_inputs.low;
@@ -203,7 +203,7 @@ impl Memory {
     /// What a warm restart does: the process images are cleared, and bit memory but for bytes 0 to
     /// 15; data blocks and the peripheral inputs and outputs stay.
     pub fn clear_unretained(&mut self)
-        ensures { self.new ≡ memory_cleared self.old }
+        ensures { self.new ≡ memory_after_restart self.old }
     {
         self.inputs = [0; LOW_BYTES];
         self.outputs = [0; LOW_BYTES];
@@ -214,7 +214,7 @@ impl Memory {
     fn cleared(profile: Profile, bit_memory: Vec<u8>, data_blocks: DataBlocks) -> Self
         requires bits { bit_memory.items ≡ replicate (bit_memory_size profile) 0 }
         requires blocks { AreBlocks data_blocks }
-        ensures { result ≡ cleared profile data_blocks }
+        ensures { result ≡ zeroed_memory profile data_blocks }
     {
         let _ = profile;
         Memory {
@@ -245,12 +245,12 @@ impl Memory {
     }
 
     // Writes a number at a place, as `write`.
-    #[tactic(auto, unfolding(crate::specs::Writing::written))]
+    #[tactic(auto, unfolding(crate::specs::Writing::number_written))]
     #[inline(always)]
     fn store(&mut self, place: Place, width: Width, value: u32) -> Result<(), Missing>
         requires { value < 2 ^ bit_count width }
         ensures sizes { region_written place ≡ Some PeripheralOutputs → HasImage self.old }
-        ensures cases { ChangesOrStays (written self.old place width value)
+        ensures cases { ChangesOrStays (number_written self.old place width value)
             self.old self.new result }
     {
         let at = usize::from(place.byte);
@@ -269,7 +269,7 @@ impl Memory {
     fn put_inputs(&mut self, at: usize, bit: u8, width: Width, value: u32) -> Result<(), Missing>
         requires near { at < 2 ^ 16 }
         requires fits { value < 2 ^ bit_count width }
-        ensures { ChangesOrStays (written_in self.old Inputs at bit width value)
+        ensures { ChangesOrStays (number_written_in self.old Inputs at bit width value)
             self.old self.new result }
     {
         operands::put(&mut self.inputs, at, bit, width, value)
@@ -280,7 +280,7 @@ impl Memory {
     fn put_outputs(&mut self, at: usize, bit: u8, width: Width, value: u32) -> Result<(), Missing>
         requires near { at < 2 ^ 16 }
         requires fits { value < 2 ^ bit_count width }
-        ensures { ChangesOrStays (written_in self.old Outputs at bit width value)
+        ensures { ChangesOrStays (number_written_in self.old Outputs at bit width value)
             self.old self.new result }
     {
         operands::put(&mut self.outputs, at, bit, width, value)
@@ -297,7 +297,7 @@ impl Memory {
     ) -> Result<(), Missing>
         requires near { at < 2 ^ 16 }
         requires fits { value < 2 ^ bit_count width }
-        ensures { ChangesOrStays (written_in self.old BitMemory at bit width value)
+        ensures { ChangesOrStays (number_written_in self.old BitMemory at bit width value)
             self.old self.new result }
     {
         put_in(&mut self.bit_memory, at, bit, width, value)
@@ -315,7 +315,7 @@ impl Memory {
     ) -> Result<(), Missing>
         requires near { at < 2 ^ 16 }
         requires fits { value < 2 ^ bit_count width }
-        ensures { ChangesOrStays (written_in self.old (DataBlock number) at bit width value)
+        ensures { ChangesOrStays (number_written_in self.old (DataBlock number) at bit width value)
             self.old self.new result }
     {
         self.data_blocks.put(number, at, bit, width, value)
@@ -333,7 +333,7 @@ impl Memory {
         requires near { at < 2 ^ 16 }
         requires fits { value < 2 ^ bit_count width }
         ensures sizes { HasImage self.old }
-        ensures cases { ChangesOrStays (written_in self.old PeripheralOutputs at bit width value)
+        ensures cases { ChangesOrStays (number_written_in self.old PeripheralOutputs at bit width value)
             self.old self.new result }
     {
         self.peripheral_outputs.put(at, bit, width, value)?;

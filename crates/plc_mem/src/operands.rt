@@ -3,7 +3,7 @@ ghost use Rattle.std.specs.Prelude.{◌≡◌, ◌+◌, ◌*◌, ◌^◌, ◌<�
 ghost use Rattle.plc_base.specs.Changes.{ChangesOrStays};
 ghost use Rattle.plc_base.specs.Widths.{bit_count};
 ghost use Rattle.plc_mem.specs.Run.{number_of_bytes, number_over};
-ghost use Rattle.plc_mem.specs.Writing.{is_within as is_within_spec, put as put_spec, stored, with_bit as with_bit_spec};
+ghost use Rattle.plc_mem.specs.Writing.{is_within as is_within_spec, put_number as put_spec, bytes_with_number, byte_with_bit as with_bit_spec};
 
 use crate::faults::Missing;
 use plc_base::Width;
@@ -31,7 +31,7 @@ pub fn number(bytes: &[u8], at: usize, bit: u8, width: Width) -> Option<u32>
 /// # Errors
 ///
 /// `Missing`, with nothing changed, exactly where not each bit of the operand exists.
-#[tactic(auto, unfolding(crate::specs::Writing::put))]
+#[tactic(auto, unfolding(crate::specs::Writing::put_number))]
 #[inline(always)]
 pub fn put(bytes: &mut [u8], at: usize, bit: u8, width: Width, value: u32) -> Result<(), Missing>
     requires near { at < 2 ^ 16 }
@@ -89,7 +89,7 @@ fn store(bytes: &mut [u8], at: usize, bit: u8, width: Width, value: u32)
     requires near { at < 2 ^ 16 }
     requires within { IsTrue (is_within_spec bytes.old at bit width) }
     requires fits { value < 2 ^ bit_count width }
-    ensures { bytes.new ≡ stored bytes.old at bit width value }
+    ensures { bytes.new ≡ bytes_with_number bytes.old at bit width value }
 {
     match width {
         Width::Bit => bytes[at] = with_bit(bytes[at], bit, value == 1),

@@ -5,7 +5,7 @@ ghost use Rattle.plc_base.specs.Changes.{ChangesOrStays};
 ghost use Rattle.plc_base.specs.Widths.{bit_count};
 ghost use Rattle.plc_mem.specs.Changes.{IsFirstDifference};
 ghost use Rattle.plc_mem.specs.Run.{number_over};
-ghost use Rattle.plc_mem.specs.Writing.{put as put_spec};
+ghost use Rattle.plc_mem.specs.Writing.{put_number as put_spec};
 
 use crate::differences::{BLOCK, first_difference};
 use crate::faults::Missing;

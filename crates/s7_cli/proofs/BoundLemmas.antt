@@ -7,7 +7,7 @@ use Rattle.plc_io.specs.Moments.{FilesAt}
 use Rattle.plc_io.specs.Taken.{Took, TookPrefix}
 use Rattle.flat_code.specs.Loading.{Verifies, faults_of}
 use Rattle.image_file.specs.Loaded.{LoadedProgram}
-use Rattle.image_file.specs.Refusing.{IsRefusedBy}
+use Rattle.image_file.specs.Refusing.{IsLoadError}
 use Rattle.image_file.specs.declared.faults.LoadFault.{LoadFault}
 use Rattle.image_file.specs.declared.refusing.LoadError.{LoadError}
 use Rattle.image_file.specs.declared.refusing.LoadError.TheVariants as loading
@@ -188,14 +188,14 @@ stacks-suffice keep (ListImage i s y) d a said zero = λ name held l is told the
 -- ---- an image that isn't loaded, and a certificate that isn't read
 
 pub bound-refused : (V : Type 0) (image : List ℕ) (error : LoadError) (r : Result V Failure) → r ≡ Err (failure_of_loading error)
-    → IsRefusedBy error (faults_of image) → RefusedBy (BoundSays image) r
+    → IsLoadError error (faults_of image) → RefusedBy (BoundSays image) r
 bound-refused V image (loading.Fault fault) r fails least =
     subst (λ (q : Result V Failure). RefusedBy (BoundSays image) q) (sym fails) (Err fault, least, refl)
 bound-refused V image loading.NoMemory r fails least =
     subst (λ (q : Result V Failure). RefusedBy (BoundSays image) q) (sym fails) tt
 
 pub recheck-refused : (V : Type 0) (image text : List ℕ) (error : LoadError) (r : Result V Failure) → r ≡ Err (failure_of_loading error)
-    → IsRefusedBy error (faults_of image) → RefusedBy (RecheckSays image text) r
+    → IsLoadError error (faults_of image) → RefusedBy (RecheckSays image text) r
 recheck-refused V image text (loading.Fault fault) r fails least =
     subst (λ (q : Result V Failure). RefusedBy (RecheckSays image text) q) (sym fails) (Err fault, least, refl)
 recheck-refused V image text loading.NoMemory r fails least =

@@ -12,7 +12,7 @@ use Rattle.stl_ast.specs.declared.blocks.Tree.{Tree}
 use Rattle.stl_lexer.specs.declared.kinds.Token.{Token}
 use Rattle.stl_lexer.specs.Tokens.{AreTokens, AreTokensUnique, IsRefused as AreNoTokens}
 use Rattle.stl_parser.specs.Source.{IsTreeUnique, IsRefusedBy as IsRefusedTree}
-use Rattle.plc_base.specs.Least.{least, lesser, is_before}
+use Rattle.plc_base.specs.Least.{least, lesser, is_refusal_before}
 use Rattle.stl_symbols.specs.Symbol.{Symbol}
 use Rattle.plc_base.proofs.LeastLemmas.{least-append}
 use Rattle.block_layout.specs.Layouts.{layouts_of}
@@ -41,7 +41,7 @@ lesser_is : (r : Refusal) (other : Option Refusal)
     → lesser (Some r) other ≡ Some (unwrap_or (lesser (Some r) other) r)
 unfolding lesser
 lesser_is r None = refl
-lesser_is r (Some s) = one_of (is_before s r) r s
+lesser_is r (Some s) = one_of (is_refusal_before s r) r s
 
 both : (symbols : List Symbol) (tree : Tree) (a b : Option Refusal)
     → least (layout_refusals tree symbols) ≡ a

@@ -7,7 +7,7 @@ use Rattle.flat_code.specs.declared.stamps.Stamp.TheVariants.{Two}
 use Rattle.plc_base.specs.declared.profiles.Profile.TheVariants.{Large}
 use Rattle.image_file.specs.Laws.{ImagesAreOfOne}
 use Rattle.image_file.specs.Loaded.{LoadedProgram}
-use Rattle.image_file.specs.Refusing.{IsRefusedBy}
+use Rattle.image_file.specs.Refusing.{IsLoadError}
 use Rattle.image_file.specs.declared.faults.LoadFault.{LoadFault}
 use Rattle.image_file.specs.declared.refusing.LoadError.{LoadError}
 use Rattle.image_file.specs.declared.refusing.LoadError.TheVariants as loading
@@ -74,7 +74,7 @@ list-verdict (Ok l) a said = listed-verdict l.program a said
 -- ---- an image that isn't loaded, or has no listing
 
 pub list-refused : (V : Type 0) (image : List ℕ) (error : LoadError) (r : Result V Failure) → r ≡ Err (failure_of_loading error)
-    → IsRefusedBy error (faults_of image) → RefusedBy (ListSays image) r
+    → IsLoadError error (faults_of image) → RefusedBy (ListSays image) r
 list-refused V image (loading.Fault fault) r fails least =
     subst (λ (q : Result V Failure). RefusedBy (ListSays image) q) (sym fails) (Err fault, least, refl)
 list-refused V image loading.NoMemory r fails least =

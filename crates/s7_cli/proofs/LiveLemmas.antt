@@ -7,7 +7,7 @@ use Rattle.plc_io.specs.Moments.{FilesAt}
 use Rattle.flat_code.specs.Loading.{faults_of}
 use Rattle.flat_code.specs.Programs.{NameEntry}
 use Rattle.image_file.specs.Loaded.{LoadedProgram}
-use Rattle.image_file.specs.Refusing.{IsRefusedBy}
+use Rattle.image_file.specs.Refusing.{IsLoadError}
 use Rattle.image_file.specs.declared.refusing.LoadError.{LoadError}
 use Rattle.image_file.specs.declared.refusing.LoadError.TheVariants as loading
 use Rattle.var_access.specs.declared.Entry.{Entry}
@@ -237,7 +237,7 @@ said-so steps text p stimuli scripts a loads are_stimuli are_scripts answers = (
 )
 
 pub live-image-refused : (V : Type 0) (text : LiveText) (error : LoadError) (r : Result V Failure) → r ≡ Err (failure_of_loading error)
-    → IsRefusedBy error (faults_of text.image.items) → (steps : ℕ) → RefusedBy (TextSays steps text) r
+    → IsLoadError error (faults_of text.image.items) → (steps : ℕ) → RefusedBy (TextSays steps text) r
 live-image-refused V text (loading.Fault fault) r fails least = λ steps.
     subst (λ (q : Result V Failure). RefusedBy (TextSays steps text) q) (sym fails) (Err fault, least, refl)
 live-image-refused V text loading.NoMemory r fails least = λ steps.

@@ -7,7 +7,7 @@ use Rattle.flat_code.specs.Programs.{Program}
 use Rattle.flat_code.specs.Stamps.{profile_of}
 use Rattle.flat_code.specs.declared.stamps.Stamp.{Stamp}
 use Rattle.image_file.specs.Images.{IsImageOf}
-use Rattle.image_file.specs.Least.{IsAmong, IsLeast, IsUpTo}
+use Rattle.image_file.specs.Least.{IsFaultAmong, IsLeastFault, IsUpTo}
 use Rattle.image_file.specs.Loaded.{LoadedProgram}
 use Rattle.image_file.specs.declared.faults.LoadFault.{LoadFault}
 use Rattle.s7_cli.specs.Loads.{Loads, LoadsAs}
@@ -22,7 +22,7 @@ not-behind f g (inl less) (inr (same, code)) = absurd (omega (arith, less, same)
 not-behind f g (inr (same, code)) (inl less) = absurd (omega (arith, same, less))
 not-behind f g (inr (same, code)) (inr (also, other)) = same-fault f g same (omega (arith, code, other))
 
-least-one : (faults : List (ℕ × ℕ)) (f g : LoadFault) → IsLeast f faults → IsLeast g faults → f ≡ g
+least-one : (faults : List (ℕ × ℕ)) (f g : LoadFault) → IsLeastFault f faults → IsLeastFault g faults → f ≡ g
 least-one faults f g p q = not-behind f g (p.least (g.at, g.code) q.one) (q.least (f.at, f.code) p.one)
 
 same-loaded : (l m : LoadedProgram) → l.program ≡ m.program → l.profile ≡ m.profile → l ≡ m
@@ -43,8 +43,8 @@ found-one bytes l m one other = same-loaded l m program (one.profile ∙ ap prof
     program =
         let same : Some l.program ≡ Some m.program = ap (option_map (λ (z : (Stamp × Program) × Cursor). z.0.1)) found in cc
 
-faultless : (bytes : List ℕ) (l : LoadedProgram) (f : LoadFault) → Loads bytes l → IsLeast f (faults_of bytes) → ⊥
-faultless bytes l f loads least = subst (IsAmong (f.at, f.code)) loads.image.given.clean least.one
+faultless : (bytes : List ℕ) (l : LoadedProgram) (f : LoadFault) → Loads bytes l → IsLeastFault f (faults_of bytes) → ⊥
+faultless bytes l f loads least = subst (IsFaultAmong (f.at, f.code)) loads.image.given.clean least.one
 
 pub loads-one : (bytes : List ℕ) (v w : Result LoadedProgram LoadFault) → LoadsAs bytes v → LoadsAs bytes w → v ≡ w
 loads-one bytes (Ok l) (Ok m) a b = ap Ok (found-one bytes l m a.image b.image)

@@ -10,7 +10,7 @@ use Rattle.var_access.specs.declared.What.{What}
 use Rattle.controller.specs.declared.Observed.{Observed}
 use Rattle.controller.specs.Replay.{ContinuesReplay, Happened, happens, replay}
 use Rattle.controller.specs.State.{State}
-use Rattle.controller.specs.Replayed.{events}
+use Rattle.controller.specs.Replayed.{entry_events}
 use Rattle.sem_kept.specs.Kept.{IsKept}
 use Rattle.monitor.specs.LineText.{end_text}
 use Rattle.s7_cli.specs.run_text.RunText.{blocks_text, entry_text, lines_from, replied_text, run_text, shown_text}
@@ -40,10 +40,10 @@ lines-kept continues profile c d kept before n (e ∷ es) =
 pub texts-kept : ContinuesReplay → (profile : Profile) (c d : Code) → IsKept profile c d → (es : List Entry) → run_text profile d es ≡ run_text profile c es
 unfolding run_text replay
 texts-kept continues profile c d kept es =
-    ap (λ (lines : List ℕ). lines ++ (end_text (length es) (replay profile d (events es)).mode ++ blocks_text (replay profile d (events es)).world))
+    ap (λ (lines : List ℕ). lines ++ (end_text (length es) (replay profile d (entry_events es)).mode ++ blocks_text (replay profile d (entry_events es)).world))
     (lines-kept continues profile c d kept [] 0 es)
-    ∙ ap (λ (mode : Mode). lines ++ (end_text (length es) mode ++ blocks_text (replay profile d (events es)).world)) (kept.mode (events es))
-    ∙ ap (λ (world : World). lines ++ (end_text (length es) (replay profile c (events es)).mode ++ blocks_text world)) (kept.world (events es))
+    ∙ ap (λ (mode : Mode). lines ++ (end_text (length es) mode ++ blocks_text (replay profile d (entry_events es)).world)) (kept.mode (entry_events es))
+    ∙ ap (λ (world : World). lines ++ (end_text (length es) (replay profile c (entry_events es)).mode ++ blocks_text world)) (kept.world (entry_events es))
   where
     lines : List ℕ
     lines = lines_from c 0 (replay profile c []) es

@@ -7,7 +7,7 @@ use Rattle.plc_io.specs.Contents.{Contents}
 use Rattle.flat_code.specs.Loading.{faults_of}
 use Rattle.flat_code.specs.Programs.{NameEntry, Program}
 use Rattle.image_file.specs.Loaded.{LoadedProgram}
-use Rattle.image_file.specs.Refusing.{IsRefusedBy}
+use Rattle.image_file.specs.Refusing.{IsLoadError}
 use Rattle.image_file.specs.declared.faults.LoadFault.{LoadFault}
 use Rattle.image_file.specs.declared.refusing.LoadError.{LoadError}
 use Rattle.image_file.specs.declared.refusing.LoadError.TheVariants as loading
@@ -477,7 +477,7 @@ history-refused V german source symbols p history fault r fails (english, is, ke
 -- ---- an image that isn't loaded, and a history that isn't read behind one that is
 
 pub image-refused : (V : Type 0) (image history : List ℕ) (error : LoadError) (r : Result V Failure) → r ≡ Err (failure_of_loading error)
-    → IsRefusedBy error (faults_of image) → RefusedBy (RunSays image history) r
+    → IsLoadError error (faults_of image) → RefusedBy (RunSays image history) r
 image-refused V image history (loading.Fault fault) r fails least =
     subst (λ (q : Result V Failure). RefusedBy (RunSays image history) q) (sym fails) (Err fault, least, refl)
 image-refused V image history loading.NoMemory r fails least =

@@ -22,14 +22,14 @@ use Rattle.var_access.specs.declared.Reply.TheVariants.{Values}
 use Rattle.var_access.specs.declared.Request.TheVariants.{ReadVars}
 use Rattle.var_access.specs.declared.Var.{Var}
 use Rattle.var_access.specs.declared.What.{What}
-use Rattle.controller.specs.Asking.{answered, read_answered, value_before, value_of, values_from}
+use Rattle.controller.specs.Asking.{request_reply, read_reply, value_before, var_value, values_from}
 use Rattle.controller.specs.State.{State}
 use Rattle.controller.specs.Replay.{replay}
 use Rattle.sem_kept.specs.Kept.{IsKept}
 use Rattle.s7_cli.specs.GenText.{memory_byte, summary_of}
 
 byte-read : (m : Areas) → AreBytes m.bit_memory → (n : ℕ) → n < length m.bit_memory
-    → value_of m (memory_byte n) ≡ Some (get_or m.bit_memory n 0)
+    → var_value m (memory_byte n) ≡ Some (get_or m.bit_memory n 0)
 byte-read m small n there =
     number_at_bytes m (memory_byte n).place Byte ∙ run_number m.bit_memory n 0 Byte small within
   where
@@ -74,11 +74,11 @@ values_in _ = []
 -- a read of eight bytes of bit memory is answered by them
 pub eight-answered : (code : Code) (s : State) → IsMemory s.world.memory → (first : ℕ) → first ≤ 248 → (vars : List Var)
     → vars ≡ map memory_byte (range_with_len first 8)
-    → answered code (ReadVars vars) s ≡ Values (take 8 (drop first s.world.memory.bit_memory))
-unfolding answered
+    → request_reply code (ReadVars vars) s ≡ Values (take 8 (drop first s.world.memory.bit_memory))
+unfolding request_reply
 eight-answered code s is first low vars are =
-    ap (λ (read : List Var). read_answered (values_from s.world.memory 1 read)) are
-    ∙ ap read_answered (eight-read s.world.memory is first low)
+    ap (λ (read : List Var). read_reply (values_from s.world.memory 1 read)) are
+    ∙ ap read_reply (eight-read s.world.memory is first low)
 
 -- ---- sums
 

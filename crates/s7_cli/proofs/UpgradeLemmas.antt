@@ -3,7 +3,7 @@ use Rattle.std.proofs.Common.{◌≡◌, ◌<◌, refl, sym, subst, ℕ, List, g
 use Rattle.flat_code.specs.Loading.{IsLoadable, faults_of}
 use Rattle.flat_code.specs.declared.stamps.Stamp.TheVariants.{Two}
 use Rattle.image_file.specs.Laws.{GivesExactlyImages, ImagesAreOfOne}
-use Rattle.image_file.specs.Refusing.{IsRefusedBy}
+use Rattle.image_file.specs.Refusing.{IsLoadError}
 use Rattle.image_file.specs.declared.refusing.LoadError.{LoadError}
 use Rattle.image_file.specs.declared.refusing.LoadError.TheVariants as loading
 use Rattle.s7_cli.specs.declared.failures.Failure.{Failure}
@@ -57,7 +57,7 @@ keeps-alike images language upgraded image source symbols (l, loads, spelled) ke
 
 -- an image that isn't loaded
 pub upgrade-refused : (V : Type 0) (image : List ℕ) (error : LoadError) (r : Result V Failure) → r ≡ Err (failure_of_loading error)
-    → IsRefusedBy error (faults_of image) → RefusedBy (UpgradeSays image) r
+    → IsLoadError error (faults_of image) → RefusedBy (UpgradeSays image) r
 upgrade-refused V image (loading.Fault fault) r fails least =
     subst (λ (q : Result V Failure). RefusedBy (UpgradeSays image) q) (sym fails) (Err fault, least, refl)
 upgrade-refused V image loading.NoMemory r fails least =

@@ -4,7 +4,7 @@ use Rattle.plc_base.specs.declared.Refusal.{Refusal}
 use Rattle.plc_io.specs.Contents.{Contents}
 use Rattle.flat_code.specs.Loading.{faults_of}
 use Rattle.image_file.specs.Loaded.{LoadedProgram}
-use Rattle.image_file.specs.Refusing.{IsRefusedBy}
+use Rattle.image_file.specs.Refusing.{IsLoadError}
 use Rattle.image_file.specs.declared.refusing.LoadError.{LoadError}
 use Rattle.image_file.specs.declared.refusing.LoadError.TheVariants as loading
 use Rattle.var_access.specs.declared.Entry.{Entry}
@@ -64,7 +64,7 @@ said-so steps text p stimuli vars scripts a loads are_stimuli are_vars are_scrip
 )
 
 pub watch-image-refused : (V : Type 0) (text : WatchText) (error : LoadError) (r : Result V Failure) → r ≡ Err (failure_of_loading error)
-    → IsRefusedBy error (faults_of text.image.items) → (steps : ℕ) → RefusedBy (WatchTextSays steps text) r
+    → IsLoadError error (faults_of text.image.items) → (steps : ℕ) → RefusedBy (WatchTextSays steps text) r
 watch-image-refused V text (loading.Fault fault) r fails least = λ steps.
     subst (λ (q : Result V Failure). RefusedBy (WatchTextSays steps text) q) (sym fails) (Err fault, least, refl)
 watch-image-refused V text loading.NoMemory r fails least = λ steps.

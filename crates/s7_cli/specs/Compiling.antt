@@ -103,6 +103,7 @@ IsCompiledIn language bytes source symbols =
 abbrev pub HasProgram : (source symbols : List ℕ) → Type 0
 HasProgram source symbols = HasProgramIn English source symbols
 
+-- bytes are the image of a source with its symbols, with English mnemonics
 abbrev pub IsCompiled : (bytes source symbols : List ℕ) → Type 0
 IsCompiled bytes source symbols = IsCompiledIn English bytes source symbols
 

@@ -9,7 +9,7 @@ use Rattle.var_access.specs.declared.Entry.{Entry}
 use Rattle.var_access.specs.declared.Var.{Var}
 use Rattle.machine.specs.Code.{Code}
 use Rattle.controller.specs.Replay.{replay}
-use Rattle.controller.specs.Replayed.{events}
+use Rattle.controller.specs.Replayed.{entry_events}
 use Rattle.controller.specs.State.{State}
 
 -- a mode; that of a stop with its cause. A run without OB 100 and without requests never stands in STARTUP
@@ -39,4 +39,4 @@ summary_of number entries s =
 -- the summary of a program's run along a history, at a profile
 abbrev pub summary_text : (number : ℕ) → Profile → Code → List Entry → List ℕ
 summary_text number profile code entries =
-    summary_of number (length entries) (replay profile code (events entries))
+    summary_of number (length entries) (replay profile code (entry_events entries))

@@ -2,7 +2,7 @@
 use Rattle.std.specs.Prelude.{ℕ, List, Result, Ok, Err}
 use Rattle.flat_code.specs.Loading.{IsLoadable, faults_of}
 use Rattle.image_file.specs.Images.{IsImageOf}
-use Rattle.image_file.specs.Least.{IsLeast}
+use Rattle.image_file.specs.Least.{IsLeastFault}
 use Rattle.image_file.specs.Loaded.{LoadedProgram}
 use Rattle.image_file.specs.declared.faults.LoadFault.{LoadFault}
 
@@ -14,4 +14,4 @@ pub record Loads (bytes : List ℕ) (loaded : LoadedProgram) : Type 0 where
 -- bytes load as a program with its profile, or are refused by their least fault, by offset, then code
 abbrev pub LoadsAs : List ℕ → Result LoadedProgram LoadFault → Type 0
 LoadsAs bytes (Ok loaded) = Loads bytes loaded
-LoadsAs bytes (Err fault) = IsLeast fault (faults_of bytes)
+LoadsAs bytes (Err fault) = IsLeastFault fault (faults_of bytes)

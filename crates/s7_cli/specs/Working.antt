@@ -116,6 +116,7 @@ pub record WorkedBy (s : Locked Opening) (p : Passed Opening Entry) (ps : List (
   pub all : whole ≡ true → others ≡ made_whole ps lists
   pub ends : whole ≡ true → (count ≡ steps) ⊎ EndsInStop (the_opening s.origin) p.number r.seen
 
+-- the same with the passes of the workers in one list, of which the first is the stepper's
 abbrev pub HasWorked : Locked Opening → List (Passed Opening Entry) → (steps : ℕ) → (stimuli : List Entry) → (scripts : List (List Entry)) → Passed Opening Entry → Bool → Type 0
 HasWorked s [] steps stimuli scripts r whole = ⊥
 HasWorked s (p ∷ ps) steps stimuli scripts r whole = WorkedBy s p ps steps (stimuli ∷ scripts) r whole

@@ -8,10 +8,10 @@ ghost use Rattle.s7_cli.specs.Inner.{Comes, ComesOf, RefusedBy};
 ghost use Rattle.s7_cli.specs.Reading.{disk};
 ghost use Rattle.s7_cli.specs.StatusTable.{StatusTable};
 
+use crate::command_checks::loaded;
 use crate::failures::{Failure, File, Status};
 use crate::files::read_file;
 use crate::finish::{end_command, write_output, write_text};
-use crate::judging::loaded;
 use plc_base::NoMemory;
 use plc_io::{Files, Sink};
 use stack_bound::{Found, find, write_certificate, write_chain};
@@ -45,7 +45,7 @@ fn told_of(alloc: Global, found: &Found) -> Result<Told, NoMemory>
 
 /// Checks an image, and finds the certificate of its program, or a chain that is too deep.
 #[tactic(auto, using(crate::proofs::BoundLemmas::tells))]
-fn judge_bound(alloc: Global, image: &[u8]) -> Result<Told, Failure>
+fn check_bound(alloc: Global, image: &[u8]) -> Result<Told, Failure>
     ensures tells { IfOk result (TellsOf image.now) }
     ensures refused { RefusedBy (BoundSays image.now) result }
 {
@@ -76,7 +76,7 @@ fn bound_image<F: Files, K: Sink>(
         let took = taking (K.shown out.old) (K.shown out.new) in
         (img : List ℕ) → ComesOf (Bound img cert.now) (image.now ∷ []) went took result }
 {
-    match judge_bound(alloc, image) {
+    match check_bound(alloc, image) {
         Ok(Told::Fits { certificate }) => write_output(files, out, cert, &certificate),
         Ok(Told::Deep { line }) => write_deep(out, &line),
         Err(failure) => Err(failure),

@@ -8,10 +8,10 @@ ghost use Rattle.s7_cli.specs.Reading.{disk};
 ghost use Rattle.s7_cli.specs.StatusTable.{StatusTable};
 ghost use Rattle.s7_cli.specs.Texts.{IsWithin, contents_of};
 
+use crate::command_checks::check_program;
 use crate::failures::{Failure, Status};
 use crate::files::{ProgramText, read_program};
 use crate::finish::{OK_LINE, end_command, write_text};
-use crate::judging::judge_program;
 use plc_io::{Files, Sink};
 use std::alloc::Global;
 
@@ -27,7 +27,7 @@ fn check_text<K: Sink>(
         (src : List ℕ) (symbols : Option (List ℕ)) (at : FilesAt)
         → ComesOf (Check src symbols german) (contents_of text.now) (disk at at) took result }
 {
-    judge_program(alloc, text, german)?;
+    check_program(alloc, text, german)?;
     write_text(out, OK_LINE)
 }
 

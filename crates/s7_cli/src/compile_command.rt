@@ -7,10 +7,10 @@ ghost use Rattle.s7_cli.specs.Reading.{disk};
 ghost use Rattle.s7_cli.specs.StatusTable.{StatusTable};
 ghost use Rattle.s7_cli.specs.Texts.{IsWithin, contents_of};
 
+use crate::command_checks::check_image;
 use crate::failures::{Failure, Status};
 use crate::files::{ProgramText, read_program};
 use crate::finish::{end_command, write_output};
-use crate::judging::judge_image;
 use plc_io::{Files, Sink};
 use std::alloc::Global;
 
@@ -29,7 +29,7 @@ fn compile_text<F: Files, K: Sink>(
         (src : List ℕ) (symbols : Option (List ℕ))
         → ComesOf (Compile src symbols german img.now) (contents_of text.now) went took result }
 {
-    let image = judge_image(alloc, text, german)?;
+    let image = check_image(alloc, text, german)?;
     write_output(files, out, img, &image)
 }
 

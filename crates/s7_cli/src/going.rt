@@ -8,10 +8,10 @@ ghost use Rattle.s7_cli.specs.Reading.{disk};
 ghost use Rattle.s7_cli.specs.StatusTable.{StatusTable};
 ghost use Rattle.s7_cli.specs.Texts.{IsWithin, contents_of};
 
+use crate::command_checks::check_with_history;
 use crate::failures::{Failure, File, Status};
 use crate::files::{ProgramText, read_file, read_program};
 use crate::finish::{end_command, written};
-use crate::judging::judge;
 use crate::run_text::replay_text;
 use plc_io::{Files, Sink};
 use std::alloc::Global;
@@ -31,7 +31,7 @@ fn go_along<K: Sink>(
         → ComesOf (Go src symbols german hist) (contents_of text.now ++ history.now ∷ [])
         (disk at at) took result }
 {
-    let (program, entries) = judge(alloc, text, german, history)?;
+    let (program, entries) = check_with_history(alloc, text, german, history)?;
     // programs that no history tells apart have one text
     controller::laws::continues_replay();
     written(replay_text(alloc, program, &entries, out))

@@ -3,6 +3,7 @@
 
 mod bound_command;
 mod checking;
+mod command_checks;
 mod compile_command;
 mod compiling;
 mod failures;
@@ -12,7 +13,6 @@ mod finish;
 mod gen_command;
 mod going;
 mod help;
-mod judging;
 mod kept_images;
 mod list_command;
 mod listing;
@@ -30,9 +30,9 @@ mod translate_command;
 mod translating;
 mod upgrade_command;
 mod upgraded_images;
+mod watch_checks;
 mod watch_command;
 mod watch_files;
-mod watch_judging;
 mod watch_run;
 mod watching;
 mod words;

@@ -8,7 +8,7 @@ ghost use Rattle.s7_cli.specs.StatusTable.{StatusTable};
 use crate::failures::{Failure, File, Status};
 use crate::files::read_file;
 use crate::finish::{Output, end_command, write_outputs};
-use crate::listing::judge_listing;
+use crate::listing::check_listing;
 use plc_io::{Files, Sink};
 use std::alloc::Global;
 
@@ -27,7 +27,7 @@ fn list_image<F: Files, K: Sink>(
         (img : List ℕ)
         → ComesOf (ListImage img src.now sym.now) (image.now ∷ []) went took result }
 {
-    let listing = judge_listing(alloc, image)?;
+    let listing = check_listing(alloc, image)?;
     let source = Output {
         name: src,
         bytes: listing.source.as_slice(),

@@ -6,10 +6,10 @@ ghost use Rattle.s7_cli.specs.Inner.{RefusedBy};
 ghost use Rattle.s7_cli.specs.ListSays.{IsListing, IsListingOf, IsShortListing, ListSays, ListedAnswer};
 ghost use Rattle.s7_cli.specs.Listings.{CompiledHaveListings, ListingsGiveImages, ListingsGivePrograms};
 
+use crate::command_checks::loaded;
 use crate::compiling::{compiles_to, law_of_programs};
 use crate::failures::{Failure, File};
 use crate::files::limit_of;
-use crate::judging::loaded;
 use image_file::Loaded;
 use std::alloc::Global;
 use stl_list::{Listing, list_within};
@@ -46,7 +46,7 @@ fn listing_of(alloc: Global, loaded: &Loaded) -> Result<Listing, Failure>
 }
 
 /// Checks an image, and lists its program.
-pub(crate) fn judge_listing(alloc: Global, image: &[u8]) -> Result<Listing, Failure>
+pub(crate) fn check_listing(alloc: Global, image: &[u8]) -> Result<Listing, Failure>
     ensures lists { IfOk result (λ x. IsListingOf x.source.items x.symbols.items image.now) }
     ensures refused { RefusedBy (ListSays image.now) result }
 {

@@ -17,10 +17,10 @@ ghost use Rattle.s7_cli.specs.StatusTable.{StatusTable};
 ghost use Rattle.s7_cli.specs.run_text.Behind.{program_of};
 ghost use Rattle.s7_cli.specs.run_text.RunText.{run_text};
 
+use crate::command_checks::{LiveWork, check_live};
 use crate::failures::{Failure, Status};
 use crate::files::{LiveText, read_live};
 use crate::finish::{end_command, written};
-use crate::judging::{LiveWork, judge_live};
 use crate::living::live_run;
 use crate::run_text::replay_text;
 use controller::Controller;
@@ -52,7 +52,7 @@ fn lived<R: Threads + Wait + Sync, G: Gate + Sync>(
         program,
         stimuli,
         scripts,
-    } = judge_live(alloc, text)?;
+    } = check_live(alloc, text)?;
     Ok(live_run(rt, alloc, program, steps, &stimuli, &scripts, gate)?)
 }
 

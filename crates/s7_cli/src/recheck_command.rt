@@ -8,16 +8,16 @@ ghost use Rattle.s7_cli.specs.Inner.{Comes, ComesOf, RefusedBy};
 ghost use Rattle.s7_cli.specs.Reading.{disk};
 ghost use Rattle.s7_cli.specs.StatusTable.{StatusTable};
 
+use crate::command_checks::loaded;
 use crate::failures::{Failure, File, Status};
 use crate::files::read_file;
 use crate::finish::{OK_LINE, end_command, write_text};
-use crate::judging::loaded;
 use plc_io::{Files, Sink};
 use stack_bound::{holds, read_certificate};
 use std::alloc::Global;
 
 /// Checks an image, and then a certificate of it.
-fn judge_recheck(alloc: Global, image: &[u8], certificate: &[u8]) -> Result<(), Failure>
+fn check_recheck(alloc: Global, image: &[u8], certificate: &[u8]) -> Result<(), Failure>
     requires { length certificate.now ≤ 4194304 }
     ensures holds { OnOk result (IsHeld image.now certificate.now) }
     ensures refused { RefusedBy (RecheckSays image.now certificate.now) result }
@@ -42,7 +42,7 @@ fn recheck_image<K: Sink>(
         (img cert : List ℕ) (at : FilesAt)
         → ComesOf (Recheck img cert) (image.now ∷ certificate.now ∷ []) (disk at at) took result }
 {
-    judge_recheck(alloc, image, certificate)?;
+    check_recheck(alloc, image, certificate)?;
     write_text(out, OK_LINE)
 }
 

@@ -6,10 +6,10 @@ ghost use Rattle.s7_cli.specs.Inner.{Comes, ComesOf};
 ghost use Rattle.s7_cli.specs.Reading.{disk};
 ghost use Rattle.s7_cli.specs.StatusTable.{StatusTable};
 
+use crate::command_checks::check_run;
 use crate::failures::{Failure, File, Status};
 use crate::files::read_file;
 use crate::finish::{end_command, written};
-use crate::judging::judge_run;
 use crate::run_text::replay_text;
 use plc_io::{Files, Sink};
 use std::alloc::Global;
@@ -26,7 +26,7 @@ fn run_along<K: Sink>(
         (img hist : List ℕ) (at : FilesAt)
         → ComesOf (Run img hist) (image.now ∷ history.now ∷ []) (disk at at) took result }
 {
-    let (program, entries) = judge_run(alloc, image, history)?;
+    let (program, entries) = check_run(alloc, image, history)?;
     written(replay_text(alloc, program, &entries, out))
 }
 

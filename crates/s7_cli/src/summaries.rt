@@ -1,6 +1,6 @@
 ghost use Rattle.std.specs.Prelude.{◌≡◌, ◌≤◌, ◌<◌, ◌+◌, ◌^◌, ◌++◌, length, map, sum as sum_of};
 ghost use Rattle.std.specs.List.{range_with_len};
-ghost use Rattle.controller.specs.Replayed.{replayed};
+ghost use Rattle.controller.specs.Replayed.{final_state};
 ghost use Rattle.s7_cli.specs.GenText.{bit_memory_sum, memory_byte, mode_words, sum_of_eight, summary_of};
 
 use controller::Controller;
@@ -51,7 +51,7 @@ fn sum(numbers: &[u32]) -> u64
 /// What eight bytes of bit memory hold, from this one on, added up.
 fn sum_of_eight(controller: &Controller, first: u16) -> u64
     requires { first ≤ 248 }
-    ensures value { result ≡ sum_of_eight (replayed controller.now) first }
+    ensures value { result ≡ sum_of_eight (final_state controller.now) first }
     ensures small { result < 2 ^ 36 }
 {
     controller.law_of_memory();
@@ -65,7 +65,7 @@ fn sum_of_eight(controller: &Controller, first: u16) -> u64
 
 /// What the bytes MB 0 to MB 255 hold, added up.
 fn bit_memory_sum(controller: &Controller) -> u64
-    ensures { result ≡ bit_memory_sum (replayed controller.now) }
+    ensures { result ≡ bit_memory_sum (final_state controller.now) }
 {
     let mut sum = 0;
     for part in 0..32 {
@@ -96,7 +96,7 @@ fn add_mode(line: &mut Line, mode: Mode)
 #[tactic(auto, unfolding(crate::specs::GenText::summary_of))]
 pub(crate) fn summary_line(number: u32, controller: &Controller) -> Line
     ensures { result
-        ≡ summary_of number (length controller.now.history) (replayed controller.now) }
+        ≡ summary_of number (length controller.now.history) (final_state controller.now) }
 {
     let mut line = Line::new();
     line.add(b"GEN ");

@@ -5,10 +5,10 @@ ghost use Rattle.s7_cli.specs.Inner.{Comes, ComesOf};
 ghost use Rattle.s7_cli.specs.Reading.{disk};
 ghost use Rattle.s7_cli.specs.StatusTable.{StatusTable};
 
+use crate::command_checks::check_upgrade;
 use crate::failures::{Failure, File, Status};
 use crate::files::read_file;
 use crate::finish::{end_command, write_output};
-use crate::judging::judge_upgrade;
 use plc_io::{Files, Sink};
 use std::alloc::Global;
 
@@ -24,7 +24,7 @@ fn upgrade_image<F: Files, K: Sink>(
         let took = taking (K.shown out.old) (K.shown out.new) in
         (img : List ℕ) → ComesOf (Upgrade img img2.now) (image.now ∷ []) went took result }
 {
-    let upgraded = judge_upgrade(alloc, image)?;
+    let upgraded = check_upgrade(alloc, image)?;
     write_output(files, out, img2, &upgraded)
 }
 

@@ -17,8 +17,8 @@ ghost use Rattle.s7_cli.specs.run_text.Behind.{program_of};
 use crate::failures::{Failure, Status};
 use crate::finish::{end_command, written};
 use crate::live_command::write_live;
+use crate::watch_checks::{WatchWork, check_watch};
 use crate::watch_files::{WatchText, read_watch};
-use crate::watch_judging::{WatchWork, judge_watch};
 use crate::watch_run::watch_run;
 use controller::Controller;
 use event_text::outcome_lines;
@@ -63,7 +63,7 @@ fn run_watch<R: Threads + Wait + Sync, G: Gate + Sync>(
         stimuli,
         vars,
         scripts,
-    } = judge_watch(alloc, text)?;
+    } = check_watch(alloc, text)?;
     let (controller, views) = watch_run(rt, alloc, program, steps, &stimuli, scripts, &vars, gate)?;
     Ok(Watched {
         controller,

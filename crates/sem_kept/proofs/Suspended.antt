@@ -10,9 +10,9 @@ use Rattle.frames.specs.declared.bindings.Binding.{Binding}
 use Rattle.machine.specs.Code.{Code}
 use Rattle.machine.specs.Flat.{code_of}
 use Rattle.machine.specs.Statement.{Step, Went, Ended, SyncError, SysCall, Stop, Stuck, statement}
-use Rattle.ob_sched.specs.Course.{Course, requested}
-use Rattle.ob_sched.specs.Millisecond.{begun, ticked}
-use Rattle.ob_sched.specs.OrganizationBlock.{class_in}
+use Rattle.ob_sched.specs.TickState.{TickState, ob_requested}
+use Rattle.ob_sched.specs.Millisecond.{tick_begun, after_tick}
+use Rattle.ob_sched.specs.OrganizationBlock.{priority_class_in}
 use Rattle.ob_sched.specs.StartInformation.{start_info}
 use Rattle.ob_sched.specs.declared.start_infos.StartEvent.TheVariants.{Arrival}
 use Rattle.ob_sched.specs.Request.{best_of}
@@ -21,19 +21,19 @@ use Rattle.var_access.specs.declared.Request.{Request}
 use Rattle.var_access.specs.declared.Request.TheVariants as request
 use Rattle.var_access.specs.declared.What.{What}
 use Rattle.var_access.specs.declared.What.TheVariants as entry
-use Rattle.controller.specs.Asking.{asked}
+use Rattle.controller.specs.Asking.{request_effect}
 use Rattle.controller.specs.Beginning.{ob_in, begun_above}
-use Rattle.controller.specs.Errors.{is_synchronous, error_in, error_answered, failed}
-use Rattle.controller.specs.Event.{counted, effect, state_after}
+use Rattle.controller.specs.Errors.{is_synchronous, error_in, error_ob_started, error_raised}
+use Rattle.controller.specs.Event.{entry_counted, entry_effect, state_after}
 use Rattle.controller.specs.Replay.{happens, replay, ContinuesReplay}
-use Rattle.controller.specs.Requests.{stopped_if, course_taken, arrived}
-use Rattle.controller.specs.Serving.{Served, Returns, Passes, Stops, served, result_given, after_service}
-use Rattle.controller.specs.Settling.{may_start, request_taken, request_started, best_started, settled}
-use Rattle.controller.specs.Start.{restarted}
-use Rattle.controller.specs.State.{State, is_stop, diagnosed, each_diagnosed}
-use Rattle.controller.specs.Stepping.{with_activations, run_starts, ob_ended, after_statement, stepped_on, stepped}
-use Rattle.controller.specs.Stopping.{spot_of, halted_at, halted}
-use Rattle.controller.specs.Ticking.{timers_moved, active, time_passed}
+use Rattle.controller.specs.Requests.{stopped_if, tick_state_taken, arrival_served}
+use Rattle.controller.specs.Serving.{Served, Returns, Passes, Stops, system_function_served, result_given, after_service}
+use Rattle.controller.specs.Settling.{may_start, request_taken, request_started, best_started, after_settling}
+use Rattle.controller.specs.Start.{warm_restarted}
+use Rattle.controller.specs.State.{State, is_stop, diagnosis_recorded, each_diagnosed}
+use Rattle.controller.specs.Stepping.{with_activations, run_starts, ob_ended, after_statement, step_of_first, after_step}
+use Rattle.controller.specs.Stopping.{spot_of, stop_entered_at, stop_entered}
+use Rattle.controller.specs.Ticking.{timers_moved, active_obs, time_passed}
 use Rattle.sem_kept.specs.Resumption.{after, standing, IsSuspended, Resumes, SourcesResume, ImagesResume}
 
 -- the activation at this place is there, and is the same
@@ -102,8 +102,8 @@ best_mode code (Some best) s = by (may_start best.class s.activations)
     by false = refl
 
 settled_keeps : (code : Code) (s : State) (place : ℕ) → place < length s.activations
-    → Keeps s.activations (settled code s).activations place
-unfolding settled
+    → Keeps s.activations (after_settling code s).activations place
+unfolding after_settling
 settled_keeps code s place there = by (is_stop s.mode)
   where
     by : (b : Bool) → Keeps s.activations
@@ -111,8 +111,8 @@ settled_keeps code s place there = by (is_stop s.mode)
     by true = stays s.activations place there
     by false = best_keeps code (best_of s.mode s.sched.pending) s place there
 
-settled_mode : (code : Code) (s : State) → (settled code s).mode ≡ s.mode
-unfolding settled
+settled_mode : (code : Code) (s : State) → (after_settling code s).mode ≡ s.mode
+unfolding after_settling
 settled_mode code s = by (is_stop s.mode)
   where
     by : (b : Bool)
@@ -124,8 +124,8 @@ settled_mode code s = by (is_stop s.mode)
 
 answered_keeps : (old : Activation) (o : Option Activation) (error : ℕ) (at : Option Spot)
     (a : Activation) (below : List Activation) (s : State) (place : ℕ)
-    → place < length below → is_stop (error_answered o error at a below s).mode ≡ false
-    → Keeps (old ∷ below) (error_answered o error at a below s).activations place
+    → place < length below → is_stop (error_ob_started o error at a below s).mode ≡ false
+    → Keeps (old ∷ below) (error_ob_started o error at a below s).activations place
 answered_keeps old None error at a below s place there on = absurd cc
 answered_keeps old (Some fresh) error at a below s place there on =
     then_keeps (old ∷ below) (a ∷ below) (fresh ∷ a ∷ below) place
@@ -133,22 +133,22 @@ answered_keeps old (Some fresh) error at a below s place there on =
 
 failed_keeps : (code : Code) (old : Activation) (error : ℕ) (at : Option Spot) (a : Activation)
     (below : List Activation) (s : State) (place : ℕ)
-    → place < length below → is_stop (failed code error at a below s).mode ≡ false
-    → Keeps (old ∷ below) (failed code error at a below s).activations place
-unfolding failed
+    → place < length below → is_stop (error_raised code error at a below s).mode ≡ false
+    → Keeps (old ∷ below) (error_raised code error at a below s).activations place
+unfolding error_raised
 failed_keeps code old error at a below s place there on = by (is_synchronous a.ob) on
   where
     stops : State
-    stops = halted_at at causes.in_error_ob (diagnosed 4 error s)
+    stops = stop_entered_at at causes.in_error_ob (diagnosis_recorded 4 error s)
 
     answered : State
-    answered = error_answered (error_in code error at a) error at a below (diagnosed 4 error s)
+    answered = error_ob_started (error_in code error at a) error at a below (diagnosis_recorded 4 error s)
 
     by : (b : Bool) → is_stop (if b then stops else answered).mode ≡ false
         → Keeps (old ∷ below) (if b then stops else answered).activations place
     by true on = absurd cc
     by false on =
-        answered_keeps old (error_in code error at a) error at a below (diagnosed 4 error s) place
+        answered_keeps old (error_in code error at a) error at a below (diagnosis_recorded 4 error s) place
         there on
 
 serves_keeps : (old : Activation) (at : Option Spot) (r : Served) (to : Option Binding)
@@ -180,7 +180,7 @@ statement_keeps code old (Ended regs w) ob at below s place were there on =
 statement_keeps code old (SyncError error a) ob at below s place were there on =
     failed_keeps code old error at a below s place there on
 statement_keeps code old (SysCall number given a) ob at below s place were there on =
-    serves_keeps old at (served number given.inputs s.sched a) given.result below s place there on
+    serves_keeps old at (system_function_served number given.inputs s.sched a) given.result below s place there on
 statement_keeps code old (Stop cause) ob at below s place were there on = absurd cc
 statement_keeps code old Stuck ob at below s place were there on =
     subst (λ (acts : List Activation). Keeps (old ∷ below) acts place) (sym were)
@@ -188,17 +188,17 @@ statement_keeps code old Stuck ob at below s place were there on =
 
 stepped_on_keeps : (code : Code) (acts : List Activation) (s : State) (place : ℕ)
     → s.activations ≡ acts → place + 1 < length acts
-    → is_stop (stepped_on code acts s).mode ≡ false
-    → Keeps acts (stepped_on code acts s).activations place
+    → is_stop (step_of_first code acts s).mode ≡ false
+    → Keeps acts (step_of_first code acts s).activations place
 stepped_on_keeps code [] s place were there on = absurd (omega (arith, there))
 stepped_on_keeps code (a ∷ below) s place were there on =
     statement_keeps code a (statement code a s.world) a.ob (spot_of code a.running.frame) below s
     place were (omega (arith, there)) on
 
 stepped_keeps : (code : Code) (s : State) (place : ℕ) → place + 1 < length s.activations
-    → is_stop (stepped code s).mode ≡ false
-    → Keeps s.activations (stepped code s).activations place
-unfolding stepped
+    → is_stop (after_step code s).mode ≡ false
+    → Keeps s.activations (after_step code s).activations place
+unfolding after_step
 stepped_keeps code s place there on =
     stepped_on_keeps code s.activations s place refl there on
 
@@ -207,37 +207,37 @@ stepped_keeps code s place there on =
 each_same : (records : List (ℕ × ℕ)) (s : State)
     → (each_diagnosed records s).activations ≡ s.activations
 each_same [] s = refl
-each_same (one ∷ rest) s = each_same rest (diagnosed one.0 one.1 s)
+each_same (one ∷ rest) s = each_same rest (diagnosis_recorded one.0 one.1 s)
 
 stopped_keeps : (code : Code) (cause : Option ℕ) (s : State) (place : ℕ)
     → place < length s.activations → is_stop (stopped_if code cause s).mode ≡ false
     → Keeps s.activations (stopped_if code cause s).activations place
-unfolding halted
+unfolding stop_entered
 stopped_keeps code None s place there on = stays s.activations place there
 stopped_keeps code (Some cause) s place there on = absurd cc
 
-course_keeps : (code : Code) (c : Course) (s : State) (place : ℕ)
-    → place < length s.activations → is_stop (course_taken code c s).mode ≡ false
-    → Keeps s.activations (course_taken code c s).activations place
+course_keeps : (code : Code) (c : TickState) (s : State) (place : ℕ)
+    → place < length s.activations → is_stop (tick_state_taken code c s).mode ≡ false
+    → Keeps s.activations (tick_state_taken code c s).activations place
 course_keeps code c s place there on =
     let recorded : State = each_diagnosed c.passed.records.items (record s { sched = c.sched }) in
     let same : recorded.activations ≡ s.activations =
     each_same c.passed.records.items (record s { sched = c.sched }) in
-    subst (λ (acts : List Activation). Keeps acts (course_taken code c s).activations place) same
+    subst (λ (acts : List Activation). Keeps acts (tick_state_taken code c s).activations place) same
     (stopped_keeps code c.passed.stop recorded place
     (subst (λ (acts : List Activation). place < length acts) (sym same) there) on)
 
 arrived_keeps : (code : Code) (ob value : ℕ) (s : State) (place : ℕ)
-    → place < length s.activations → is_stop (arrived code ob value s).mode ≡ false
-    → Keeps s.activations (arrived code ob value s).activations place
-unfolding arrived
+    → place < length s.activations → is_stop (arrival_served code ob value s).mode ≡ false
+    → Keeps s.activations (arrival_served code ob value s).activations place
+unfolding arrival_served
 arrived_keeps code ob value s place there on = by (is_stop s.mode) on
   where
-    course : Course
-    course = requested s.mode ob (start_info (Arrival ob value) (class_in s.mode ob)) (begun s.sched)
+    course : TickState
+    course = ob_requested s.mode ob (start_info (Arrival ob value) (priority_class_in s.mode ob)) (tick_begun s.sched)
 
-    by : (b : Bool) → is_stop (if b then s else course_taken code course s).mode ≡ false
-        → Keeps s.activations (if b then s else course_taken code course s).activations place
+    by : (b : Bool) → is_stop (if b then s else tick_state_taken code course s).mode ≡ false
+        → Keeps s.activations (if b then s else tick_state_taken code course s).activations place
     by true on = stays s.activations place there
     by false on = course_keeps code course s place there on
 
@@ -248,26 +248,26 @@ unfolding time_passed
 time_keeps code ms s place there on =
     course_keeps code course (record s { world = timers_moved course.passed.ms s.world }) place there on
   where
-    course : Course
-    course = ticked s.mode (active s.activations) ms s.sched
+    course : TickState
+    course = after_tick s.mode (active_obs s.activations) ms s.sched
 
 -- ---- requests of operators
 
 -- a request stops, or leaves the activations as they are: a restart outside STOP does nothing
 asked_keeps : (code : Code) (r : Request) (s : State) (place : ℕ) → is_stop s.mode ≡ false
-    → place < length s.activations → is_stop (asked code r s).mode ≡ false
-    → Keeps s.activations (asked code r s).activations place
-unfolding asked halted
+    → place < length s.activations → is_stop (request_effect code r s).mode ≡ false
+    → Keeps s.activations (request_effect code r s).activations place
+unfolding request_effect stop_entered
 asked_keeps code request.Stop s place runs there on = by (is_stop s.mode) on
   where
-    by : (b : Bool) → is_stop (if b then s else halted code causes.by_operator s).mode ≡ false
-        → Keeps s.activations (if b then s else halted code causes.by_operator s).activations place
+    by : (b : Bool) → is_stop (if b then s else stop_entered code causes.by_operator s).mode ≡ false
+        → Keeps s.activations (if b then s else stop_entered code causes.by_operator s).activations place
     by true on = stays s.activations place there
     by false on = absurd cc
 asked_keeps code request.Restart s place runs there on = by (is_stop s.mode) runs
   where
     by : (b : Bool) → b ≡ false
-        → Keeps s.activations (if b then restarted code s else s).activations place
+        → Keeps s.activations (if b then warm_restarted code s else s).activations place
     by true runs = absurd cc
     by false runs = stays s.activations place there
 asked_keeps code (request.MonitorOn block) s place runs there on = by (is_some (code.head block))
@@ -285,12 +285,12 @@ asked_keeps code request.Diag s place runs there on = stays s.activations place 
 -- ---- entries
 
 effect_keeps : (code : Code) (w : What) (s : State) (place : ℕ) → is_stop s.mode ≡ false
-    → place + 1 < length s.activations → is_stop (effect code w s).mode ≡ false
-    → Keeps s.activations (effect code w s).activations place
+    → place + 1 < length s.activations → is_stop (entry_effect code w s).mode ≡ false
+    → Keeps s.activations (entry_effect code w s).activations place
 effect_keeps code entry.Step s place runs there on = by (is_stop s.mode) on
   where
-    by : (b : Bool) → is_stop (if b then s else stepped code s).mode ≡ false
-        → Keeps s.activations (if b then s else stepped code s).activations place
+    by : (b : Bool) → is_stop (if b then s else after_step code s).mode ≡ false
+        → Keeps s.activations (if b then s else after_step code s).activations place
     by true on = stays s.activations place (omega (arith, there))
     by false on = stepped_keeps code s place there on
 effect_keeps code (entry.Input byte value) s place runs there on =
@@ -307,10 +307,10 @@ state_keeps : (code : Code) (w : What) (s : State) (place : ℕ) → is_stop s.m
     → standing (state_after code w s).activations place ≡ standing s.activations place
 unfolding state_after
 state_keeps code w s place runs there on =
-    let next : State = effect code w (counted s) in
+    let next : State = entry_effect code w (entry_counted s) in
     let goes_on : is_stop next.mode ≡ false = sym (ap is_stop (settled_mode code next)) ∙ on in
     let kept : Keeps s.activations next.activations place =
-    effect_keeps code w (counted s) place runs there goes_on in
+    effect_keeps code w (entry_counted s) place runs there goes_on in
     (settled_keeps code next place kept.there).same ∙ kept.same
 
 -- ---- histories

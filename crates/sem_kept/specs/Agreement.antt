@@ -62,15 +62,19 @@ pub record ImageKeepsSourceIn (language : Language) (bytes source symbols : List
 
 -- ---- in English
 
+-- a code runs as a source with English mnemonics does
 abbrev pub RunsAs : Profile → (source symbols : List ℕ) → (running : Code) → Type 0
 RunsAs profile source symbols running = RunsAsIn English profile source symbols running
 
+-- the names of a symbol table, with English mnemonics
 abbrev pub names_in : (symbols : List ℕ) → List NameEntry
 names_in symbols = names_read_in English symbols
 
+-- a program keeps a source with English mnemonics
 abbrev pub KeepsSource : Profile → (source symbols : List ℕ) → Program → Type 0
 KeepsSource profile source symbols p = KeepsSourceIn English profile source symbols p
 
+-- an image keeps a source with English mnemonics
 abbrev pub ImageKeepsSource : (bytes source symbols : List ℕ) → Type 0
 ImageKeepsSource bytes source symbols = ImageKeepsSourceIn English bytes source symbols
 
@@ -105,8 +109,10 @@ ImagesKeepSourcesIn language =
     → least (refusals_of list tree) ≡ None
     → ImageKeepsSourceIn language (image stamp (program_in list tree)) source symbols
 
+-- each image that is compiled keeps its source, with English mnemonics
 abbrev pub ImagesKeepSources : Type 0
 ImagesKeepSources = ImagesKeepSourcesIn English
 
+-- and with German ones
 abbrev pub ImagesKeepGermanSources : Type 0
 ImagesKeepGermanSources = ImagesKeepSourcesIn German

@@ -12,7 +12,7 @@ use Rattle.flat_code.specs.declared.operands.Operand.TheVariants as operand
 use Rattle.flat_code.specs.declared.operations.Operation.{Operation}
 use Rattle.flat_code.specs.declared.operations.Operation.TheVariants as operation
 use Rattle.machine.specs.Code.{Fetched}
-use Rattle.machine.specs.Flat.{statement_at, is_jl}
+use Rattle.machine.specs.Flat.{statement_fetched, is_jl}
 use Rattle.machine.specs.Moved.{aimed_instr}
 use Rattle.stl_codegen.specs.Compiled.{Stated, ops_in, offset_of}
 use Rattle.stl_codegen.specs.Instruction.{numbers_from}
@@ -73,5 +73,5 @@ AreCompiled n (s ∷ behind) = IsCompiled n s.instr behind × AreCompiled (suc n
 -- the code of a block is read back as its statements, and nothing begins behind them
 abbrev pub IsReadBack : CodeBlock → List Stated → Type 0
 IsReadBack b statements =
-    (n : ℕ) → statement_at b (offset_of (ops_in statements) n)
+    (n : ℕ) → statement_fetched b (offset_of (ops_in statements) n)
     ≡ option_map (aimed_statement (offset_of (ops_in statements)) n) (slice_get statements n)

@@ -2,7 +2,7 @@
 -- and the last one is BE.
 use Rattle.std.specs.Prelude.{◌≡◌, ℕ, Bool, true, List, length, None}
 use Rattle.std.specs.List.{AllByRecursion}
-use Rattle.flat_code.specs.Codes.{are_ops, code_bytes, code_fault, code_of}
+use Rattle.flat_code.specs.Codes.{are_ops, code_bytes, code_fault, code_layout}
 use Rattle.flat_code.specs.Programs.{CodeBlock}
 use Rattle.stl_ast.specs.Literals.{AreBytes}
 use Rattle.stl_ast.specs.declared.blocks.Tree.{Tree}
@@ -49,4 +49,4 @@ AreCoded =
 abbrev pub CodedIsGood : Type 0
 CodedIsGood =
     (judged : Bool) (b : CodeBlock) → IsCoded b
-    → (code_of judged (length (code_bytes b.code))).good b.code ≡ true
+    → (code_layout judged (length (code_bytes b.code))).good b.code ≡ true

@@ -95,12 +95,15 @@ IsRefusedSourceIn language source symbols refused =
 
 -- ---- in English
 
+-- what a source with English mnemonics comes to: its code, or its refusal
 abbrev pub IsJudged : (source symbols : List ℕ) → Result Code Refused → Type 0
 IsJudged source symbols outcome = IsJudgedIn English source symbols outcome
 
+-- a source with English mnemonics means a code
 abbrev pub MeansCode : (source symbols : List ℕ) → Code → Type 0
 MeansCode source symbols code = MeansCodeIn English source symbols code
 
+-- a source with English mnemonics is refused
 abbrev pub IsRefusedSource : (source symbols : List ℕ) → Refused → Type 0
 IsRefusedSource source symbols refused = IsRefusedSourceIn English source symbols refused
 

@@ -1,13 +1,13 @@
 -- When the ops of a block have no fault by their operands, their end marks and their calls.
 use Rattle.std.specs.Prelude.{◌≡◌, ℕ, true, false, ◌&&◌, List, [], ◌∷◌, map, Option, Some, None}
 use Rattle.std.specs.List.{AllByRecursion}
-use Rattle.flat_code.specs.Blocks.{Around, Callee, callee, call_fault, is_above, is_bad_actual, is_bad_call, is_bad_place, is_in_db, is_input, lacks_own, lacks_width, mark_fault, misfits_callee, operand_fault, own_parameter, prepares, writes}
+use Rattle.flat_code.specs.Blocks.{Around, CalleeSeen, callee, call_fault, is_above, is_bad_actual, is_bad_call, is_bad_place, is_in_db, is_in_parameter, lacks_own, lacks_width, mark_fault, misfits_callee, operand_fault, parameter_meant, prepares, writes_operand}
 use Rattle.flat_code.specs.Instr.{Instr, Passing, Does, Calls}
-use Rattle.flat_code.specs.OpCodes.{code_of}
+use Rattle.flat_code.specs.OpCodes.{op_code_of}
 use Rattle.flat_code.specs.Ops.{OpData}
 use Rattle.flat_code.specs.Image.{record_of_block}
-use Rattle.flat_code.specs.Loading.{around, lens_of}
-use Rattle.flat_code.specs.Placed.{Placed, Spot, places, spots}
+use Rattle.flat_code.specs.Loading.{around_block, lens_of}
+use Rattle.flat_code.specs.Placed.{Placed, StatementSpot, code_places, spots}
 use Rattle.flat_code.specs.Programs.{CodeBlock, Program}
 use Rattle.flat_code.specs.declared.operands.Operand.{Operand}
 use Rattle.flat_code.specs.declared.operands.Operand.TheVariants as operand
@@ -30,8 +30,8 @@ IsRightOperand a op (operand.Direct area w byte bit) =
 IsRightOperand a op (operand.ByMemory area w from byte) = lacks_width op w ≡ false
 IsRightOperand a op (operand.ByRegister area w register bits) = lacks_width op w ≡ false
 IsRightOperand a op (operand.Parameter index w) =
-    (lacks_width op w ≡ false) × (lacks_own (own_parameter a index) w ≡ false)
-    × ((writes op.code && is_input (own_parameter a index)) ≡ false)
+    (lacks_width op w ≡ false) × (lacks_own (parameter_meant a index) w ≡ false)
+    × ((writes_operand op.code && is_in_parameter (parameter_meant a index)) ≡ false)
 IsRightOperand a op (operand.Jump kind target) = ⊥
 IsRightOperand a op (operand.UseDb number) = ⊥
 IsRightOperand a op (operand.Pass index actual) = ⊥
@@ -44,7 +44,7 @@ IsOpenedFor o None = Unit {0}
 IsOpenedFor o (Some number) = is_in_db o ≡ true
 
 -- what a CALL passes, by rising indices behind one
-abbrev pub ArePassed : Around → Option Callee → (before : Option ℕ) → List Passing → Type 0
+abbrev pub ArePassed : Around → Option CalleeSeen → (before : Option ℕ) → List Passing → Type 0
 ArePassed a s before [] = Unit {0}
 ArePassed a s before (p ∷ ps) =
     (is_above p.index before ≡ true) × (is_bad_actual a p.actual ≡ false)
@@ -58,7 +58,7 @@ PassesAlone _ ps = ps ≡ []
 -- an instruction fits what surrounds its block
 abbrev pub InstrFits : Around → List (ℕ × ℕ) → Instr → Type 0
 InstrFits a lens (Does use_db w o) =
-    (prepares (code_of w) ≡ false) × IsRightOperand a (ending w o) o × IsOpenedFor o use_db
+    (prepares (op_code_of w) ≡ false) × IsRightOperand a (ending w o) o × IsOpenedFor o use_db
 InstrFits a lens (Calls how block instance ps) =
     PassesAlone how ps
     × ArePassed a (callee a.blocks (kind_number block.kind) block.number) None ps
@@ -69,13 +69,13 @@ InstrFits a lens _ = Unit {0}
 -- ---- ops at their places
 
 -- an op that has no fault but by a jump or a bracket
-pub record IsFine (a : Around) (lens : List (ℕ × ℕ)) (ss : List Spot) (p : Placed) : Type 0 where
+pub record IsFine (a : Around) (lens : List (ℕ × ℕ)) (ss : List StatementSpot) (p : Placed) : Type 0 where
   pub operand : IsStill p.op.operand → operand_fault a ss p p.op.operand ≡ None
   pub call : call_fault a (Some lens) p ≡ None
   pub mark : mark_fault p.op ≡ None
 
 -- of these ops each has no fault but by a jump or a bracket
-abbrev pub AreFine : Around → List (ℕ × ℕ) → List Spot → List Placed → Type 0
+abbrev pub AreFine : Around → List (ℕ × ℕ) → List StatementSpot → List Placed → Type 0
 AreFine a lens ss ps = AllByRecursion (IsFine a lens ss) ps
 
 -- ---- a program
@@ -84,8 +84,8 @@ AreFine a lens ss ps = AllByRecursion (IsFine a lens ss) ps
 abbrev pub BlockIsFine : Program → CodeBlock → Type 0
 BlockIsFine p b =
     AreFine
-    (around (Some (lens_of p.data_blocks)) (map record_of_block p.code_blocks) (record_of_block b))
-    (lens_of p.data_blocks) (spots b.code) (places b.code)
+    (around_block (Some (lens_of p.data_blocks)) (map record_of_block p.code_blocks) (record_of_block b))
+    (lens_of p.data_blocks) (spots b.code) (code_places b.code)
 
 -- of an accepted source, whose elements are bytes
 abbrev pub OperandsAreFine : Type 0

@@ -4,8 +4,8 @@ use Rattle.std.specs.List.{slice_get, AllByRecursion}
 use Rattle.std.specs.Option.{option_map, option_and_then}
 use Rattle.plc_base.specs.declared.blocks.BlockId.{BlockId}
 use Rattle.flat_code.specs.Programs.{DataBlock, NameEntry, Program}
-use Rattle.image_file.specs.Readers.{same_id}
-use Rattle.machine.specs.Code.{Code, Fetched, Head}
+use Rattle.image_file.specs.Readers.{is_same_id}
+use Rattle.machine.specs.Code.{Code, Fetched, BlockHead}
 use Rattle.machine.specs.Flat.{numbered_bytes, code_of}
 use Rattle.machine.specs.Moved.{Follows}
 use Rattle.stl_codegen.specs.Compiled.{Stated, StatedBlock, ops_in, offset_of, compiled}
@@ -14,7 +14,7 @@ use Rattle.sem_kept.specs.Back.{AreCompiled}
 -- the first block of a kind and number
 abbrev pub stated_at : BlockId → List StatedBlock → Option StatedBlock
 stated_at id [] = None
-stated_at id (b ∷ bs) = if same_id b.id id then Some b else stated_at id bs
+stated_at id (b ∷ bs) = if is_same_id b.id id then Some b else stated_at id bs
 
 -- the statement of a number, with the next one behind it
 abbrev pub numbered : (n : ℕ) → Stated → Fetched
@@ -25,7 +25,7 @@ abbrev pub statement_of : StatedBlock → (n : ℕ) → Option Fetched
 statement_of b n = option_map (numbered n) (slice_get b.statements n)
 
 -- the head of a block: its local bytes, the bytes of its instance, its parameters
-abbrev pub stated_head : StatedBlock → Head
+abbrev pub stated_head : StatedBlock → BlockHead
 stated_head b =
     record { local_len = b.local_len; instance_len = b.instance_len; params = b.params }
 

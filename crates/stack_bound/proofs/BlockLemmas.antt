@@ -8,7 +8,7 @@ use Rattle.plc_base.specs.declared.blocks.BlockId.{BlockId}
 use Rattle.plc_base.specs.declared.blocks.BlockKind.{BlockKind}
 use Rattle.plc_base.specs.declared.blocks.BlockKind.TheVariants.{Ob, Fc, Fb, Db, Sfc, Udt}
 use Rattle.flat_code.specs.Programs.{CodeBlock}
-use Rattle.image_file.specs.Readers.{block_of, same_id}
+use Rattle.image_file.specs.Readers.{block_by_id, is_same_id}
 
 -- the kind of a place in the order of kinds
 abbrev kind_at : ℕ → BlockKind
@@ -34,24 +34,24 @@ kind_is a b is = sym (kind_there a) ∙ ap kind_at is ∙ kind_there b
 id_of : (a b : BlockId) → a.kind ≡ b.kind → a.number ≡ b.number → a ≡ b
 id_of a b one other = rw (sym one) (rw (sym other) refl)
 
-pub same_is : (a b : BlockId) → same_id a b ≡ true → a ≡ b
+pub same_is : (a b : BlockId) → is_same_id a b ≡ true → a ≡ b
 same_is a b is =
     let parts = and_parts (kind_order a.kind == kind_order b.kind) (a.number == b.number) is in
     id_of a b (kind_is a.kind b.kind (eqb-true (kind_order a.kind) (kind_order b.kind) parts.0))
     (eqb-true a.number b.number parts.1)
 
 -- the block that is found has the kind and number
-pub found_id : (id : BlockId) (blocks : List CodeBlock) (b : CodeBlock) → block_of id blocks ≡ Some b → b.id ≡ id
+pub found_id : (id : BlockId) (blocks : List CodeBlock) (b : CodeBlock) → block_by_id id blocks ≡ Some b → b.id ≡ id
 found_id id [] b is = absurd cc
 found_id id (one ∷ blocks) b is =
-    by (λ same. found_id id blocks b same) (same_id one.id id) refl is
+    by (λ same. found_id id blocks b same) (is_same_id one.id id) refl is
   where
     block_in : CodeBlock → Option CodeBlock → BlockId
     block_in x None = x.id
     block_in x (Some y) = y.id
 
-    by : (block_of id blocks ≡ Some b → b.id ≡ id) → (test : Bool) → same_id one.id id ≡ test
-        → (if test then Some one else block_of id blocks) ≡ Some b → b.id ≡ id
+    by : (block_by_id id blocks ≡ Some b → b.id ≡ id) → (test : Bool) → is_same_id one.id id ≡ test
+        → (if test then Some one else block_by_id id blocks) ≡ Some b → b.id ≡ id
     by next true t same = sym (ap (λ (o : Option CodeBlock). block_in one o) same) ∙ same_is one.id id t
     by next false t same = next same
 
@@ -64,7 +64,7 @@ kind_self Sfc = refl
 kind_self Udt = refl
 
 -- a block is the same as itself
-pub same_self : (a : BlockId) → same_id a a ≡ true
+pub same_self : (a : BlockId) → is_same_id a a ≡ true
 same_self a =
     and_from (kind_order a.kind == kind_order a.kind) (a.number == a.number) (kind_self a.kind)
     number_self

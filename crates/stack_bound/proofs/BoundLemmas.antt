@@ -6,7 +6,7 @@ use Rattle.plc_base.specs.declared.Profile.{Profile}
 use Rattle.plc_base.specs.declared.blocks.BlockId.{BlockId}
 use Rattle.plc_base.specs.declared.blocks.BlockKind.TheVariants.{Ob}
 use Rattle.flat_code.specs.Programs.{CodeBlock, Program}
-use Rattle.image_file.specs.Readers.{block_of}
+use Rattle.image_file.specs.Readers.{block_by_id}
 use Rattle.stack_bound.specs.Calls.{Calls, CallsIn}
 use Rattle.stack_bound.specs.Certificates.{bound_of, CountsItself, CountsCalled, Holds, IsWithin}
 use Rattle.stack_bound.specs.Chains.{CallEachOther, IsChain, IsTooDeep, bytes_of_chain, local_bytes, most_local_bytes}
@@ -35,7 +35,7 @@ counted_by z p c x d e calls holds found =
     by (Some f) counts = counts
 
 itself : (z : Profile) (p : Program) (c : List Bound) (x : BlockId) (e : Bound) (b : CodeBlock) → Holds z p c
-    → bound_of x c ≡ Some e → block_of x p.code_blocks ≡ Some b → (1 ≤ e.depth) × (b.local_len ≤ e.bytes)
+    → bound_of x c ≡ Some e → block_by_id x p.code_blocks ≡ Some b → (1 ≤ e.depth) × (b.local_len ≤ e.bytes)
 itself z p c x e b holds found there =
     subst (λ (o : Option Bound). CountsItself b.local_len o) found (holds.own x b there)
 
@@ -48,11 +48,11 @@ Counts p x rest e = (1 + length rest ≤ e.depth) × (bytes_of_chain p (x ∷ re
 one_itself : (depth : ℕ) → 1 ≤ depth → 1 + 0 ≤ depth
 one_itself depth is = omega (arith, is)
 
-counts_one : (p : Program) (x : BlockId) (e : Bound) (b : CodeBlock) → block_of x p.code_blocks ≡ Some b
+counts_one : (p : Program) (x : BlockId) (e : Bound) (b : CodeBlock) → block_by_id x p.code_blocks ≡ Some b
     → (1 ≤ e.depth) × (b.local_len ≤ e.bytes) → Counts p x [] e
 counts_one p x e b there own = (
   one_itself e.depth own.0,
-  bytes_of (local_bytes (block_of x p.code_blocks)) b.local_len e.bytes
+  bytes_of (local_bytes (block_by_id x p.code_blocks)) b.local_len e.bytes
       (ap (λ (o : Option CodeBlock). local_bytes o) there) own.1,
 )
   where
@@ -64,7 +64,7 @@ counts_more : (p : Program) (x d : BlockId) (more : List BlockId) (e f : Bound) 
     → Counts p x (d ∷ more) e
 counts_more p x d more e f calls by counts = (
   depth_of (length more) f.depth e.depth counts.0 by.0,
-  bytes_of (local_bytes (block_of x p.code_blocks)) calls.from.local_len (bytes_of_chain p (d ∷ more)) f.bytes
+  bytes_of (local_bytes (block_by_id x p.code_blocks)) calls.from.local_len (bytes_of_chain p (d ∷ more)) f.bytes
       e.bytes (ap (λ (o : Option CodeBlock). local_bytes o) calls.is_loaded) counts.1 by.1,
 )
   where
@@ -75,7 +75,7 @@ counts_more p x d more e f calls by counts = (
     bytes_of a len rest f e is one other = omega (arith, is, one, other)
 
 pub chain_counts : (z : Profile) (p : Program) (c : List Bound) (x : BlockId) (rest : List BlockId) (e : Bound)
-    (b : CodeBlock) → Holds z p c → bound_of x c ≡ Some e → block_of x p.code_blocks ≡ Some b
+    (b : CodeBlock) → Holds z p c → bound_of x c ≡ Some e → block_by_id x p.code_blocks ≡ Some b
     → CallEachOther p x rest → Counts p x rest e
 chain_counts z p c x [] e b holds found there each = counts_one p x e b there (itself z p c x e b holds found there)
 chain_counts z p c x (d ∷ more) e b holds found there each =
@@ -103,31 +103,31 @@ last_there z p c x (d ∷ more) e holds found each =
 
 -- an organization block that is loaded has a bound within the limits
 pub ob_bound : (z : Profile) (p : Program) (c : List Bound) (ob : BlockId) (b : CodeBlock) → Holds z p c
-    → ob.kind ≡ Ob → block_of ob p.code_blocks ≡ Some b → IsWithin z (bound_of ob c)
+    → ob.kind ≡ Ob → block_by_id ob p.code_blocks ≡ Some b → IsWithin z (bound_of ob c)
 ob_bound z p c ob b holds kind there =
     let same : b.id ≡ ob = found_id ob p.code_blocks b there in
     subst (λ (x : BlockId). IsWithin z (bound_of x c)) same
-    (holds.obs b (subst (λ (x : BlockId). block_of x p.code_blocks ≡ Some b) (sym same) there)
+    (holds.obs b (subst (λ (x : BlockId). block_by_id x p.code_blocks ≡ Some b) (sym same) there)
     (ap (λ (x : BlockId). x.kind) same ∙ kind))
 
 -- so no chain is too deep
 pub none_deep : (z : Profile) (p : Program) (c : List Bound) (chain : List BlockId) → Holds z p c
     → IsChain p chain → IsTooDeep z p chain → ⊥
 none_deep z p c [] holds is deep = is
-none_deep z p c (ob ∷ rest) holds is deep = loaded (block_of ob p.code_blocks) refl is.1
+none_deep z p c (ob ∷ rest) holds is deep = loaded (block_by_id ob p.code_blocks) refl is.1
   where
     fails : (e : Bound) → Counts p ob rest e → (e.depth ≤ most_frames z) × (e.bytes ≤ most_local_bytes)
         → (most_frames z < length (ob ∷ rest)) ⊎ (most_local_bytes < bytes_of_chain p (ob ∷ rest)) → ⊥
     fails e counts within (inl more) = omega (arith, counts.0, within.0, more)
     fails e counts within (inr more) = omega (arith, counts.1, within.1, more)
 
-    bounded : (b : CodeBlock) → block_of ob p.code_blocks ≡ Some b → (o : Option Bound) → bound_of ob c ≡ o
+    bounded : (b : CodeBlock) → block_by_id ob p.code_blocks ≡ Some b → (o : Option Bound) → bound_of ob c ≡ o
         → IsWithin z o → ⊥
     bounded b there None found within = within
     bounded b there (Some e) found within =
         fails e (chain_counts z p c ob rest e b holds found there is.2) within deep
 
-    loaded : (found : Option CodeBlock) → block_of ob p.code_blocks ≡ found → IsSome found → ⊥
+    loaded : (found : Option CodeBlock) → block_by_id ob p.code_blocks ≡ found → IsSome found → ⊥
     loaded None there none = cc
     loaded (Some b) there some = bounded b there (bound_of ob c) refl (ob_bound z p c ob b holds is.0 there)
 
@@ -149,7 +149,7 @@ abbrev IsAbove : Profile → Program → List Bound → Measure → ℕ → Type
 IsAbove z p c m k =
     (x : BlockId) (e : Bound) → bound_of x c ≡ Some e → number_in m (layers k p) (Some x) ≤ number m e
 
-unloaded : (m : Measure) (p : Program) (k : ℕ) (x : BlockId) → block_of x p.code_blocks ≡ None
+unloaded : (m : Measure) (p : Program) (k : ℕ) (x : BlockId) → block_by_id x p.code_blocks ≡ None
     → number_in m (layers k p) (Some x) ≡ 0
 unloaded m p zero x is = refl
 unloaded m p (suc k) x is = above_none m p (layers k p) x is
@@ -162,11 +162,11 @@ within_none w n r own is = omega (arith, own, is)
 
 called_within : (z : Profile) (p : Program) (c : List Bound) (m : Measure) (k : ℕ) (x called : BlockId) (e : Bound)
     (b : CodeBlock) → Holds z p c → IsAbove z p c m k → bound_of x c ≡ Some e
-    → block_of x p.code_blocks ≡ Some b → CallsIn b.code called
+    → block_by_id x p.code_blocks ≡ Some b → CallsIn b.code called
     → weight m b + number_in m (layers k p) (Some called) ≤ number m e
-called_within z p c m k x called e b holds is_above found there calls = by (block_of called p.code_blocks) refl
+called_within z p c m k x called e b holds is_above found there calls = by (block_by_id called p.code_blocks) refl
   where
-    counted : (d : CodeBlock) → block_of called p.code_blocks ≡ Some d → (o : Option Bound)
+    counted : (d : CodeBlock) → block_by_id called p.code_blocks ≡ Some d → (o : Option Bound)
         → bound_of called c ≡ o → CountsCalled b.local_len (Some e) o
         → weight m b + number_in m (layers k p) (Some called) ≤ number m e
     counted d is None none counts = absurd counts
@@ -174,7 +174,7 @@ called_within z p c m k x called e b holds is_above found there calls = by (bloc
         within_of (weight m b) (number m e) (number_in m (layers k p) (Some called)) (number m f)
         (number_counts m 0 e f b counts) (is_above called f there_too)
 
-    by : (o : Option CodeBlock) → block_of called p.code_blocks ≡ o
+    by : (o : Option CodeBlock) → block_by_id called p.code_blocks ≡ o
         → weight m b + number_in m (layers k p) (Some called) ≤ number m e
     by None is =
         within_none (weight m b) (number m e) (number_in m (layers k p) (Some called))
@@ -191,9 +191,9 @@ pub is_above : (z : Profile) (p : Program) (c : List Bound) (m : Measure) (k : �
     → IsAbove z p c m k
 is_above z p c m zero holds x e found = omega arith
 is_above z p c m (suc k) holds x e found =
-    by (block_of x p.code_blocks) refl (is_above z p c m k holds)
+    by (block_by_id x p.code_blocks) refl (is_above z p c m k holds)
   where
-    by : (o : Option CodeBlock) → block_of x p.code_blocks ≡ o → IsAbove z p c m k
+    by : (o : Option CodeBlock) → block_by_id x p.code_blocks ≡ o → IsAbove z p c m k
         → number_in m (layers (suc k) p) (Some x) ≤ number m e
     by None is below =
         none_within (number_in m (layers (suc k) p) (Some x)) (number m e) (above_none m p (layers k p) x is)

@@ -10,7 +10,7 @@ use Rattle.flat_code.specs.Instr.{Instr, Calls, Does, Jumps, JumpsByList, Return
 use Rattle.flat_code.specs.Ops.{OpData}
 use Rattle.flat_code.specs.Placed.{op_placed, line_placed}
 use Rattle.flat_code.specs.Programs.{CodeBlock}
-use Rattle.flat_code.specs.Kinds.{jump_of}
+use Rattle.flat_code.specs.Kinds.{jump_of_number}
 use Rattle.flat_code.specs.Operations.{operation_of}
 use Rattle.flat_code.specs.declared.kinds.JumpOperation.{JumpOperation}
 use Rattle.flat_code.specs.declared.operands.Operand.{Operand}
@@ -19,7 +19,7 @@ use Rattle.flat_code.specs.declared.operations.CallOperation.{CallOperation}
 use Rattle.flat_code.specs.declared.operations.Operation.{Operation}
 use Rattle.flat_code.specs.declared.operations.Operation.TheVariants as operation
 use Rattle.machine.specs.Code.{Fetched}
-use Rattle.machine.specs.Flat.{Run, with_op, run_with, run_at, most_ops, use_db_of, passings_of, jump_instr, list_of, most_listed, is_jl, call_instr, instr_of, fetched_of, statement_at}
+use Rattle.machine.specs.Flat.{OpRun, with_op, run_with, op_run_at, most_ops, use_db_of, passings_of, jump_by_operation, list_of, most_listed, is_jl, call_by_number, instr_of, fetched_of, statement_fetched}
 use Rattle.stack_bound.specs.Calls.{block_named, callee_in, CallsIn}
 
 -- the op of an offset is one of the ops
@@ -46,41 +46,41 @@ placed_in from (op ∷ ops) at r is =
     by next true same = inl (pair_first (op, from + size op) r same)
     by next false same = inr (next same)
 
-last_of : Run → OpData
+last_of : OpRun → OpData
 last_of r = r.last
 
 -- the last op of a run is one of the ops
-last_in_with : (ops : List OpData) (found : Option (OpData × ℕ)) (more : ℕ → Option Run) (run : Run)
+last_in_with : (ops : List OpData) (found : Option (OpData × ℕ)) (more : ℕ → Option OpRun) (run : OpRun)
     → ((r : OpData × ℕ) → found ≡ Some r → IsIn r.0 ops)
-    → ((next : ℕ) (later : Run) → more next ≡ Some later → IsIn later.last ops)
+    → ((next : ℕ) (later : OpRun) → more next ≡ Some later → IsIn later.last ops)
     → run_with found more ≡ Some run → IsIn run.last ops
 last_in_with ops None more run here later is = absurd cc
 last_in_with ops (Some r) more run here later is = by r.0.last is
   where
-    some_last : Run → Option Run → OpData
+    some_last : OpRun → Option OpRun → OpData
     some_last d None = d.last
     some_last d (Some x) = x.last
 
-    mapped : (rest : Option Run) → more r.1 ≡ rest → option_map (with_op r.0) rest ≡ Some run
+    mapped : (rest : Option OpRun) → more r.1 ≡ rest → option_map (with_op r.0) rest ≡ Some run
         → IsIn run.last ops
     mapped None same none = absurd cc
     mapped (Some x) same some =
-        subst (λ (o : OpData). IsIn o ops) (ap (λ (o : Option Run). some_last run o) some)
+        subst (λ (o : OpData). IsIn o ops) (ap (λ (o : Option OpRun). some_last run o) some)
         (later r.1 x same)
 
     by : (test : Bool)
         → (if test then Some (record { before = []; last = r.0; next = r.1 })
         else option_map (with_op r.0) (more r.1)) ≡ Some run → IsIn run.last ops
     by true same =
-        subst (λ (o : OpData). IsIn o ops) (ap (λ (o : Option Run). some_last run o) same) (here r refl)
+        subst (λ (o : OpData). IsIn o ops) (ap (λ (o : Option OpRun). some_last run o) same) (here r refl)
     by false same = mapped (more r.1) refl same
 
-last_in : (most : ℕ) (ops : List OpData) (at : ℕ) (run : Run) → run_at most ops at ≡ Some run
+last_in : (most : ℕ) (ops : List OpData) (at : ℕ) (run : OpRun) → op_run_at most ops at ≡ Some run
     → IsIn run.last ops
-unfolding run_at
+unfolding op_run_at
 last_in zero ops at run is = absurd cc
 last_in (suc most) ops at run is =
-    last_in_with ops (op_placed 0 ops at) (λ next. run_at most ops next) run
+    last_in_with ops (op_placed 0 ops at) (λ next. op_run_at most ops next) run
     (λ r same. placed_in 0 ops at r same) (λ next later same. last_in most ops next later same) is
 
 -- ---- a call names its block
@@ -99,14 +99,14 @@ never i j calm is = subst (λ (k : Instr). NeverCalls k) is calm
 
 named_by : (found : Option BlockKind) (how made : CallOperation) (number instance : ℕ)
     (passings given : List Passing) (block : BlockId) (named : Option ℕ) (other : Instr)
-    → NeverCalls other → call_instr found how number instance passings other ≡ Calls made block named given
+    → NeverCalls other → call_by_number found how number instance passings other ≡ Calls made block named given
     → option_map (block_named number) found ≡ Some block
 named_by None how made number instance passings given block named other calm is =
     absurd (never other (Calls made block named given) calm is)
 named_by (Some kind) how made number instance passings given block named other calm is =
     ap (λ (i : Instr). Some (block_of_calls block i)) is
 
-jump_never : (w : JumpOperation) (target next : ℕ) (ops : List OpData) → NeverCalls (jump_instr w target next ops)
+jump_never : (w : JumpOperation) (target next : ℕ) (ops : List OpData) → NeverCalls (jump_by_operation w target next ops)
 jump_never w target next ops = by (is_jl w)
   where
     by : (test : Bool) → NeverCalls (if test then JumpsByList (list_of most_listed ops target next) target
@@ -227,8 +227,8 @@ called_is operation.Jump (operand.NumberedBy x0 x1 x2) use_db passings next ops 
 called_is (operation.Call a) (operand.NumberedBy x0 x1 x2) use_db passings next ops call block named given is =
     absurd (never (Does use_db (operation.Call a) (operand.NumberedBy x0 x1 x2)) (Calls call block named given) tt is)
 called_is operation.Jump (operand.Jump x0 x1) use_db passings next ops call block named given is =
-    absurd (never (jump_instr (jump_of x0) x1 next ops) (Calls call block named given)
-    (jump_never (jump_of x0) x1 next ops) is)
+    absurd (never (jump_by_operation (jump_of_number x0) x1 next ops) (Calls call block named given)
+    (jump_never (jump_of_number x0) x1 next ops) is)
 called_is (operation.Call a) (operand.Jump x0 x1) use_db passings next ops call block named given is =
     absurd (never (Does use_db (operation.Call a) (operand.Jump x0 x1)) (Calls call block named given) tt is)
 called_is operation.Jump (operand.OfStatus x0) use_db passings next ops call block named given is =
@@ -271,13 +271,13 @@ instr_in f None = f.instr
 instr_in f (Some g) = g.instr
 
 pub statement_calls : (b : CodeBlock) (at : ℕ) (f : Fetched) (call : CallOperation) (block : BlockId)
-    (named : Option ℕ) (given : List Passing) → statement_at b at ≡ Some f
+    (named : Option ℕ) (given : List Passing) → statement_fetched b at ≡ Some f
     → f.instr ≡ Calls call block named given → CallsIn b.code block
-unfolding statement_at
+unfolding statement_fetched
 statement_calls b at f call block named given is calls =
     lined (line_placed 0 true b.code b.lines at) is
   where
-    ran : (line : ℕ) (run : Option Run) → run_at most_ops b.code at ≡ run
+    ran : (line : ℕ) (run : Option OpRun) → op_run_at most_ops b.code at ≡ run
         → option_map (fetched_of b.code line) run ≡ Some f → CallsIn b.code block
     ran line None found none = absurd cc
     ran line (Some r) found some =
@@ -287,7 +287,7 @@ statement_calls b at f call block named given is calls =
         (ap (λ (o : Option Fetched). instr_in f o) some ∙ calls))
 
     lined : (line : Option ℕ)
-        → option_and_then (λ n. option_map (fetched_of b.code n) (run_at most_ops b.code at)) line ≡ Some f
+        → option_and_then (λ n. option_map (fetched_of b.code n) (op_run_at most_ops b.code at)) line ≡ Some f
         → CallsIn b.code block
     lined None none = absurd cc
-    lined (Some n) some = ran n (run_at most_ops b.code at) refl some
+    lined (Some n) some = ran n (op_run_at most_ops b.code at) refl some

@@ -10,7 +10,7 @@ use Rattle.plc_base.specs.declared.Profile.{Profile}
 use Rattle.plc_base.specs.declared.blocks.BlockId.{BlockId}
 use Rattle.plc_base.specs.declared.blocks.BlockKind.TheVariants.{Ob}
 use Rattle.flat_code.specs.Programs.{CodeBlock, Program}
-use Rattle.image_file.specs.Readers.{block_of, ids_of, same_id}
+use Rattle.image_file.specs.Readers.{block_by_id, block_ids, is_same_id}
 use Rattle.stack_bound.specs.Calls.{Calls, CallsIn}
 use Rattle.stack_bound.specs.Certificates.{bound_of, AreLoaded, AreOnce, CountsItself, CountsCalled, Holds, IsWithin}
 use Rattle.stack_bound.specs.Finding.{AreAmong, IsAtMost, IsLeastCertificate, IsOnChain, last_of}
@@ -29,7 +29,7 @@ use Rattle.stack_bound.proofs.RankLemmas.{above, layer_has}
 behind_found : (x : BlockId) (seen more : List Bound) (d : Bound) → bound_of x seen ≡ Some d
     → bound_of x (seen ++ more) ≡ Some d
 behind_found x [] more d is = absurd cc
-behind_found x (b ∷ seen) more d is = by (same_id b.block x) (λ later. behind_found x seen more d later) is
+behind_found x (b ∷ seen) more d is = by (is_same_id b.block x) (λ later. behind_found x seen more d later) is
   where
     by : (test : Bool) → (bound_of x seen ≡ Some d → bound_of x (seen ++ more) ≡ Some d)
         → (if test then Some b else bound_of x seen) ≡ Some d
@@ -38,10 +38,10 @@ behind_found x (b ∷ seen) more d is = by (same_id b.block x) (λ later. behind
     by false next later = next later
 
 behind_none : (x : BlockId) (seen : List Bound) (b : Bound) → bound_of x seen ≡ None
-    → same_id b.block x ≡ false → bound_of x (seen ++ b ∷ []) ≡ None
+    → is_same_id b.block x ≡ false → bound_of x (seen ++ b ∷ []) ≡ None
 behind_none x [] b is apart = rw apart refl
 behind_none x (d ∷ seen) b is apart =
-    by (same_id d.block x) (λ later. behind_none x seen b later apart) is
+    by (is_same_id d.block x) (λ later. behind_none x seen b later apart) is
   where
     by : (test : Bool) → (bound_of x seen ≡ None → bound_of x (seen ++ b ∷ []) ≡ None)
         → (if test then Some d else bound_of x seen) ≡ None
@@ -52,7 +52,7 @@ behind_none x (d ∷ seen) b is apart =
 front_none : (x : BlockId) (seen more : List Bound) → bound_of x (seen ++ more) ≡ None
     → bound_of x seen ≡ None
 front_none x [] more is = refl
-front_none x (d ∷ seen) more is = by (same_id d.block x) (λ later. front_none x seen more later) is
+front_none x (d ∷ seen) more is = by (is_same_id d.block x) (λ later. front_none x seen more later) is
   where
     by : (test : Bool) → (bound_of x (seen ++ more) ≡ None → bound_of x seen ≡ None)
         → (if test then Some d else bound_of x (seen ++ more)) ≡ None
@@ -62,7 +62,7 @@ front_none x (d ∷ seen) more is = by (same_id d.block x) (λ later. front_none
 
 last_found : (seen : List Bound) (b : Bound) → IsSome (bound_of b.block (seen ++ b ∷ []))
 last_found [] b = rw (same_self b.block) refl
-last_found (d ∷ seen) b = by (same_id d.block b.block) (last_found seen b)
+last_found (d ∷ seen) b = by (is_same_id d.block b.block) (last_found seen b)
   where
     by : (test : Bool) → IsSome (bound_of b.block (seen ++ b ∷ []))
         → IsSome (if test then Some d else bound_of b.block (seen ++ b ∷ []))
@@ -104,7 +104,7 @@ marked_of P all seen (m ∷ ms) (b ∷ list) x e each entries is =
     Fact : List Bound → Type 0
     Fact before = (bound_of x all ≡ Some e) × P e × (e.block ≡ x) × (bound_of x before ≡ None)
 
-    first : (m && is_none (bound_of b.block seen)) ≡ true → same_id b.block x ≡ true → Some b ≡ Some e → Fact seen
+    first : (m && is_none (bound_of b.block seen)) ≡ true → is_same_id b.block x ≡ true → Some b ≡ Some e → Fact seen
     first kept same here =
         let parts = and_parts m (is_none (bound_of b.block seen)) kept in
         let one : b ≡ e = ap (λ (o : Option Bound). bound_in o) here in
@@ -115,7 +115,7 @@ marked_of P all seen (m ∷ ms) (b ∷ list) x e each entries is =
           subst (λ (y : BlockId). bound_of y seen ≡ None) at (none_of (bound_of b.block seen) parts.1),
         )
 
-    kept_by : (m && is_none (bound_of b.block seen)) ≡ true → (test : Bool) → same_id b.block x ≡ test
+    kept_by : (m && is_none (bound_of b.block seen)) ≡ true → (test : Bool) → is_same_id b.block x ≡ test
         → (if test then Some b else bound_of x (marked_behind (seen ++ b ∷ []) ms list)) ≡ Some e
         → (bound_of x (marked_behind (seen ++ b ∷ []) ms list) ≡ Some e → Fact (seen ++ b ∷ []))
         → Fact seen
@@ -128,7 +128,7 @@ marked_of P all seen (m ∷ ms) (b ∷ list) x e each entries is =
         → (bound_of x (marked_behind seen ms list) ≡ Some e → Fact seen)
         → (bound_of x (marked_behind (seen ++ b ∷ []) ms list) ≡ Some e → Fact (seen ++ b ∷ []))
         → Fact seen
-    by true kept found next after = kept_by kept (same_id b.block x) refl found after
+    by true kept found next after = kept_by kept (is_same_id b.block x) refl found after
     by false left found next after = next found
 
 -- a block that was seen isn't there again
@@ -144,7 +144,7 @@ not_again seen (m ∷ ms) (b ∷ list) x was =
     more None is none = absurd cc
     more (Some d) is some = rw (behind_found x seen (b ∷ []) d is) refl
 
-    apart : (m && is_none (bound_of b.block seen)) ≡ true → (test : Bool) → same_id b.block x ≡ test → test ≡ false
+    apart : (m && is_none (bound_of b.block seen)) ≡ true → (test : Bool) → is_same_id b.block x ≡ test → test ≡ false
     apart kept false same = refl
     apart kept true same =
         absurd (wrong (subst (λ (y : BlockId). bound_of y seen ≡ None) (same_is b.block x same)
@@ -157,7 +157,7 @@ not_again seen (m ∷ ms) (b ∷ list) x was =
         → bound_of x (marked_behind seen ms list) ≡ None
         → bound_of x (marked_behind (seen ++ b ∷ []) ms list) ≡ None
         → bound_of x (if test then b ∷ marked_behind (seen ++ b ∷ []) ms list else marked_behind seen ms list) ≡ None
-    by true kept next after = rw (apart kept (same_id b.block x) refl) after
+    by true kept next after = rw (apart kept (is_same_id b.block x) refl) after
     by false left next after = next
 
 pub marked_once : (seen : List Bound) (ms : List Bool) (list : List Bound) → AreOnce (marked_behind seen ms list)
@@ -178,25 +178,25 @@ marked_has : (seen : List Bound) (ms : List Bool) (list : List Bound) (x : Block
 marked_has seen ms [] x e all is none = absurd cc
 marked_has seen [] (b ∷ list) x e all is none = absurd all
 marked_has seen (m ∷ ms) (b ∷ list) x e all is none =
-    by (same_id b.block x) refl is (λ apart later. marked_has seen ms list x e (all.1 apart) later none)
+    by (is_same_id b.block x) refl is (λ apart later. marked_has seen ms list x e (all.1 apart) later none)
     (λ apart later unseen. marked_has (seen ++ b ∷ []) ms list x e (all.1 apart) later unseen)
   where
-    here : same_id b.block x ≡ true → Some b ≡ Some e
+    here : is_same_id b.block x ≡ true → Some b ≡ Some e
         → bound_of x (if m && is_none (bound_of b.block seen) then b ∷ marked_behind (seen ++ b ∷ []) ms list else marked_behind seen ms list) ≡ Some e
     here same first =
         rw (all.0 same)
         (rw (is_none_of (bound_of b.block seen) (subst (λ (y : BlockId). bound_of y seen ≡ None) (sym (same_is b.block x same)) none))
         (rw same first))
 
-    kept : (test : Bool) → same_id b.block x ≡ false → bound_of x (marked_behind seen ms list) ≡ Some e
+    kept : (test : Bool) → is_same_id b.block x ≡ false → bound_of x (marked_behind seen ms list) ≡ Some e
         → bound_of x (marked_behind (seen ++ b ∷ []) ms list) ≡ Some e
         → bound_of x (if test then b ∷ marked_behind (seen ++ b ∷ []) ms list else marked_behind seen ms list) ≡ Some e
     kept true apart next after = rw apart after
     kept false apart next after = next
 
-    by : (test : Bool) → same_id b.block x ≡ test → (if test then Some b else bound_of x list) ≡ Some e
-        → (same_id b.block x ≡ false → bound_of x list ≡ Some e → bound_of x (marked_behind seen ms list) ≡ Some e)
-        → (same_id b.block x ≡ false → bound_of x list ≡ Some e → bound_of x (seen ++ b ∷ []) ≡ None
+    by : (test : Bool) → is_same_id b.block x ≡ test → (if test then Some b else bound_of x list) ≡ Some e
+        → (is_same_id b.block x ≡ false → bound_of x list ≡ Some e → bound_of x (marked_behind seen ms list) ≡ Some e)
+        → (is_same_id b.block x ≡ false → bound_of x list ≡ Some e → bound_of x (seen ++ b ∷ []) ≡ None
         → bound_of x (marked_behind (seen ++ b ∷ []) ms list) ≡ Some e)
         → bound_of x (if m && is_none (bound_of b.block seen) then b ∷ marked_behind (seen ++ b ∷ []) ms list else marked_behind seen ms list) ≡ Some e
     by true same first next after = here same first
@@ -238,9 +238,9 @@ loaded_kept p seen (m ∷ ms) (b ∷ list) loaded =
 entries_are : (p : Program) (layer : List Bound) (ids : List BlockId)
     → EntriesAre (layer_above p layer) (bounds_above p layer ids)
 entries_are p layer [] = tt
-entries_are p layer (id ∷ ids) = by (block_of id p.code_blocks) refl (entries_are p layer ids)
+entries_are p layer (id ∷ ids) = by (block_by_id id p.code_blocks) refl (entries_are p layer ids)
   where
-    by : (found : Option CodeBlock) → block_of id p.code_blocks ≡ found
+    by : (found : Option CodeBlock) → block_by_id id p.code_blocks ≡ found
         → EntriesAre (layer_above p layer) (bounds_above p layer ids)
         → EntriesAre (layer_above p layer)
         (with_bound (option_map (bound_above layer id) found) (bounds_above p layer ids))
@@ -249,9 +249,9 @@ entries_are p layer (id ∷ ids) = by (block_of id p.code_blocks) refl (entries_
 
 are_loaded : (p : Program) (layer : List Bound) (ids : List BlockId) → AreLoaded p (bounds_above p layer ids)
 are_loaded p layer [] = tt
-are_loaded p layer (id ∷ ids) = by (block_of id p.code_blocks) refl (are_loaded p layer ids)
+are_loaded p layer (id ∷ ids) = by (block_by_id id p.code_blocks) refl (are_loaded p layer ids)
   where
-    by : (found : Option CodeBlock) → block_of id p.code_blocks ≡ found → AreLoaded p (bounds_above p layer ids)
+    by : (found : Option CodeBlock) → block_by_id id p.code_blocks ≡ found → AreLoaded p (bounds_above p layer ids)
         → AreLoaded p (with_bound (option_map (bound_above layer id) found) (bounds_above p layer ids))
     by None is rest = rest
     by (Some b) is rest = (rw is refl, rest)
@@ -268,7 +268,7 @@ are_among : (p : Program) (layer : List Bound) (ids : List BlockId) (seen : List
 are_among p layer [] seen [] = tt
 are_among p layer [] seen (m ∷ ms) = tt
 are_among p layer (id ∷ ids) seen ms =
-    by (block_of id p.code_blocks) ms (λ before marks. are_among p layer ids before marks)
+    by (block_by_id id p.code_blocks) ms (λ before marks. are_among p layer ids before marks)
   where
     kept : (test : Bool) (b : CodeBlock) (rest : List Bool)
         → ((before : List Bound) (marks : List Bool)
@@ -297,7 +297,7 @@ abbrev pub certificate : Profile → Program → List Bound
 certificate z p = marked_behind [] (marks (most_frames z) p (highest z p)) (highest z p)
 
 abbrev loaded_highest : (z : Profile) (p : Program) → AreLoaded p (highest z p)
-loaded_highest z p = are_loaded p (layers (most_frames z) p) (ids_of p)
+loaded_highest z p = are_loaded p (layers (most_frames z) p) (block_ids p)
 
 -- what it says of a block is what the layer says, and the block stands on a chain
 Said : Profile → Program → BlockId → Bound → Type 0
@@ -308,12 +308,12 @@ said : (z : Profile) (p : Program) (x : BlockId) (e : Bound) → bound_of x (cer
 said z p x e is =
     let fact = marked_of (λ (b : Bound). IsOnChain p b.block) (highest z p) [] (marks (most_frames z) p (highest z p))
     (highest z p) x e (marks_sound p (highest z p) (most_frames z) (loaded_highest z p))
-    (entries_are p (layers (most_frames z) p) (ids_of p)) is in
+    (entries_are p (layers (most_frames z) p) (block_ids p)) is in
     (fact.0, subst (λ (y : BlockId). IsOnChain p y) fact.2 fact.1)
 
 -- and it has each block on a chain
 has : (z : Profile) (p : Program) (x : BlockId) (b : CodeBlock) → NoneOver z p (highest z p) → IsOnChain p x
-    → block_of x p.code_blocks ≡ Some b
+    → block_by_id x p.code_blocks ≡ Some b
     → bound_of x (certificate z p) ≡ Some (bound_above (layers (most_frames z) p) x b)
 has z p x b none on there =
     marked_has [] (marks (most_frames z) p (highest z p)) (highest z p) x (bound_above (layers (most_frames z) p) x b)
@@ -327,7 +327,7 @@ at_least : (x w most : ℕ) → x ≡ w + most → w ≤ x
 at_least x w most is = omega (arith, is)
 
 holds_own : (z : Profile) (p : Program) (x : BlockId) (b : CodeBlock) (o : Option Bound)
-    → block_of x p.code_blocks ≡ Some b → bound_of x (certificate z p) ≡ o → CountsItself b.local_len o
+    → block_by_id x p.code_blocks ≡ Some b → bound_of x (certificate z p) ≡ o → CountsItself b.local_len o
 holds_own z p x b None there is = tt
 holds_own z p x b (Some e) there is = (
   at_least e.depth 1 (most_called Depth (layers (most_frames z) p) b.code) (counted Depth),
@@ -341,7 +341,7 @@ one_more : (a b : ℕ) → 1 + a ≤ b → a + 1 ≤ b
 one_more a b is = omega (arith, is)
 
 holds_calls : (z : Profile) (p : Program) (x called : BlockId) (b d : CodeBlock) (o : Option Bound)
-    → NoneOver z p (highest z p) → block_of x p.code_blocks ≡ Some b → block_of called p.code_blocks ≡ Some d
+    → NoneOver z p (highest z p) → block_by_id x p.code_blocks ≡ Some b → block_by_id called p.code_blocks ≡ Some d
     → CallsIn b.code called → bound_of x (certificate z p) ≡ o
     → CountsCalled b.local_len o (bound_of called (certificate z p))
 holds_calls z p x called b d None none there to calls is = tt
@@ -369,7 +369,7 @@ holds_calls z p x called b d (Some e) none there to calls is =
         (counts_down z p m x called b there calls (few_on_chain z p x on none)))
 
 holds_obs : (z : Profile) (p : Program) (b : CodeBlock) → NoneOver z p (highest z p)
-    → block_of b.id p.code_blocks ≡ Some b → b.id.kind ≡ Ob → IsWithin z (bound_of b.id (certificate z p))
+    → block_by_id b.id p.code_blocks ≡ Some b → b.id.kind ≡ Ob → IsWithin z (bound_of b.id (certificate z p))
 holds_obs z p b none there kind =
     subst (λ (o : Option Bound). IsWithin z o)
     (sym (has z p b.id b none (ob_on_chain p b.id kind (rw there refl)) there))
@@ -392,13 +392,13 @@ certificate_holds z p none = record {
 in_each : (z : Profile) (p : Program) (d : List Bound) (x : BlockId) → Holds z p d → IsOnChain p x
     → IsSome (bound_of x d)
 in_each z p d x holds on =
-    subst (λ (y : BlockId). IsSome (bound_of y d)) on.ends (loaded (block_of on.ob p.code_blocks) refl on.is_chain.1)
+    subst (λ (y : BlockId). IsSome (bound_of y d)) on.ends (loaded (block_by_id on.ob p.code_blocks) refl on.is_chain.1)
   where
     bounded : (o : Option Bound) → bound_of on.ob d ≡ o → IsWithin z o → IsSome (bound_of (last_of on.ob on.rest) d)
     bounded None found within = absurd within
     bounded (Some e) found within = last_there z p d on.ob on.rest e holds found on.is_chain.2
 
-    loaded : (found : Option CodeBlock) → block_of on.ob p.code_blocks ≡ found → IsSome found
+    loaded : (found : Option CodeBlock) → block_by_id on.ob p.code_blocks ≡ found → IsSome found
         → IsSome (bound_of (last_of on.ob on.rest) d)
     loaded None there isnt = absurd cc
     loaded (Some b) there some = bounded (bound_of on.ob d) refl (ob_bound z p d on.ob b holds on.is_chain.0 there)
@@ -440,7 +440,7 @@ least z p none = record {
       each_kept (λ (b : Bound). IsOnChain p b.block) [] (marks (most_frames z) p (highest z p)) (highest z p)
       (marks_sound p (highest z p) (most_frames z) (loaded_highest z p));
   order =
-      are_among p (layers (most_frames z) p) (ids_of p) [] (marks (most_frames z) p (highest z p));
+      are_among p (layers (most_frames z) p) (block_ids p) [] (marks (most_frames z) p (highest z p));
   least = λ d holds.
       all_by (λ (b : Bound). IsOnChain p b.block × (bound_of b.block (highest z p) ≡ Some b))
       (λ (b : Bound). IsAtMost b (bound_of b.block d)) (certificate z p)
@@ -449,5 +449,5 @@ least z p none = record {
       (marks (most_frames z) p (highest z p)) (highest z p)
       (with_entries (λ (b : Bound). IsOnChain p b.block) (highest z p) (marks (most_frames z) p (highest z p)) (highest z p)
       (marks_sound p (highest z p) (most_frames z) (loaded_highest z p))
-      (entries_are p (layers (most_frames z) p) (ids_of p))));
+      (entries_are p (layers (most_frames z) p) (block_ids p))));
 }

@@ -7,7 +7,7 @@ use Rattle.plc_base.specs.Profiles.{most_frames}
 use Rattle.plc_base.specs.declared.Profile.{Profile}
 use Rattle.plc_base.specs.declared.blocks.BlockId.{BlockId}
 use Rattle.flat_code.specs.Programs.{CodeBlock, Program}
-use Rattle.image_file.specs.Readers.{block_of}
+use Rattle.image_file.specs.Readers.{block_by_id}
 use Rattle.stack_bound.specs.Calls.{Calls, CallsIn}
 use Rattle.stack_bound.specs.Chains.{CallEachOther, IsChain, IsTooDeep, bytes_of_chain, local_bytes, most_local_bytes}
 use Rattle.stack_bound.specs.Deepest.{IsMostCalled, IsOver, LeadsOver, is_too_deep, total}
@@ -46,16 +46,16 @@ sum_more : (a b c : ℕ) → (a + b) + c ≡ a + (b + c)
 sum_more a b c = omega arith
 
 bytes_more : (p : Program) (chain : List BlockId) (x : BlockId) (b : CodeBlock)
-    → block_of x p.code_blocks ≡ Some b
+    → block_by_id x p.code_blocks ≡ Some b
     → bytes_of_chain p (chain ++ x ∷ []) ≡ bytes_of_chain p chain + b.local_len
 bytes_more p [] x b is =
     ap (λ (o : Option CodeBlock). local_bytes o + 0) is ∙ omega arith
 bytes_more p (first ∷ chain) x b is =
-    ap (λ (n : ℕ). local_bytes (block_of first p.code_blocks) + n) (bytes_more p chain x b is)
-    ∙ sym (sum_more (local_bytes (block_of first p.code_blocks)) (bytes_of_chain p chain) b.local_len)
+    ap (λ (n : ℕ). local_bytes (block_by_id first p.code_blocks) + n) (bytes_more p chain x b is)
+    ∙ sym (sum_more (local_bytes (block_by_id first p.code_blocks)) (bytes_of_chain p chain) b.local_len)
 
 total_more : (m : Measure) (p : Program) (chain : List BlockId) (x : BlockId) (b : CodeBlock)
-    → block_of x p.code_blocks ≡ Some b → total m p (chain ++ x ∷ []) ≡ total m p chain + weight m b
+    → block_by_id x p.code_blocks ≡ Some b → total m p (chain ++ x ∷ []) ≡ total m p chain + weight m b
 total_more Depth p chain x b is = len_more chain x
 total_more Bytes p chain x b is = bytes_more p chain x b is
 
@@ -134,7 +134,7 @@ bytes_are bytes len a b one other = omega (arith, one, other)
 
 pub ends_deep : (profile : Profile) (p : Program) (m : Measure) (layer : List Bound) (chain : List BlockId)
     (block : BlockId) (bytes : ℕ) (b : CodeBlock) → LeadsOver profile p m layer chain block bytes
-    → block_of block p.code_blocks ≡ Some b
+    → block_by_id block p.code_blocks ≡ Some b
     → is_too_deep profile (length (chain ++ block ∷ [])) (bytes + b.local_len) ≡ true
     → IsDeepChain profile p (chain ++ block ∷ [])
 ends_deep profile p m layer chain block bytes b leads is deep = record {
@@ -155,7 +155,7 @@ above_more limit t w most number t2 over at is = omega (arith, over, at, is)
 
 over_more : (profile : Profile) (p : Program) (m : Measure) (k : ℕ) (chain : List BlockId) (block : BlockId)
     (b : CodeBlock) → limit profile m < total m p chain + number_in m (layers (suc k) p) (Some block)
-    → block_of block p.code_blocks ≡ Some b
+    → block_by_id block p.code_blocks ≡ Some b
     → limit profile m < total m p (chain ++ block ∷ []) + most_called m (layers (suc k) p) b.code
 over_more profile p m k chain block b over is =
     above_more (limit profile m) (total m p chain) (weight m b) (most_called m (layers (suc k) p) b.code)
@@ -170,10 +170,10 @@ not_too profile blocks bytes is =
 
 -- a block of which a layer says something is loaded
 said_loaded : (p : Program) (m : Measure) (k : ℕ) (block : BlockId)
-    → 0 < number_in m (layers (suc k) p) (Some block) → IsSome (block_of block p.code_blocks)
-said_loaded p m k block some = by (block_of block p.code_blocks) refl
+    → 0 < number_in m (layers (suc k) p) (Some block) → IsSome (block_by_id block p.code_blocks)
+said_loaded p m k block some = by (block_by_id block p.code_blocks) refl
   where
-    by : (found : Option CodeBlock) → block_of block p.code_blocks ≡ found → IsSome found
+    by : (found : Option CodeBlock) → block_by_id block p.code_blocks ≡ found → IsSome found
     by None is =
         absurd (omega (
           arith,
@@ -182,11 +182,11 @@ said_loaded p m k block some = by (block_of block p.code_blocks) refl
         ))
     by (Some b) is = refl
 
-calls_of : (p : Program) (block called : BlockId) (b : CodeBlock) → block_of block p.code_blocks ≡ Some b
-    → CallsIn b.code called → IsSome (block_of called p.code_blocks) → Calls p block called
-calls_of p block called b is calls loaded = by (block_of called p.code_blocks) refl loaded
+calls_of : (p : Program) (block called : BlockId) (b : CodeBlock) → block_by_id block p.code_blocks ≡ Some b
+    → CallsIn b.code called → IsSome (block_by_id called p.code_blocks) → Calls p block called
+calls_of p block called b is calls loaded = by (block_by_id called p.code_blocks) refl loaded
   where
-    by : (found : Option CodeBlock) → block_of called p.code_blocks ≡ found → IsSome found
+    by : (found : Option CodeBlock) → block_by_id called p.code_blocks ≡ found → IsSome found
         → Calls p block called
     by None there none = absurd cc
     by (Some d) there some =
@@ -195,7 +195,7 @@ calls_of p block called b is calls loaded = by (block_of called p.code_blocks) r
 pub leads_on : (profile : Profile) (p : Program) (m : Measure) (k : ℕ) (layer : List Bound)
     (chain : List BlockId) (block called : BlockId) (bytes : ℕ) (b : CodeBlock)
     → layer ≡ layers (suc k) p
-    → LeadsOver profile p m layer chain block bytes → block_of block p.code_blocks ≡ Some b
+    → LeadsOver profile p m layer chain block bytes → block_by_id block p.code_blocks ≡ Some b
     → is_too_deep profile (length (chain ++ block ∷ [])) (bytes + b.local_len) ≡ false
     → IsMostCalled m layer b.code (Some called)
     → LeadsOver profile p m layer (chain ++ block ∷ []) called (bytes + b.local_len)
@@ -216,7 +216,7 @@ leads_on profile p m k layer chain block called bytes b layer_is leads is fits m
       is));
 }
   where
-    there : IsSome (block_of called p.code_blocks)
+    there : IsSome (block_by_id called p.code_blocks)
     there =
         said_loaded p m k called
         (subst (λ (x : List Bound). 0 < number_in m x (Some called)) layer_is
@@ -226,7 +226,7 @@ leads_on profile p m k layer chain block called bytes b layer_is leads is fits m
 pub leads_somewhere : (profile : Profile) (p : Program) (m : Measure) (k : ℕ) (layer : List Bound)
     (chain : List BlockId) (block : BlockId) (bytes : ℕ) (b : CodeBlock)
     → layer ≡ layers (suc k) p
-    → LeadsOver profile p m layer chain block bytes → block_of block p.code_blocks ≡ Some b
+    → LeadsOver profile p m layer chain block bytes → block_by_id block p.code_blocks ≡ Some b
     → is_too_deep profile (length (chain ++ block ∷ [])) (bytes + b.local_len) ≡ false
     → IsMostCalled m layer b.code None → ⊥
 leads_somewhere profile p m k layer chain block bytes b layer_is leads is fits none =

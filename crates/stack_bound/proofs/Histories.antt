@@ -6,19 +6,19 @@ use Rattle.std.specs.Option.{option_map}
 use Rattle.plc_base.specs.StopCauses as causes
 use Rattle.plc_base.specs.declared.Spot.{Spot}
 use Rattle.plc_mem.specs.Areas.{Areas}
-use Rattle.frames.specs.Activations.{begun, with_local_byte}
+use Rattle.frames.specs.Activations.{activation_begun, with_local_byte}
 use Rattle.frames.specs.declared.Activation.{Activation}
 use Rattle.frames.specs.declared.bindings.Binding.{Binding}
 use Rattle.flat_code.specs.Loading.{Verifies}
 use Rattle.flat_code.specs.Programs.{Program}
-use Rattle.machine.specs.Code.{Code, Head}
+use Rattle.machine.specs.Code.{Code, BlockHead}
 use Rattle.machine.specs.Flat.{code_of}
 use Rattle.machine.specs.Statement.{Step, Went, Ended, SyncError, SysCall, Stop as StopsBy, Stuck, statement}
-use Rattle.ob_sched.specs.Course.{Course, requested}
-use Rattle.ob_sched.specs.Millisecond.{begun as course_begun, ticked}
-use Rattle.ob_sched.specs.OrganizationBlock.{class_in, is_delay}
+use Rattle.ob_sched.specs.TickState.{TickState, ob_requested}
+use Rattle.ob_sched.specs.Millisecond.{tick_begun as course_begun, after_tick}
+use Rattle.ob_sched.specs.OrganizationBlock.{priority_class_in, is_delay}
 use Rattle.ob_sched.specs.Request.{best_of}
-use Rattle.ob_sched.specs.Scheduler.{Scheduler, delay_of, delay_started, delay_cancelled, retriggered}
+use Rattle.ob_sched.specs.Scheduler.{Scheduler, delay_of, delay_started, delay_cancelled, cycle_retriggered}
 use Rattle.ob_sched.specs.StartInformation.{ob_of_error, start_info}
 use Rattle.ob_sched.specs.declared.requests.Pending.{Pending}
 use Rattle.ob_sched.specs.declared.start_infos.StartEvent.TheVariants.{Arrival}
@@ -30,21 +30,21 @@ use Rattle.var_access.specs.declared.What.{What}
 use Rattle.var_access.specs.declared.What.TheVariants as what
 use Rattle.var_access.specs.declared.Request.{Request}
 use Rattle.var_access.specs.declared.Request.TheVariants as request
-use Rattle.controller.specs.Asking.{asked}
-use Rattle.controller.specs.Beginning.{ob_block, ob_frame, told_from, ob_begun, ob_in, begun_above}
-use Rattle.controller.specs.CyclePoint.{cycle_point, cycle_passed, cycle_info}
-use Rattle.controller.specs.Errors.{is_synchronous, cause_without, failure, copied_from, error_in, error_answered, failed}
-use Rattle.controller.specs.Event.{counted, effect, state_after}
+use Rattle.controller.specs.Asking.{request_effect}
+use Rattle.controller.specs.Beginning.{ob_block, ob_frame, with_start_bytes, ob_begun, ob_in, begun_above}
+use Rattle.controller.specs.CyclePoint.{cycle_point, cycle_finished, cycle_info}
+use Rattle.controller.specs.Errors.{is_synchronous, cause_without, error_event, copied_from, error_in, error_ob_started, error_raised}
+use Rattle.controller.specs.Event.{entry_counted, entry_effect, state_after}
 use Rattle.controller.specs.Fitting.{AllFit, AreInRange, EntriesKeepFit, IsFit, StartIsFit}
 use Rattle.controller.specs.Replay.{happens, run_from, replay}
-use Rattle.controller.specs.Requests.{stopped_if, course_taken, arrived}
-use Rattle.controller.specs.Serving.{Served, Returns, Passes, Stops as Halts, input, served, result_given, after_service}
-use Rattle.controller.specs.Settling.{may_start, request_taken, request_started, best_started, settled}
-use Rattle.controller.specs.Start.{before_start, cleared, restarted, start, started_up, startup_info, startup_ob}
-use Rattle.controller.specs.State.{State, is_stop, diagnosed, each_diagnosed}
-use Rattle.controller.specs.Stepping.{stepped, stepped_on, after_statement, run_starts, ob_ended, with_activations}
-use Rattle.controller.specs.Stopping.{halted, halted_at, spot, spot_of}
-use Rattle.controller.specs.Ticking.{active, time_passed, timers_moved}
+use Rattle.controller.specs.Requests.{stopped_if, tick_state_taken, arrival_served}
+use Rattle.controller.specs.Serving.{Served, Returns, Passes, Stops as Halts, in_parameter, system_function_served, result_given, after_service}
+use Rattle.controller.specs.Settling.{may_start, request_taken, request_started, best_started, after_settling}
+use Rattle.controller.specs.Start.{before_start, restart_cleared, warm_restarted, start, started_up, startup_info, startup_ob}
+use Rattle.controller.specs.State.{State, is_stop, diagnosis_recorded, each_diagnosed}
+use Rattle.controller.specs.Stepping.{after_step, step_of_first, after_statement, run_starts, ob_ended, with_activations}
+use Rattle.controller.specs.Stopping.{stop_entered, stop_entered_at, running_spot, spot_of}
+use Rattle.controller.specs.Ticking.{active_obs, time_passed, timers_moved}
 use Rattle.stack_bound.specs.Certificates.{bound_of}
 use Rattle.stack_bound.specs.Overflow.{overflows, NeverOverflows}
 use Rattle.stack_bound.proofs.Stacks.{Roomy, stack_of, RoomFor, HasRoom, Certifies}
@@ -69,29 +69,29 @@ RoomIf z c None = Unit {0}
 RoomIf z c (Some a) = Roomy z c a
 
 told_profile : (bytes : List ℕ) (byte : ℕ) (a : Activation)
-    → (told_from byte bytes a).profile ≡ a.profile
+    → (with_start_bytes byte bytes a).profile ≡ a.profile
 told_profile [] byte a = refl
 told_profile (value ∷ rest) byte a =
     told_profile rest (byte + 1) (unwrap_or (with_local_byte 0 byte value a) a)
     ∙ byte_profile byte value a
 
 told_stack : (bytes : List ℕ) (byte : ℕ) (a : Activation)
-    → stack_of (told_from byte bytes a) ≡ stack_of a
+    → stack_of (with_start_bytes byte bytes a) ≡ stack_of a
 told_stack [] byte a = refl
 told_stack (value ∷ rest) byte a =
     told_stack rest (byte + 1) (unwrap_or (with_local_byte 0 byte value a) a)
     ∙ byte_stack byte value a
 
-begun_room : (z : Profile) (c : List Bound) (class ob : ℕ) (info : StartInfo) (h : Head)
+begun_room : (z : Profile) (c : List Bound) (class ob : ℕ) (info : StartInfo) (h : BlockHead)
     → RoomFor z (bound_of (ob_block ob) c) [] → Roomy z c (ob_begun z class ob info h)
 unfolding ob_begun
 begun_room z c class ob info h room = (
-  told_profile info.bytes 0 (begun z class ob (ob_frame ob h)),
+  told_profile info.bytes 0 (activation_begun z class ob (ob_frame ob h)),
   subst (λ (stack : List _). HasRoom z c stack)
-      (sym (told_stack info.bytes 0 (begun z class ob (ob_frame ob h)))) (room, tt),
+      (sym (told_stack info.bytes 0 (activation_begun z class ob (ob_frame ob h)))) (room, tt),
 )
 
-ob_room_by : (z : Profile) (code : Code) (c : List Bound) (class ob : ℕ) (info : StartInfo) (found : Option Head)
+ob_room_by : (z : Profile) (code : Code) (c : List Bound) (class ob : ℕ) (info : StartInfo) (found : Option BlockHead)
     → Certifies z code c → code.head (ob_block ob) ≡ found
     → RoomIf z c (option_map (ob_begun z class ob info) found)
 ob_room_by z code c class ob info None holds is = tt
@@ -114,17 +114,17 @@ each_bounded : (z : Profile) (c : List Bound) (records : List (ℕ × ℕ)) (s :
     → Bounded z c (each_diagnosed records s)
 each_bounded z c [] s b = b
 each_bounded z c (one ∷ rest) s b =
-    each_bounded z c rest (diagnosed one.0 one.1 s) (record { profile = b.profile; room = b.room; mode = b.mode })
+    each_bounded z c rest (diagnosis_recorded one.0 one.1 s) (record { profile = b.profile; room = b.room; mode = b.mode })
 
 halts : (z : Profile) (c : List Bound) (at : Option Spot) (cause : ℕ) (s : State) → s.profile ≡ z
-    → (cause == 6 || cause == 7) ≡ false → Bounded z c (halted_at at cause s)
+    → (cause == 6 || cause == 7) ≡ false → Bounded z c (stop_entered_at at cause s)
 halts z c at cause s sized fine = record { profile = sized; room = tt; mode = fine }
 
 halted_bounded : (z : Profile) (code : Code) (c : List Bound) (cause : ℕ) (s : State)
     → s.profile ≡ z
-    → (cause == 6 || cause == 7) ≡ false → Bounded z c (halted code cause s)
-unfolding halted
-halted_bounded z code c cause s sized fine = halts z c (spot code s.activations) cause s sized fine
+    → (cause == 6 || cause == 7) ≡ false → Bounded z c (stop_entered code cause s)
+unfolding stop_entered
+halted_bounded z code c cause s sized fine = halts z c (running_spot code s.activations) cause s sized fine
 
 -- ---- synchronous errors
 
@@ -142,30 +142,30 @@ without_fine ob = by (ob == 122)
 
 answers : (z : Profile) (c : List Bound) (one : Option Activation) (error : ℕ) (at : Option Spot) (a : Activation)
     (below : List Activation) (s : State) → RoomIf z c one → AllRoom z c (a ∷ below) → Bounded z c s
-    → Bounded z c (error_answered one error at a below s)
+    → Bounded z c (error_ob_started one error at a below s)
 answers z c None error at a below s one all b =
     halts z c at (cause_without (ob_of_error error)) s b.profile (without_fine (ob_of_error error))
 answers z c (Some fresh) error at a below s one all b = record { profile = b.profile; room = (one, all); mode = b.mode }
 
 failed_bounded : (z : Profile) (code : Code) (c : List Bound) (error : ℕ) (at : Option Spot) (a : Activation)
     (below : List Activation) (s : State) → Certifies z code c → AllRoom z c (a ∷ below) → Bounded z c s
-    → Bounded z c (failed code error at a below s)
-unfolding failed
+    → Bounded z c (error_raised code error at a below s)
+unfolding error_raised
 failed_bounded z code c error at a below s holds all b = by (is_synchronous a.ob)
   where
-    recorded : Bounded z c (diagnosed 4 error s)
+    recorded : Bounded z c (diagnosis_recorded 4 error s)
     recorded = record { profile = b.profile; room = b.room; mode = b.mode }
 
     by : (test : Bool)
-        → Bounded z c (if test then halted_at at causes.in_error_ob (diagnosed 4 error s)
-        else error_answered (error_in code error at a) error at a below (diagnosed 4 error s))
-    by true = halts z c at causes.in_error_ob (diagnosed 4 error s) b.profile refl
+        → Bounded z c (if test then stop_entered_at at causes.in_error_ob (diagnosis_recorded 4 error s)
+        else error_ob_started (error_in code error at a) error at a below (diagnosis_recorded 4 error s))
+    by true = halts z c at causes.in_error_ob (diagnosis_recorded 4 error s) b.profile refl
     by false =
-        answers z c (error_in code error at a) error at a below (diagnosed 4 error s)
+        answers z c (error_in code error at a) error at a below (diagnosis_recorded 4 error s)
         (subst (λ (f : Profile). RoomIf z c (option_map (copied_from a)
-        (ob_in f code a.class (ob_of_error error) (start_info (failure error at) a.class)))) (sym all.0.0)
+        (ob_in f code a.class (ob_of_error error) (start_info (error_event error at) a.class)))) (sym all.0.0)
         (copied_room z c a _
-        (ob_room z code c a.class (ob_of_error error) (start_info (failure error at) a.class) holds)))
+        (ob_room z code c a.class (ob_of_error error) (start_info (error_event error at) a.class) holds)))
         all recorded
 
 -- ---- system functions
@@ -238,17 +238,17 @@ if_served true a x y one other = one
 if_served false a x y one other = other
 
 served_same : (number : ℕ) (inputs : List ℕ) (s : Scheduler) (a : Activation)
-    → ServedStack a (served number inputs s a)
-unfolding served
+    → ServedStack a (system_function_served number inputs s a)
+unfolding system_function_served
 served_same number inputs s a =
     if_served (number == 32) a _ _
-    (srt_dint_same s a (input 0 inputs) (input 1 inputs) (input 2 inputs))
-    (if_served (number == 33) a _ _ (can_dint_same s a (input 0 inputs))
-    (if_served (number == 39) a _ _ (dis_irt_same s a (input 0 inputs) (input 1 inputs))
-    (if_served (number == 40) a _ _ (en_irt_same s a (input 0 inputs) (input 1 inputs))
+    (srt_dint_same s a (in_parameter 0 inputs) (in_parameter 1 inputs) (in_parameter 2 inputs))
+    (if_served (number == 33) a _ _ (can_dint_same s a (in_parameter 0 inputs))
+    (if_served (number == 39) a _ _ (dis_irt_same s a (in_parameter 0 inputs) (in_parameter 1 inputs))
+    (if_served (number == 40) a _ _ (en_irt_same s a (in_parameter 0 inputs) (in_parameter 1 inputs))
     (if_served (number == 41) a _ _ (dis_airt_same s a)
     (if_served (number == 42) a _ _ (en_airt_same s a)
-    (if_served (number == 43) a (Passes (retriggered s) (passed a)) _ (refl, refl)
+    (if_served (number == 43) a (Passes (cycle_retriggered s) (passed a)) _ (refl, refl)
     (if_served (number == 46) a (Halts causes.by_program (passed a)) _ refl (time_tck_same s a))))))))
 
 given_stack : (to : Option Binding) (value : ℕ) (a : Activation) (m : Areas)
@@ -308,7 +308,7 @@ statement_bounded z code c (Ended regs w) ob at below s holds room rest b =
 statement_bounded z code c (SyncError error d) ob at below s holds room rest b =
     failed_bounded z code c error at d below s holds (room, rest) b
 statement_bounded z code c (SysCall number given d) ob at below s holds room rest b =
-    service_bounded z c at (served number given.inputs s.sched d) given.result d below s
+    service_bounded z c at (system_function_served number given.inputs s.sched d) given.result d below s
     (served_same number given.inputs s.sched d) (room, rest) b
 statement_bounded z code c (StopsBy cause) ob at below s holds room rest b = absurd room
 statement_bounded z code c Stuck ob at below s holds room rest b = b
@@ -317,14 +317,14 @@ cycle_bounded : (z : Profile) (code : Code) (c : List Bound) (s : State) → Cer
     → Bounded z c (cycle_point code s)
 unfolding cycle_point
 cycle_bounded z code c s holds b =
-    begins_room z c (ob_in s.profile code (class_in s.mode 1) 1 (cycle_info s)) (cycle_passed s)
-    (subst (λ (f : Profile). RoomIf z c (ob_in f code (class_in s.mode 1) 1 (cycle_info s))) (sym b.profile)
-    (ob_room z code c (class_in s.mode 1) 1 (cycle_info s) holds))
+    begins_room z c (ob_in s.profile code (priority_class_in s.mode 1) 1 (cycle_info s)) (cycle_finished s)
+    (subst (λ (f : Profile). RoomIf z c (ob_in f code (priority_class_in s.mode 1) 1 (cycle_info s))) (sym b.profile)
+    (ob_room z code c (priority_class_in s.mode 1) 1 (cycle_info s) holds))
     (record { profile = b.profile; room = b.room; mode = b.mode })
 
 stepped_on_bounded : (z : Profile) (p : Program) (c : List Bound) (activations : List Activation) (s : State)
     → Certifies z (code_of p) c → AllFit p s.world.memory activations → AllRoom z c activations
-    → Bounded z c s → Bounded z c (stepped_on (code_of p) activations s)
+    → Bounded z c s → Bounded z c (step_of_first (code_of p) activations s)
 stepped_on_bounded z p c [] s holds fit all b = cycle_bounded z (code_of p) c s holds b
 stepped_on_bounded z p c (a ∷ below) s holds fit all b =
     statement_bounded z (code_of p) c (statement (code_of p) a s.world) a.ob
@@ -332,8 +332,8 @@ stepped_on_bounded z p c (a ∷ below) s holds fit all b =
     (statement_room z p c a s.world holds fit.0 all.0) all.1 b
 
 step_bounded : (z : Profile) (p : Program) (c : List Bound) (s : State) → Certifies z (code_of p) c → IsFit p s
-    → Bounded z c s → Bounded z c (stepped (code_of p) s)
-unfolding stepped
+    → Bounded z c s → Bounded z c (after_step (code_of p) s)
+unfolding after_step
 step_bounded z p c s holds fit b =
     stepped_on_bounded z p c s.activations s holds fit.activations b.room b
 
@@ -349,8 +349,8 @@ stopped_bounded : (z : Profile) (code : Code) (c : List Bound) (cause : Option �
 stopped_bounded z code c None s fine b = b
 stopped_bounded z code c (Some cause) s fine b = halted_bounded z code c cause s b.profile fine
 
-course_bounded : (z : Profile) (code : Code) (c : List Bound) (course : Course) (s : State)
-    → NoOverflow course.passed.stop → Bounded z c s → Bounded z c (course_taken code course s)
+course_bounded : (z : Profile) (code : Code) (c : List Bound) (course : TickState) (s : State)
+    → NoOverflow course.passed.stop → Bounded z c s → Bounded z c (tick_state_taken code course s)
 course_bounded z code c course s fine b =
     stopped_bounded z code c course.passed.stop
     (each_diagnosed course.passed.records.items (record s { sched = course.sched })) fine
@@ -358,22 +358,22 @@ course_bounded z code c course s fine b =
     (record { profile = b.profile; room = b.room; mode = b.mode }))
 
 arrived_bounded : (z : Profile) (code : Code) (c : List Bound) (ob value : ℕ) (s : State) → Bounded z c s
-    → Bounded z c (arrived code ob value s)
-unfolding arrived
+    → Bounded z c (arrival_served code ob value s)
+unfolding arrival_served
 arrived_bounded z code c ob value s b =
     either_bounded z c (is_stop s.mode) s _ b
     (course_bounded z code c
-    (requested s.mode ob (start_info (Arrival ob value) (class_in s.mode ob)) (course_begun s.sched)) s
-    (requested_fine s.mode ob (start_info (Arrival ob value) (class_in s.mode ob))
+    (ob_requested s.mode ob (start_info (Arrival ob value) (priority_class_in s.mode ob)) (course_begun s.sched)) s
+    (requested_fine s.mode ob (start_info (Arrival ob value) (priority_class_in s.mode ob))
     (course_begun s.sched) tt) b)
 
 time_bounded : (z : Profile) (code : Code) (c : List Bound) (ms : ℕ) (s : State) → Bounded z c s
     → Bounded z c (time_passed code ms s)
 unfolding time_passed
 time_bounded z code c ms s b =
-    course_bounded z code c (ticked s.mode (active s.activations) ms s.sched)
-    (record s { world = timers_moved (ticked s.mode (active s.activations) ms s.sched).passed.ms s.world })
-    (ticked_fine s.mode (active s.activations) ms s.sched) (record { profile = b.profile; room = b.room; mode = b.mode })
+    course_bounded z code c (after_tick s.mode (active_obs s.activations) ms s.sched)
+    (record s { world = timers_moved (after_tick s.mode (active_obs s.activations) ms s.sched).passed.ms s.world })
+    (ticked_fine s.mode (active_obs s.activations) ms s.sched) (record { profile = b.profile; room = b.room; mode = b.mode })
 
 started_bounded : (z : Profile) (c : List Bound) (one : Option Activation) (s : State) → RoomIf z c one
     → Bounded z c s → Bounded z c (started_up one s)
@@ -383,17 +383,17 @@ started_bounded z c (Some a) s one b = record { profile = b.profile; room = (one
 -- ---- requests of operators
 
 restarted_bounded : (z : Profile) (code : Code) (c : List Bound) (s : State) → Certifies z code c
-    → Bounded z c s → Bounded z c (restarted code s)
-unfolding restarted
+    → Bounded z c s → Bounded z c (warm_restarted code s)
+unfolding warm_restarted
 restarted_bounded z code c s holds b =
-    started_bounded z c (startup_ob s.profile code) (cleared (diagnosed 6 0 s))
+    started_bounded z c (startup_ob s.profile code) (restart_cleared (diagnosis_recorded 6 0 s))
     (subst (λ (f : Profile). RoomIf z c (startup_ob f code)) (sym b.profile)
     (ob_room z code c 27 100 startup_info holds))
     (record { profile = b.profile; room = b.room; mode = b.mode })
 
 asked_bounded : (z : Profile) (code : Code) (c : List Bound) (r : Request) (s : State) → Certifies z code c
-    → Bounded z c s → Bounded z c (asked code r s)
-unfolding asked
+    → Bounded z c s → Bounded z c (request_effect code r s)
+unfolding request_effect
 asked_bounded z code c (request.ReadVars vars) s holds b = b
 asked_bounded z code c (request.WriteVar var value) s holds b =
     record { profile = b.profile; room = b.room; mode = b.mode }
@@ -412,9 +412,9 @@ asked_bounded z code c request.Diag s holds b = b
 -- ---- an entry
 
 effect_bounded : (z : Profile) (p : Program) (c : List Bound) (e : What) (s : State) → Certifies z (code_of p) c
-    → IsFit p s → Bounded z c s → Bounded z c (effect (code_of p) e s)
+    → IsFit p s → Bounded z c s → Bounded z c (entry_effect (code_of p) e s)
 effect_bounded z p c what.Step s holds fit b =
-    either_bounded z c (is_stop s.mode) s (stepped (code_of p) s) b (step_bounded z p c s holds fit b)
+    either_bounded z c (is_stop s.mode) s (after_step (code_of p) s) b (step_bounded z p c s holds fit b)
 effect_bounded z p c (what.Input byte value) s holds fit b = record { profile = b.profile; room = b.room; mode = b.mode }
 effect_bounded z p c (what.Arrive ob value) s holds fit b = arrived_bounded z (code_of p) c ob value s b
 effect_bounded z p c (what.Tick ms) s holds fit b = time_bounded z (code_of p) c ms s b
@@ -430,13 +430,13 @@ best_bounded z code c (Some best) s holds b =
     (ob_room z code c best.class best.ob best.info holds)) (record { profile = b.profile; room = b.room; mode = b.mode })) b
 
 settled_bounded : (z : Profile) (code : Code) (c : List Bound) (s : State) → Certifies z code c → Bounded z c s
-    → Bounded z c (settled code s)
-unfolding settled
+    → Bounded z c (after_settling code s)
+unfolding after_settling
 settled_bounded z code c s holds b =
     either_bounded z c (is_stop s.mode) s (best_started code (best_of s.mode s.sched.pending) s) b
     (best_bounded z code c (best_of s.mode s.sched.pending) s holds b)
 
-counted_fit : (p : Program) (s : State) → IsFit p s → IsFit p (counted s)
+counted_fit : (p : Program) (s : State) → IsFit p s → IsFit p (entry_counted s)
 counted_fit p s fit = record {
   memory = fit.memory;
   activations = fit.activations;
@@ -448,8 +448,8 @@ entry_bounded : (z : Profile) (p : Program) (c : List Bound) (e : What) (s : Sta
     → IsFit p s → Bounded z c s → Bounded z c (happens (code_of p) s e).state
 unfolding happens state_after
 entry_bounded z p c e s holds fit b =
-    settled_bounded z (code_of p) c (effect (code_of p) e (counted s)) holds
-    (effect_bounded z p c e (counted s) holds (counted_fit p s fit)
+    settled_bounded z (code_of p) c (entry_effect (code_of p) e (entry_counted s)) holds
+    (effect_bounded z p c e (entry_counted s) holds (counted_fit p s fit)
     (record { profile = b.profile; room = b.room; mode = b.mode }))
 
 run_from_bounded : (z : Profile) (p : Program) (c : List Bound) (history : List What) (s : State) → EntriesKeepFit

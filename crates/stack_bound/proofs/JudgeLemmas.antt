@@ -11,7 +11,7 @@ use Rattle.plc_base.specs.declared.blocks.BlockKind.{BlockKind}
 use Rattle.plc_base.specs.declared.blocks.BlockKind.TheVariants.{Ob, Fc, Fb, Db, Sfc, Udt}
 use Rattle.flat_code.specs.Ops.{OpData}
 use Rattle.flat_code.specs.Programs.{CodeBlock, DataBlock, Program}
-use Rattle.image_file.specs.Readers.{block_of, data_id, ids_of, same_id}
+use Rattle.image_file.specs.Readers.{block_by_id, data_block_id, block_ids, is_same_id}
 use Rattle.stack_bound.specs.Calls.{CallsIn, callee_of}
 use Rattle.stack_bound.specs.Certificates.{bound_of, AreOnce, AreLoaded, IsWithin, CountsItself, CountsCalled, Holds}
 use Rattle.stack_bound.specs.Chains.{most_local_bytes}
@@ -52,23 +52,23 @@ AreFound c (b ∷ rest) = (bound_of b.block c ≡ Some b) × AreFound c rest
 
 -- a bound of another block in front changes nothing
 apart : (b d : Bound) (rest : List Bound) → bound_of b.block (d ∷ rest) ≡ None
-    → same_id b.block d.block ≡ false
-apart b d rest is = by (same_id b.block d.block) refl
+    → is_same_id b.block d.block ≡ false
+apart b d rest is = by (is_same_id b.block d.block) refl
   where
     absent : (other : Bool) → other ≡ true
         → (if other then Some d else bound_of b.block rest) ≡ None → ⊥
     absent other is_it none = cc
 
-    by : (test : Bool) → same_id b.block d.block ≡ test → test ≡ false
+    by : (test : Bool) → is_same_id b.block d.block ≡ test → test ≡ false
     by false same = refl
     by true same =
         let here : b.block ≡ d.block = same_is b.block d.block same in
-        absurd (absent (same_id d.block b.block)
-        (ap (λ (id : BlockId). same_id d.block id) here ∙ same_self d.block) is)
+        absurd (absent (is_same_id d.block b.block)
+        (ap (λ (id : BlockId). is_same_id d.block id) here ∙ same_self d.block) is)
 
 later : (b d : Bound) (rest : List Bound) → bound_of b.block (d ∷ rest) ≡ None
     → bound_of b.block rest ≡ None
-later b d rest is = by (same_id d.block b.block) is
+later b d rest is = by (is_same_id d.block b.block) is
   where
     by : (test : Bool) → (if test then Some d else bound_of b.block rest) ≡ None
         → bound_of b.block rest ≡ None
@@ -103,7 +103,7 @@ called_judged len b (Some d) counts =
     (le_test (d.depth + 1) b.depth counts.0) (le_test (len + d.bytes) b.bytes counts.1)
 
 callee_if : (p : Program) (c : List Bound) (len : ℕ) (b : Bound) (called : BlockId) (d : CodeBlock)
-    → block_of called p.code_blocks ≡ Some d → counts_callee p c len b (Some called) ≡ true
+    → block_by_id called p.code_blocks ≡ Some d → counts_callee p c len b (Some called) ≡ true
     → CountsCalled len (Some b) (bound_of called c)
 callee_if p c len b called d there is =
     called_if len b (bound_of called c)
@@ -111,18 +111,18 @@ callee_if p c len b called d there is =
 
 callee_judged : (p : Program) (c : List Bound) (len : ℕ) (b : Bound) (callee : Option BlockId)
     → ((called : BlockId) (d : CodeBlock) → callee ≡ Some called
-    → block_of called p.code_blocks ≡ Some d → CountsCalled len (Some b) (bound_of called c))
+    → block_by_id called p.code_blocks ≡ Some d → CountsCalled len (Some b) (bound_of called c))
     → counts_callee p c len b callee ≡ true
 callee_judged p c len b None counts = refl
-callee_judged p c len b (Some called) counts = by (block_of called p.code_blocks) refl
+callee_judged p c len b (Some called) counts = by (block_by_id called p.code_blocks) refl
   where
-    by : (found : Option CodeBlock) → block_of called p.code_blocks ≡ found
+    by : (found : Option CodeBlock) → block_by_id called p.code_blocks ≡ found
         → (is_none found || counts_called len b (bound_of called c)) ≡ true
     by None is = refl
     by (Some d) is = called_judged len b (bound_of called c) (counts called d refl is)
 
 ops_if : (p : Program) (c : List Bound) (len : ℕ) (b : Bound) (ops : List OpData) (called : BlockId)
-    (d : CodeBlock) → block_of called p.code_blocks ≡ Some d → counts_ops p c len b ops ≡ true
+    (d : CodeBlock) → block_by_id called p.code_blocks ≡ Some d → counts_ops p c len b ops ≡ true
     → CallsIn ops called → CountsCalled len (Some b) (bound_of called c)
 ops_if p c len b [] called d there is calls = absurd calls
 ops_if p c len b (op ∷ ops) called d there is calls =
@@ -140,7 +140,7 @@ ops_if p c len b (op ∷ ops) called d there is calls =
     by parts next (inr behind) = next parts.1 behind
 
 ops_judged : (p : Program) (c : List Bound) (len : ℕ) (b : Bound) (ops : List OpData)
-    → ((called : BlockId) (d : CodeBlock) → block_of called p.code_blocks ≡ Some d
+    → ((called : BlockId) (d : CodeBlock) → block_by_id called p.code_blocks ≡ Some d
     → CallsIn ops called → CountsCalled len (Some b) (bound_of called c))
     → counts_ops p c len b ops ≡ true
 ops_judged p c len b [] counts = refl
@@ -154,26 +154,26 @@ ops_judged p c len b (op ∷ ops) counts =
 -- a bound that is found was judged
 judged_found : (p : Program) (c some : List Bound) (block : BlockId) (b : Bound)
     → each_counts p c some ≡ true → bound_of block some ≡ Some b
-    → counts_block p c b (block_of block p.code_blocks) ≡ true
+    → counts_block p c b (block_by_id block p.code_blocks) ≡ true
 judged_found p c [] block b is found = absurd cc
 judged_found p c (d ∷ rest) block b is found =
-    by (and_parts (counts_block p c d (block_of d.block p.code_blocks)) (each_counts p c rest) is)
-    (λ parts behind. judged_found p c rest block b parts behind) (same_id d.block block) refl found
+    by (and_parts (counts_block p c d (block_by_id d.block p.code_blocks)) (each_counts p c rest) is)
+    (λ parts behind. judged_found p c rest block b parts behind) (is_same_id d.block block) refl found
   where
     bound_in : Option Bound → Bound
     bound_in None = d
     bound_in (Some x) = x
 
-    by : (counts_block p c d (block_of d.block p.code_blocks) ≡ true) × (each_counts p c rest ≡ true)
+    by : (counts_block p c d (block_by_id d.block p.code_blocks) ≡ true) × (each_counts p c rest ≡ true)
         → (each_counts p c rest ≡ true → bound_of block rest ≡ Some b
-        → counts_block p c b (block_of block p.code_blocks) ≡ true)
-        → (test : Bool) → same_id d.block block ≡ test
+        → counts_block p c b (block_by_id block p.code_blocks) ≡ true)
+        → (test : Bool) → is_same_id d.block block ≡ test
         → (if test then Some d else bound_of block rest) ≡ Some b
-        → counts_block p c b (block_of block p.code_blocks) ≡ true
+        → counts_block p c b (block_by_id block p.code_blocks) ≡ true
     by parts next true same here =
-        subst (λ (x : Bound). counts_block p c x (block_of block p.code_blocks) ≡ true)
+        subst (λ (x : Bound). counts_block p c x (block_by_id block p.code_blocks) ≡ true)
         (ap (λ (o : Option Bound). bound_in o) here)
-        (subst (λ (id : BlockId). counts_block p c d (block_of id p.code_blocks) ≡ true)
+        (subst (λ (id : BlockId). counts_block p c d (block_by_id id p.code_blocks) ≡ true)
         (same_is d.block block same) parts.0)
     by parts next false same behind = next parts.1 behind
 
@@ -191,7 +191,7 @@ block_if p c b block is =
     (le_of 1 b.depth own.0, le_of block.local_len b.bytes own.1, parts.1)
 
 found_counts : (p : Program) (c : List Bound) (id : BlockId) (block : CodeBlock) (b : Bound)
-    → each_counts p c c ≡ true → block_of id p.code_blocks ≡ Some block → bound_of id c ≡ Some b
+    → each_counts p c c ≡ true → block_by_id id p.code_blocks ≡ Some block → bound_of id c ≡ Some b
     → BlockCounts p c b block
 found_counts p c id block b is there found =
     block_if p c b block
@@ -199,7 +199,7 @@ found_counts p c id block b is there found =
     ∙ judged_found p c c id b is found)
 
 own_if : (p : Program) (c : List Bound) (id : BlockId) (block : CodeBlock) (found : Option Bound)
-    → each_counts p c c ≡ true → block_of id p.code_blocks ≡ Some block → bound_of id c ≡ found
+    → each_counts p c c ≡ true → block_by_id id p.code_blocks ≡ Some block → bound_of id c ≡ found
     → CountsItself block.local_len found
 own_if p c id block None is there found = tt
 own_if p c id block (Some b) is there found =
@@ -207,8 +207,8 @@ own_if p c id block (Some b) is there found =
     (counts.0, counts.1)
 
 calls_if : (p : Program) (c : List Bound) (id called : BlockId) (block d : CodeBlock)
-    (found : Option Bound) → each_counts p c c ≡ true → block_of id p.code_blocks ≡ Some block
-    → block_of called p.code_blocks ≡ Some d → CallsIn block.code called → bound_of id c ≡ found
+    (found : Option Bound) → each_counts p c c ≡ true → block_by_id id p.code_blocks ≡ Some block
+    → block_by_id called p.code_blocks ≡ Some d → CallsIn block.code called → bound_of id c ≡ found
     → CountsCalled block.local_len found (bound_of called c)
 calls_if p c id called block d None is here there calls found = tt
 calls_if p c id called block d (Some b) is here there calls found =
@@ -219,8 +219,8 @@ loaded_if : (p : Program) (c some : List Bound) → each_counts p c some ≡ tru
 loaded_if p c [] is = tt
 loaded_if p c (b ∷ rest) is =
     let parts =
-    and_parts (counts_block p c b (block_of b.block p.code_blocks)) (each_counts p c rest) is in
-    (there (block_of b.block p.code_blocks) parts.0, loaded_if p c rest parts.1)
+    and_parts (counts_block p c b (block_by_id b.block p.code_blocks)) (each_counts p c rest) is in
+    (there (block_by_id b.block p.code_blocks) parts.0, loaded_if p c rest parts.1)
   where
     there : (found : Option CodeBlock) → counts_block p c b found ≡ true → IsSome found
     there None counts = absurd cc
@@ -239,11 +239,11 @@ each_judged : (z : Profile) (p : Program) (c some : List Bound) → Holds z p c 
     → AreLoaded p some → each_counts p c some ≡ true
 each_judged z p c [] holds found loaded = refl
 each_judged z p c (b ∷ rest) holds found loaded =
-    and_from (counts_block p c b (block_of b.block p.code_blocks)) (each_counts p c rest)
-    (by (block_of b.block p.code_blocks) refl loaded.0)
+    and_from (counts_block p c b (block_by_id b.block p.code_blocks)) (each_counts p c rest)
+    (by (block_by_id b.block p.code_blocks) refl loaded.0)
     (each_judged z p c rest holds found.1 loaded.1)
   where
-    by : (there : Option CodeBlock) → block_of b.block p.code_blocks ≡ there → IsSome there
+    by : (there : Option CodeBlock) → block_by_id b.block p.code_blocks ≡ there → IsSome there
         → counts_block p c b there ≡ true
     by None is none = absurd cc
     by (Some block) is some =
@@ -277,19 +277,19 @@ ob_within z c id ob is =
 
 obs_if : (z : Profile) (c : List Bound) (blocks : List CodeBlock) (more : List BlockId) (id : BlockId)
     (b : CodeBlock) → obs_within z c (map (λ (x : CodeBlock). x.id) blocks ++ more) ≡ true
-    → block_of id blocks ≡ Some b → id.kind ≡ Ob → IsWithin z (bound_of id c)
+    → block_by_id id blocks ≡ Some b → id.kind ≡ Ob → IsWithin z (bound_of id c)
 obs_if z c [] more id b is there ob = absurd cc
 obs_if z c (one ∷ blocks) more id b is there ob =
     by (and_parts (not (is_organization_block one.id.kind) || is_within z (bound_of one.id c))
     (obs_within z c (map (λ (x : CodeBlock). x.id) blocks ++ more)) is)
-    (λ parts behind. obs_if z c blocks more id b parts behind ob) (same_id one.id id) refl there
+    (λ parts behind. obs_if z c blocks more id b parts behind ob) (is_same_id one.id id) refl there
   where
     by : ((not (is_organization_block one.id.kind) || is_within z (bound_of one.id c)) ≡ true)
         × (obs_within z c (map (λ (x : CodeBlock). x.id) blocks ++ more) ≡ true)
         → (obs_within z c (map (λ (x : CodeBlock). x.id) blocks ++ more) ≡ true
-        → block_of id blocks ≡ Some b → IsWithin z (bound_of id c))
-        → (test : Bool) → same_id one.id id ≡ test
-        → (if test then Some one else block_of id blocks) ≡ Some b → IsWithin z (bound_of id c)
+        → block_by_id id blocks ≡ Some b → IsWithin z (bound_of id c))
+        → (test : Bool) → is_same_id one.id id ≡ test
+        → (if test then Some one else block_by_id id blocks) ≡ Some b → IsWithin z (bound_of id c)
     by parts next true same here =
         let is_it : one.id ≡ id = same_is one.id id same in
         ob_within z c id ob
@@ -300,15 +300,15 @@ obs_if z c (one ∷ blocks) more id b is there ob =
 -- that an organization block which is loaded has a bound within the limits
 abbrev ObsWithin : Profile → List Bound → List CodeBlock → Type 0
 ObsWithin z c blocks =
-    (b : CodeBlock) → block_of b.id blocks ≡ Some b → b.id.kind ≡ Ob → IsWithin z (bound_of b.id c)
+    (b : CodeBlock) → block_by_id b.id blocks ≡ Some b → b.id.kind ≡ Ob → IsWithin z (bound_of b.id c)
 
 data_judged : (z : Profile) (c : List Bound) (datas : List DataBlock)
-    → obs_within z c (map data_id datas) ≡ true
+    → obs_within z c (map data_block_id datas) ≡ true
 data_judged z c [] = refl
 data_judged z c (d ∷ datas) = data_judged z c datas
 
 -- the first block of some with a kind and number is there
-is_there : (b : CodeBlock) (rest : List CodeBlock) → block_of b.id (b ∷ rest) ≡ Some b
+is_there : (b : CodeBlock) (rest : List CodeBlock) → block_by_id b.id (b ∷ rest) ≡ Some b
 is_there b rest = rw (same_self b.id) refl
 
 test_judged : (z : Profile) (c : List Bound) (id : BlockId) → (id.kind ≡ Ob → IsWithin z (bound_of id c))
@@ -326,36 +326,36 @@ test_judged z c id within = by id.kind refl
 
 -- a block of a list is found there, it or one before it of the same kind and number
 abbrev IsFoundIn : List CodeBlock → BlockId → Type 0
-IsFoundIn blocks id = IsSome (block_of id blocks)
+IsFoundIn blocks id = IsSome (block_by_id id blocks)
 
 found_within : (z : Profile) (c : List Bound) (blocks : List CodeBlock) (id : BlockId)
     → ObsWithin z c blocks → IsFoundIn blocks id → id.kind ≡ Ob → IsWithin z (bound_of id c)
-found_within z c blocks id within found ob = by (block_of id blocks) refl found
+found_within z c blocks id within found ob = by (block_by_id id blocks) refl found
   where
-    by : (there : Option CodeBlock) → block_of id blocks ≡ there → IsSome there
+    by : (there : Option CodeBlock) → block_by_id id blocks ≡ there → IsSome there
         → IsWithin z (bound_of id c)
     by None is none = absurd cc
     by (Some b) is some =
         let same : b.id ≡ id = found_id id blocks b is in
         subst (λ (x : BlockId). IsWithin z (bound_of x c)) same
-        (within b (subst (λ (x : BlockId). block_of x blocks ≡ Some b) (sym same) is)
+        (within b (subst (λ (x : BlockId). block_by_id x blocks ≡ Some b) (sym same) is)
         (ap (λ (x : BlockId). x.kind) same ∙ ob))
 
 found_more : (one : CodeBlock) (blocks : List CodeBlock) (id : BlockId) → IsFoundIn blocks id
     → IsFoundIn (one ∷ blocks) id
-found_more one blocks id found = by (same_id one.id id)
+found_more one blocks id found = by (is_same_id one.id id)
   where
-    by : (test : Bool) → IsSome (if test then Some one else block_of id blocks)
+    by : (test : Bool) → IsSome (if test then Some one else block_by_id id blocks)
     by true = refl
     by false = found
 
 obs_judged : (z : Profile) (c : List Bound) (all blocks : List CodeBlock) (datas : List DataBlock)
     → ObsWithin z c all → ((id : BlockId) → IsFoundIn blocks id → IsFoundIn all id)
-    → obs_within z c (map (λ (x : CodeBlock). x.id) blocks ++ map data_id datas) ≡ true
+    → obs_within z c (map (λ (x : CodeBlock). x.id) blocks ++ map data_block_id datas) ≡ true
 obs_judged z c all [] datas within among = data_judged z c datas
 obs_judged z c all (one ∷ blocks) datas within among =
     and_from (not (is_organization_block one.id.kind) || is_within z (bound_of one.id c))
-    (obs_within z c (map (λ (x : CodeBlock). x.id) blocks ++ map data_id datas))
+    (obs_within z c (map (λ (x : CodeBlock). x.id) blocks ++ map data_block_id datas))
     (test_judged z c one.id (λ ob. found_within z c all one.id within
     (among one.id (ap (λ (o : Option CodeBlock). is_some o) (is_there one blocks))) ob))
     (obs_judged z c all blocks datas within (λ id found. among id (found_more one blocks id found)))
@@ -364,15 +364,15 @@ obs_judged z c all (one ∷ blocks) datas within among =
 
 holds_if : (z : Profile) (p : Program) (c : List Bound) → is_certificate z p c ≡ true → Holds z p c
 holds_if z p c is =
-    by (and_parts (are_once c && each_counts p c c) (obs_within z c (ids_of p)) is)
+    by (and_parts (are_once c && each_counts p c c) (obs_within z c (block_ids p)) is)
   where
-    by : ((are_once c && each_counts p c c) ≡ true) × (obs_within z c (ids_of p) ≡ true) → Holds z p c
+    by : ((are_once c && each_counts p c c) ≡ true) × (obs_within z c (block_ids p) ≡ true) → Holds z p c
     by parts =
         let one = and_parts (are_once c) (each_counts p c c) parts.0 in
         record {
           once = are_once_if c one.0;
           loaded = loaded_if p c c one.1;
-          obs = λ b there ob. obs_if z c p.code_blocks (map data_id p.data_blocks) b.id b parts.1 there ob;
+          obs = λ b there ob. obs_if z c p.code_blocks (map data_block_id p.data_blocks) b.id b parts.1 there ob;
           own = λ id b there. own_if p c id b (bound_of id c) one.1 there refl;
           calls = λ id called b d here there calls.
               calls_if p c id called b d (bound_of id c) one.1 here there calls refl;
@@ -380,7 +380,7 @@ holds_if z p c is =
 
 judged_if : (z : Profile) (p : Program) (c : List Bound) → Holds z p c → is_certificate z p c ≡ true
 judged_if z p c holds =
-    and_from (are_once c && each_counts p c c) (obs_within z c (ids_of p))
+    and_from (are_once c && each_counts p c c) (obs_within z c (block_ids p))
     (and_from (are_once c) (each_counts p c c) (once_judged c holds.once)
     (each_judged z p c c holds (are_found c holds.once) holds.loaded))
     (obs_judged z c p.code_blocks p.code_blocks p.data_blocks holds.obs (λ id found. found))

@@ -1,7 +1,7 @@
 -- Marks of a list of bounds.
 use Rattle.std.proofs.Common.{◌≡◌, ℕ, suc, ◌<◌, Bool, true, false, List, [], ◌∷◌, ◌++◌, length, refl, ap, arith, if◌then◌else◌}
 use Rattle.plc_base.specs.declared.blocks.BlockId.{BlockId}
-use Rattle.image_file.specs.Readers.{same_id}
+use Rattle.image_file.specs.Readers.{is_same_id}
 use Rattle.stack_bound.specs.Marks.{mark, marked_behind}
 use Rattle.stack_bound.specs.declared.certificates.Bound.{Bound}
 
@@ -14,7 +14,7 @@ pub mark_len : (marks : List Bool) (list : List Bound) (block : BlockId)
     → length (mark marks list block) ≡ length marks
 mark_len [] list block = refl
 mark_len (m ∷ marks) [] block = refl
-mark_len (m ∷ marks) (b ∷ list) block = by (same_id b.block block) (mark_len marks list block)
+mark_len (m ∷ marks) (b ∷ list) block = by (is_same_id b.block block) (mark_len marks list block)
   where
     by : (test : Bool) → length (mark marks list block) ≡ length marks
         → length (if test then true ∷ marks else m ∷ mark marks list block) ≡ length (m ∷ marks)

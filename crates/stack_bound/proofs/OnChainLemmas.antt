@@ -10,7 +10,7 @@ use Rattle.plc_base.specs.declared.blocks.BlockKind.{BlockKind}
 use Rattle.plc_base.specs.declared.blocks.BlockKind.TheVariants.{Ob, Fc, Fb, Db, Sfc, Udt}
 use Rattle.flat_code.specs.Ops.{OpData}
 use Rattle.flat_code.specs.Programs.{CodeBlock, Program}
-use Rattle.image_file.specs.Readers.{block_of, ids_of, same_id}
+use Rattle.image_file.specs.Readers.{block_by_id, block_ids, is_same_id}
 use Rattle.stack_bound.specs.Calls.{Calls, CallsIn, callee_of}
 use Rattle.stack_bound.specs.Certificates.{bound_of, AreLoaded}
 use Rattle.stack_bound.specs.Chains.{CallEachOther, IsChain, most_local_bytes}
@@ -69,10 +69,10 @@ over_by profile (Some b) m is = by (nat_lt (limit profile Depth) b.depth) refl i
 
 -- of which a layer says something
 said_loaded : (p : Program) (m : Measure) (k : ℕ) (block : BlockId) (n : ℕ)
-    → n < number_in m (layers (suc k) p) (Some block) → IsSome (block_of block p.code_blocks)
-said_loaded p m k block n some = by (block_of block p.code_blocks) refl
+    → n < number_in m (layers (suc k) p) (Some block) → IsSome (block_by_id block p.code_blocks)
+said_loaded p m k block n some = by (block_by_id block p.code_blocks) refl
   where
-    by : (found : Option CodeBlock) → block_of block p.code_blocks ≡ found → IsSome found
+    by : (found : Option CodeBlock) → block_by_id block p.code_blocks ≡ found → IsSome found
     by None is =
         absurd (omega (
           arith,
@@ -153,16 +153,16 @@ within_by profile b is = by (nat_lt (limit profile Depth) b.depth) refl is
 
 -- no organization block is above the limits
 abbrev pub NoneOver : Profile → Program → List Bound → Type 0
-NoneOver profile p layer = first_over profile layer (ids_of p) ≡ None
+NoneOver profile p layer = first_over profile layer (block_ids p) ≡ None
 
 pub ob_within : (profile : Profile) (p : Program) (layer : List Bound) (ob : BlockId) (b : CodeBlock) (e : Bound)
-    → NoneOver profile p layer → ob.kind ≡ Ob → block_of ob p.code_blocks ≡ Some b
+    → NoneOver profile p layer → ob.kind ≡ Ob → block_by_id ob p.code_blocks ≡ Some b
     → bound_of ob layer ≡ Some e → (e.depth ≤ most_frames profile) × (e.bytes ≤ most_local_bytes)
 ob_within profile p layer ob b e none kind there found =
     within_by profile e
     (sym (ap (λ (o : Option Bound). measure_over profile o) found)
     ∙ sym (ap (λ (k : BlockKind). if is_organization_block k then measure_over profile (bound_of ob layer) else None) kind)
-    ∙ none_over profile layer (ids_of p) ob none (loaded_in p ob b there))
+    ∙ none_over profile layer (block_ids p) ob none (loaded_in p ob b there))
 
 -- ---- depths on chains
 
@@ -178,7 +178,7 @@ counts_in x w most called is less = omega (arith, is, less)
 
 -- where a block isn't deep, its numbers count what it calls
 pub counts_down : (profile : Profile) (p : Program) (m : Measure) (x called : BlockId) (b : CodeBlock)
-    → block_of x p.code_blocks ≡ Some b → CallsIn b.code called
+    → block_by_id x p.code_blocks ≡ Some b → CallsIn b.code called
     → number_in Depth (highest profile p) (Some x) ≤ most_frames profile
     → weight m b + number_in m (highest profile p) (Some called) ≤ number_in m (highest profile p) (Some x)
 counts_down profile p m x called b there calls few =
@@ -213,11 +213,11 @@ down_chain profile p x (d ∷ more) few each =
     step = counts_down profile p Depth x d each.0.from each.0.is_loaded each.0.calls few
 
 ob_few : (profile : Profile) (p : Program) (ob : BlockId) → NoneOver profile p (highest profile p)
-    → ob.kind ≡ Ob → IsSome (block_of ob p.code_blocks)
+    → ob.kind ≡ Ob → IsSome (block_by_id ob p.code_blocks)
     → number_in Depth (highest profile p) (Some ob) ≤ most_frames profile
-ob_few profile p ob none kind loaded = by (block_of ob p.code_blocks) refl loaded
+ob_few profile p ob none kind loaded = by (block_by_id ob p.code_blocks) refl loaded
   where
-    by : (found : Option CodeBlock) → block_of ob p.code_blocks ≡ found → IsSome found
+    by : (found : Option CodeBlock) → block_by_id ob p.code_blocks ≡ found → IsSome found
         → number_in Depth (highest profile p) (Some ob) ≤ most_frames profile
     by None there isnt = absurd cc
     by (Some b) there some =
@@ -280,7 +280,7 @@ on_chain_more p x y on calls = record {
   ends = last_more on.ob on.rest y;
 }
 
-pub ob_on_chain : (p : Program) (ob : BlockId) → ob.kind ≡ Ob → IsSome (block_of ob p.code_blocks)
+pub ob_on_chain : (p : Program) (ob : BlockId) → ob.kind ≡ Ob → IsSome (block_by_id ob p.code_blocks)
     → IsOnChain p ob
 ob_on_chain p ob kind loaded =
     record { ob = ob; rest = []; is_chain = (kind, loaded, tt); ends = refl }
@@ -291,7 +291,7 @@ abbrev pub FirstOf : List Bool → List Bound → BlockId → Type 0
 FirstOf marks [] x = Unit {0}
 FirstOf [] (b ∷ list) x = ⊥
 FirstOf (m ∷ marks) (b ∷ list) x =
-    (same_id b.block x ≡ true → m ≡ true) × (same_id b.block x ≡ false → FirstOf marks list x)
+    (is_same_id b.block x ≡ true → m ≡ true) × (is_same_id b.block x ≡ false → FirstOf marks list x)
 
 not_both : (test : Bool) → test ≡ true → test ≡ false → ⊥
 not_both test is isnt = let e : true ≡ false = sym is ∙ isnt in cc
@@ -302,9 +302,9 @@ mark_keeps [] [] y x all = tt
 mark_keeps [] (b ∷ list) y x all = all
 mark_keeps (m ∷ marks) [] y x all = tt
 mark_keeps (m ∷ marks) (b ∷ list) y x all =
-    by (same_id b.block y) (λ apart. mark_keeps marks list y x (all.1 apart))
+    by (is_same_id b.block y) (λ apart. mark_keeps marks list y x (all.1 apart))
   where
-    by : (test : Bool) → (same_id b.block x ≡ false → FirstOf (mark marks list y) list x)
+    by : (test : Bool) → (is_same_id b.block x ≡ false → FirstOf (mark marks list y) list x)
         → FirstOf (if test then true ∷ marks else m ∷ mark marks list y) (b ∷ list) x
     by true rest = (λ same. refl, all.1)
     by false rest = (all.0, rest)
@@ -315,12 +315,12 @@ mark_marks [] [] x same = tt
 mark_marks [] (b ∷ list) x same = absurd (omega (arith, same))
 mark_marks (m ∷ marks) [] x same = tt
 mark_marks (m ∷ marks) (b ∷ list) x same =
-    by (same_id b.block x) refl (mark_marks marks list x (omega (arith, same)))
+    by (is_same_id b.block x) refl (mark_marks marks list x (omega (arith, same)))
   where
-    by : (test : Bool) → same_id b.block x ≡ test → FirstOf (mark marks list x) list x
+    by : (test : Bool) → is_same_id b.block x ≡ test → FirstOf (mark marks list x) list x
         → FirstOf (if test then true ∷ marks else m ∷ mark marks list x) (b ∷ list) x
-    by true is rest = (λ here. refl, λ apart. absurd (not_both (same_id b.block x) is apart))
-    by false apart rest = (λ here. absurd (not_both (same_id b.block x) here apart), λ isnt. rest)
+    by true is rest = (λ here. refl, λ apart. absurd (not_both (is_same_id b.block x) is apart))
+    by false apart rest = (λ here. absurd (not_both (is_same_id b.block x) here apart), λ isnt. rest)
 
 callee_keeps : (marks : List Bool) (list : List Bound) (callee : Option BlockId) (x : BlockId)
     → FirstOf marks list x → FirstOf (mark_callee marks list callee) list x
@@ -371,12 +371,12 @@ called_len marks list (Some b) = ops_len marks list b.code
 
 round_keeps : (p : Program) (list : List Bound) (marks : List Bool) (m : Bool) (b : Bound) (x : BlockId)
     → FirstOf marks list x → FirstOf (one_round p list marks m b) list x
-round_keeps p list marks true b x all = called_keeps marks list (block_of b.block p.code_blocks) x all
+round_keeps p list marks true b x all = called_keeps marks list (block_by_id b.block p.code_blocks) x all
 round_keeps p list marks false b x all = all
 
 round_len : (p : Program) (list : List Bound) (marks : List Bool) (m : Bool) (b : Bound)
     → length (one_round p list marks m b) ≡ length marks
-round_len p list marks true b = called_len marks list (block_of b.block p.code_blocks)
+round_len p list marks true b = called_len marks list (block_by_id b.block p.code_blocks)
 round_len p list marks false b = refl
 
 all_keep : (p : Program) (list : List Bound) (marks before : List Bool) (left : List Bound) (x : BlockId)
@@ -389,23 +389,23 @@ all_keep p list marks (m ∷ before) (b ∷ left) x all =
 -- what a marked block calls is marked
 all_mark : (p : Program) (list : List Bound) (marks before : List Bool) (left : List Bound) (x y : BlockId)
     (b : CodeBlock) (e : Bound) → length marks ≡ length list → FirstOf before left x → bound_of x left ≡ Some e
-    → block_of x p.code_blocks ≡ Some b → CallsIn b.code y → FirstOf (mark_all p list marks before left) list y
+    → block_by_id x p.code_blocks ≡ Some b → CallsIn b.code y → FirstOf (mark_all p list marks before left) list y
 all_mark p list marks before [] x y b e same all found there calls = absurd cc
 all_mark p list marks [] (d ∷ left) x y b e same all found there calls = absurd all
 all_mark p list marks (m ∷ before) (d ∷ left) x y b e same all found there calls =
-    by (same_id d.block x) refl found
+    by (is_same_id d.block x) refl found
     (λ apart later. all_mark p list (one_round p list marks m d) before left x y b e
     (round_len p list marks m d ∙ same) (all.1 apart) later there calls)
   where
-    here : same_id d.block x ≡ true → FirstOf (one_round p list marks m d) list y
+    here : is_same_id d.block x ≡ true → FirstOf (one_round p list marks m d) list y
     here is =
         subst (λ (n : Bool). FirstOf (one_round p list marks n d) list y) (sym (all.0 is))
         (subst (λ (o : Option CodeBlock). FirstOf (mark_called marks list o) list y)
-        (sym (ap (λ (z : BlockId). block_of z p.code_blocks) (same_is d.block x is) ∙ there))
+        (sym (ap (λ (z : BlockId). block_by_id z p.code_blocks) (same_is d.block x is) ∙ there))
         (ops_mark marks list b.code y same calls))
 
-    by : (test : Bool) → same_id d.block x ≡ test → (if test then Some d else bound_of x left) ≡ Some e
-        → (same_id d.block x ≡ false → bound_of x left ≡ Some e
+    by : (test : Bool) → is_same_id d.block x ≡ test → (if test then Some d else bound_of x left) ≡ Some e
+        → (is_same_id d.block x ≡ false → bound_of x left ≡ Some e
         → FirstOf (mark_all p list (one_round p list marks m d) before left) list y)
         → FirstOf (mark_all p list (one_round p list marks m d) before left) list y
     by true is first next = all_keep p list (one_round p list marks m d) before left y (here is)
@@ -486,25 +486,25 @@ abbrev pub AreOnChains : Program → List Bool → List Bound → Type 0
 AreOnChains p marks list = EachMarked (λ (b : Bound). IsOnChain p b.block) marks list
 
 mark_sound : (p : Program) (marks : List Bool) (list : List Bound) (x : BlockId)
-    → (IsSome (block_of x p.code_blocks) → IsOnChain p x) → AreLoaded p list → AreOnChains p marks list
+    → (IsSome (block_by_id x p.code_blocks) → IsOnChain p x) → AreLoaded p list → AreOnChains p marks list
     → AreOnChains p (mark marks list x) list
 mark_sound p [] [] x on loaded sound = tt
 mark_sound p [] (b ∷ list) x on loaded sound = tt
 mark_sound p (m ∷ marks) [] x on loaded sound = tt
 mark_sound p (m ∷ marks) (b ∷ list) x on loaded sound =
-    by (same_id b.block x) refl (mark_sound p marks list x on loaded.1 sound.1)
+    by (is_same_id b.block x) refl (mark_sound p marks list x on loaded.1 sound.1)
   where
-    by : (test : Bool) → same_id b.block x ≡ test → AreOnChains p (mark marks list x) list
+    by : (test : Bool) → is_same_id b.block x ≡ test → AreOnChains p (mark marks list x) list
         → AreOnChains p (if test then true ∷ marks else m ∷ mark marks list x) (b ∷ list)
     by true same rest = (
       λ is. subst (λ (y : BlockId). IsOnChain p y) (sym (same_is b.block x same))
-          (on (subst (λ (y : BlockId). IsSome (block_of y p.code_blocks)) (same_is b.block x same) loaded.0)),
+          (on (subst (λ (y : BlockId). IsSome (block_by_id y p.code_blocks)) (same_is b.block x same) loaded.0)),
       sound.1,
     )
     by false apart rest = (sound.0, rest)
 
 ops_sound : (p : Program) (marks : List Bool) (list : List Bound) (ops : List OpData) (x : BlockId) (b : CodeBlock)
-    → block_of x p.code_blocks ≡ Some b → IsOnChain p x
+    → block_by_id x p.code_blocks ≡ Some b → IsOnChain p x
     → ((y : BlockId) → CallsIn ops y → CallsIn b.code y) → AreLoaded p list → AreOnChains p marks list
     → AreOnChains p (mark_ops marks list ops) list
 ops_sound p marks list [] x b there on among loaded sound = sound
@@ -512,7 +512,7 @@ ops_sound p marks list (op ∷ ops) x b there on among loaded sound =
     ops_sound p (mark_callee marks list (callee_of op)) list ops x b there on (λ y calls. among y (inr calls)) loaded
     (by (callee_of op) refl)
   where
-    called : (y : BlockId) → CallsIn b.code y → (found : Option CodeBlock) → block_of y p.code_blocks ≡ found
+    called : (y : BlockId) → CallsIn b.code y → (found : Option CodeBlock) → block_by_id y p.code_blocks ≡ found
         → IsSome found → IsOnChain p y
     called y calls None none isnt = absurd cc
     called y calls (Some d) to some =
@@ -523,7 +523,7 @@ ops_sound p marks list (op ∷ ops) x b there on among loaded sound =
     by None is = sound
     by (Some y) is =
         mark_sound p marks list y
-        (λ some. called y (among y (inl is)) (block_of y p.code_blocks) refl some) loaded sound
+        (λ some. called y (among y (inl is)) (block_by_id y p.code_blocks) refl some) loaded sound
 
 all_sound : (p : Program) (list : List Bound) (marks before : List Bool) (left : List Bound) → AreLoaded p list
     → AreOnChains p before left → AreOnChains p marks list
@@ -533,14 +533,14 @@ all_sound p list marks (m ∷ before) [] loaded were sound = sound
 all_sound p list marks (m ∷ before) (b ∷ left) loaded were sound =
     all_sound p list (one_round p list marks m b) before left loaded were.1 (by m were.0)
   where
-    called : (found : Option CodeBlock) → block_of b.block p.code_blocks ≡ found → IsOnChain p b.block
+    called : (found : Option CodeBlock) → block_by_id b.block p.code_blocks ≡ found → IsOnChain p b.block
         → AreOnChains p (mark_called marks list found) list
     called None there on = sound
     called (Some c) there on =
         ops_sound p marks list c.code b.block c there on (λ y calls. calls) loaded sound
 
     by : (n : Bool) → (n ≡ true → IsOnChain p b.block) → AreOnChains p (one_round p list marks n b) list
-    by true on = called (block_of b.block p.code_blocks) refl (on refl)
+    by true on = called (block_by_id b.block p.code_blocks) refl (on refl)
     by false on = sound
 
 obs_sound : (p : Program) (list : List Bound) → AreLoaded p list → AreOnChains p (ob_marks list) list

@@ -6,7 +6,7 @@ use Rattle.std.proofs.lemmas.Bool.{and_parts, and_from}
 use Rattle.std.proofs.lemmas.Bool.Decides.{nat_tests}
 use Rattle.plc_base.specs.Kinds.{kind_order}
 use Rattle.plc_base.specs.declared.blocks.BlockId.{BlockId}
-use Rattle.image_file.specs.Readers.{same_id}
+use Rattle.image_file.specs.Readers.{is_same_id}
 use Rattle.stack_bound.specs.Certificates.{bound_of}
 use Rattle.stack_bound.specs.Judging.{are_once}
 use Rattle.stack_bound.specs.Order.{IsHalved, bound_at, comes_before, is_before, rise}
@@ -99,9 +99,9 @@ pub halved : (block : BlockId) (list : List Bound) (place : ℕ) → rise list �
     → bound_at list place block ≡ bound_of block list
 halved block [] zero is point = refl
 halved block [] (suc place) is point = refl
-halved block (b ∷ rest) zero is point = by (same_id b.block block) refl
+halved block (b ∷ rest) zero is point = by (is_same_id b.block block) refl
   where
-    by : (test : Bool) → same_id b.block block ≡ test
+    by : (test : Bool) → is_same_id b.block block ≡ test
         → (if test then Some b else None) ≡ (if test then Some b else bound_of block rest)
     by true same = refl
     by false apart =
@@ -114,6 +114,6 @@ halved block (b ∷ rest) (suc place) is point =
     ∙ sym (passed (not_same (key b.block) b.block.number (key block) block.number
     (point.0 zero b (omega arith) (omega arith))))
   where
-    passed : same_id b.block block ≡ false
-        → (if same_id b.block block then Some b else bound_of block rest) ≡ bound_of block rest
+    passed : is_same_id b.block block ≡ false
+        → (if is_same_id b.block block then Some b else bound_of block rest) ≡ bound_of block rest
     passed apart = rw apart refl

@@ -7,7 +7,7 @@ use Rattle.plc_base.specs.declared.blocks.BlockId.{BlockId}
 use Rattle.flat_code.specs.Ops.{OpData}
 use Rattle.flat_code.specs.Placed.{op_placed}
 use Rattle.flat_code.specs.Programs.{CodeBlock, Program}
-use Rattle.image_file.specs.Readers.{block_of, ids_of, same_id}
+use Rattle.image_file.specs.Readers.{block_by_id, block_ids, is_same_id}
 use Rattle.stack_bound.specs.Calls.{callee_of}
 use Rattle.stack_bound.specs.Certificates.{bound_of}
 use Rattle.stack_bound.specs.Layers.{AreLow, bound_above, bound_above_in, bounds_above, layers, most_called, number, number_if, number_in, with_bound}
@@ -41,9 +41,9 @@ found_at : (block : BlockId) (list : List Bound) (place : ℕ) → rise list ≡
     → some_if (is_some (bound_at list place block)) place ≡ place_of block list
 found_at block [] zero is point = refl
 found_at block [] (suc place) is point = refl
-found_at block (b ∷ rest) zero is point = by (same_id b.block block) refl
+found_at block (b ∷ rest) zero is point = by (is_same_id b.block block) refl
   where
-    by : (test : Bool) → same_id b.block block ≡ test
+    by : (test : Bool) → is_same_id b.block block ≡ test
         → some_if (is_some (if test then Some b else None)) zero
         ≡ (if test then Some 0 else option_map suc (place_of block rest))
     by true same = refl
@@ -60,8 +60,8 @@ found_at block (b ∷ rest) (suc place) is point =
     ∙ sym (passed (not_same (key b.block) b.block.number (key block) block.number
     (point.0 zero b (omega arith) (omega arith))))
   where
-    passed : same_id b.block block ≡ false
-        → (if same_id b.block block then Some 0 else option_map suc (place_of block rest))
+    passed : is_same_id b.block block ≡ false
+        → (if is_same_id b.block block then Some 0 else option_map suc (place_of block rest))
         ≡ option_map suc (place_of block rest)
     passed apart = rw apart refl
 
@@ -90,15 +90,15 @@ shifted i None = refl
 shifted i (Some n) = ap (λ (k : ℕ). Some k) (plus_more i n)
 
 place_from : (block : BlockId) (i : ℕ) (list : List Bound)
-    → position_from (λ (b : Bound). same_id b.block block) i list
+    → position_from (λ (b : Bound). is_same_id b.block block) i list
     ≡ option_map (λ n. i + n) (place_of block list)
 place_from block i [] = refl
-place_from block i (b ∷ rest) = by (same_id b.block block) (place_from block (i + 1) rest)
+place_from block i (b ∷ rest) = by (is_same_id b.block block) (place_from block (i + 1) rest)
   where
     by : (test : Bool)
-        → position_from (λ (d : Bound). same_id d.block block) (i + 1) rest
+        → position_from (λ (d : Bound). is_same_id d.block block) (i + 1) rest
         ≡ option_map (λ n. i + 1 + n) (place_of block rest)
-        → (if test then Some i else position_from (λ (d : Bound). same_id d.block block) (i + 1) rest)
+        → (if test then Some i else position_from (λ (d : Bound). is_same_id d.block block) (i + 1) rest)
         ≡ option_map (λ n. i + n) (if test then Some 0 else option_map suc (place_of block rest))
     by true later = ap (λ (k : ℕ). Some k) (plus_zero i)
     by false later = later ∙ shifted i (place_of block rest)
@@ -111,11 +111,11 @@ from_zero (Some n) = ap (λ (k : ℕ). Some k) (zero_plus n)
     zero_plus k = omega arith
 
 walked_from : (block : BlockId) (list : List Bound)
-    → position_from (λ (b : Bound). same_id b.block block) 0 list ≡ place_of block list
+    → position_from (λ (b : Bound). is_same_id b.block block) 0 list ≡ place_of block list
 walked_from block list = place_from block 0 list ∙ from_zero (place_of block list)
 
 pub walked_to : (block : BlockId) (list : List Bound) (place : Option ℕ)
-    → place ≡ position_from (λ (b : Bound). same_id b.block block) 0 list → place ≡ place_of block list
+    → place ≡ position_from (λ (b : Bound). is_same_id b.block block) 0 list → place ≡ place_of block list
 walked_to block list place is = is ∙ walked_from block list
 
 -- ---- lists of the same blocks
@@ -130,8 +130,8 @@ place_same x [] [] same = refl
 place_same x [] (b ∷ ys) same = absurd same
 place_same x (a ∷ xs) [] same = absurd same
 place_same x (a ∷ xs) (b ∷ ys) same =
-    ap (λ (o : Option ℕ). if same_id a.block x then Some 0 else option_map suc o) (place_same x xs ys same.1)
-    ∙ ap (λ (y : BlockId). if same_id y x then Some 0 else option_map suc (place_of x ys)) same.0
+    ap (λ (o : Option ℕ). if is_same_id a.block x then Some 0 else option_map suc o) (place_same x xs ys same.1)
+    ∙ ap (λ (y : BlockId). if is_same_id y x then Some 0 else option_map suc (place_of x ys)) same.0
 
 called_same : (callee : Option BlockId) (xs ys : List Bound) → SameBlocks xs ys → place_in xs callee ≡ place_in ys callee
 called_same None xs ys same = refl
@@ -156,7 +156,7 @@ callers_same : (p : Program) (ids : List BlockId) (xs ys : List Bound) → SameB
 callers_same p [] xs ys same = refl
 callers_same p (id ∷ ids) xs ys same =
     ap (λ (o : Option CallerData). with_caller o (callers_of p xs ids))
-    (caller_same id (block_of id p.code_blocks) xs ys same)
+    (caller_same id (block_by_id id p.code_blocks) xs ys same)
     ∙ ap (λ (rest : List CallerData). with_caller (caller_in p ys id) rest) (callers_same p ids xs ys same)
 
 -- whatever layer is below
@@ -164,7 +164,7 @@ pub same_above : (p : Program) (below other : List Bound) (ids : List BlockId)
     → SameBlocks (bounds_above p below ids) (bounds_above p other ids)
 same_above p below other [] = tt
 same_above p below other (id ∷ ids) =
-    by (block_of id p.code_blocks) (same_above p below other ids)
+    by (block_by_id id p.code_blocks) (same_above p below other ids)
   where
     by : (found : Option CodeBlock)
         → SameBlocks (bounds_above p below ids) (bounds_above p other ids)
@@ -187,7 +187,7 @@ placed_later m b layer (Some place) = refl
 number_there : (m : Measure) (x : BlockId) (layer : List Bound)
     → number_if m (bound_of x layer) ≡ number_placed m layer (place_of x layer)
 number_there m x [] = refl
-number_there m x (b ∷ layer) = by (same_id b.block x) (number_there m x layer)
+number_there m x (b ∷ layer) = by (is_same_id b.block x) (number_there m x layer)
   where
     by : (test : Bool) → number_if m (bound_of x layer) ≡ number_placed m layer (place_of x layer)
         → number_if m (if test then Some b else bound_of x layer)
@@ -240,7 +240,7 @@ above_is : (p : Program) (first layer : List Bound) (ids : List BlockId) → Sam
     → bounds_above p layer ids ≡ map (bound_by layer) (callers_of p first ids)
 above_is p first layer [] same = refl
 above_is p first layer (id ∷ ids) same =
-    by (block_of id p.code_blocks) (above_is p first layer ids same)
+    by (block_by_id id p.code_blocks) (above_is p first layer ids same)
   where
     by : (found : Option CodeBlock)
         → bounds_above p layer ids ≡ map (bound_by layer) (callers_of p first ids)
@@ -253,13 +253,13 @@ above_is p first layer (id ∷ ids) same =
 
 -- the callers of a program, by the places in its lowest layer
 abbrev pub program_callers : Program → List CallerData
-program_callers p = callers_of p (layers 1 p) (ids_of p)
+program_callers p = callers_of p (layers 1 p) (block_ids p)
 
 pub layers_are : (p : Program) (k : ℕ) → layers_by (program_callers p) (layers 1 p) k ≡ layers (suc k) p
 layers_are p zero = refl
 layers_are p (suc k) =
     ap (λ (layer : List Bound). map (bound_by layer) (program_callers p)) (layers_are p k)
-    ∙ sym (above_is p (layers 1 p) (layers (suc k) p) (ids_of p) (same_above p [] (layers k p) (ids_of p)))
+    ∙ sym (above_is p (layers 1 p) (layers (suc k) p) (block_ids p) (same_above p [] (layers k p) (block_ids p)))
 
 -- ---- the lowest layer
 
@@ -295,7 +295,7 @@ found_alone id (Some b) = ap (λ (d : Bound). Some d) (alone_is id b)
 pub alone_are_lowest : (p : Program) (ids : List BlockId) → bounds_alone p ids ≡ bounds_above p [] ids
 alone_are_lowest p [] = refl
 alone_are_lowest p (id ∷ ids) =
-    ap (λ (o : Option Bound). with_bound o (bounds_alone p ids)) (sym (found_alone id (block_of id p.code_blocks)))
+    ap (λ (o : Option Bound). with_bound o (bounds_alone p ids)) (sym (found_alone id (block_by_id id p.code_blocks)))
     ∙ ap (λ (rest : List Bound). with_bound (bound_above_in p [] id) rest) (alone_are_lowest p ids)
 
 -- ---- no number is above the highest
@@ -339,7 +339,7 @@ mark_there : (marks : List Bool) (list : List Bound) (x : BlockId)
     → mark marks list x ≡ mark_placed marks (place_of x list)
 mark_there [] list x = none_to_mark (place_of x list)
 mark_there (m ∷ marks) [] x = refl
-mark_there (m ∷ marks) (b ∷ list) x = by (same_id b.block x) (mark_there marks list x)
+mark_there (m ∷ marks) (b ∷ list) x = by (is_same_id b.block x) (mark_there marks list x)
   where
     by : (test : Bool) → mark marks list x ≡ mark_placed marks (place_of x list)
         → (if test then true ∷ marks else m ∷ mark marks list x)
@@ -366,11 +366,11 @@ ops_there marks list (op ∷ ops) =
     ∙ places_then marks (place_in list (callee_of op)) (places_called list ops)
 
 mark_is : (p : Program) (list : List Bound) (marks : List Bool) (m : Bool) (id : BlockId) (b : CodeBlock) (d : Bound)
-    → d.block ≡ id → block_of id p.code_blocks ≡ Some b
+    → d.block ≡ id → block_by_id id p.code_blocks ≡ Some b
     → (if m then mark_called_by p marks list d else marks) ≡ mark_if m marks (caller_of list id b)
 mark_is p list marks false id b d is there = refl
 mark_is p list marks true id b d is there =
-    ap (λ (x : BlockId). mark_called marks list (block_of x p.code_blocks)) is
+    ap (λ (x : BlockId). mark_called marks list (block_by_id x p.code_blocks)) is
     ∙ ap (λ (o : Option CodeBlock). mark_called marks list o) there
     ∙ ops_there marks list b.code
 
@@ -379,10 +379,10 @@ all_there : (p : Program) (list below : List Bound) (marks before : List Bool) (
 all_there p list below marks [] [] = refl
 all_there p list below marks (m ∷ before) [] = refl
 all_there p list below marks before (id ∷ ids) =
-    by (λ now ms. all_there p list below now ms ids) (block_of id p.code_blocks) refl before
+    by (λ now ms. all_there p list below now ms ids) (block_by_id id p.code_blocks) refl before
   where
     by : ((now ms : List Bool) → mark_all p list now ms (bounds_above p below ids) ≡ mark_callers now ms (callers_of p list ids))
-        → (found : Option CodeBlock) → block_of id p.code_blocks ≡ found → (ms : List Bool)
+        → (found : Option CodeBlock) → block_by_id id p.code_blocks ≡ found → (ms : List Bool)
         → mark_all p list marks ms (with_bound (option_map (bound_above below id) found) (bounds_above p below ids))
         ≡ mark_callers marks ms (with_caller (option_map (caller_of list id) found) (callers_of p list ids))
     by later None there ms = later marks ms
@@ -394,16 +394,16 @@ all_there p list below marks before (id ∷ ids) =
 
 -- of a list of the blocks of a program
 pub marks_are : (p : Program) (below : List Bound) (k : ℕ)
-    → marks_by (program_callers p) (bounds_above p below (ids_of p)) k ≡ marks k p (bounds_above p below (ids_of p))
+    → marks_by (program_callers p) (bounds_above p below (block_ids p)) k ≡ marks k p (bounds_above p below (block_ids p))
 marks_are p below zero = refl
 marks_are p below (suc k) =
     ap (λ (before : List Bool). mark_callers (ob_marks list) before (program_callers p)) (marks_are p below k)
     ∙ ap (λ (callers : List CallerData). mark_callers (ob_marks list) (marks k p list) callers)
-    (callers_same p (ids_of p) (layers 1 p) list (same_above p [] below (ids_of p)))
-    ∙ sym (all_there p list below (ob_marks list) (marks k p list) (ids_of p))
+    (callers_same p (block_ids p) (layers 1 p) list (same_above p [] below (block_ids p)))
+    ∙ sym (all_there p list below (ob_marks list) (marks k p list) (block_ids p))
   where
     list : List Bound
-    list = bounds_above p below (ids_of p)
+    list = bounds_above p below (block_ids p)
 
 -- ---- the ends of loops
 

@@ -5,7 +5,7 @@ use Rattle.std.specs.Option.{option_map}
 use Rattle.plc_base.specs.declared.blocks.BlockId.{BlockId}
 use Rattle.flat_code.specs.Ops.{OpData}
 use Rattle.flat_code.specs.Programs.{CodeBlock, Program}
-use Rattle.image_file.specs.Readers.{block_of, data_id, ids_of, same_id}
+use Rattle.image_file.specs.Readers.{block_by_id, data_block_id, block_ids, is_same_id}
 use Rattle.stack_bound.specs.Calls.{CallsIn, callee_of}
 use Rattle.stack_bound.specs.Certificates.{bound_of}
 use Rattle.stack_bound.specs.Layers.{weight, number, number_if, number_in, most_called, bound_above, with_bound, bounds_above, layer_above, layers}
@@ -24,37 +24,37 @@ in_front block [] more is = absurd is
 in_front block (id ∷ ids) more (inl here) = inl here
 in_front block (id ∷ ids) more (inr later) = inr (in_front block ids more later)
 
-code_in : (block : BlockId) (blocks : List CodeBlock) (b : CodeBlock) → block_of block blocks ≡ Some b
+code_in : (block : BlockId) (blocks : List CodeBlock) (b : CodeBlock) → block_by_id block blocks ≡ Some b
     → IsIn block (map (λ (x : CodeBlock). x.id) blocks)
 code_in block [] b is = absurd cc
-code_in block (one ∷ blocks) b is = by (λ later. code_in block blocks b later) (same_id one.id block) refl is
+code_in block (one ∷ blocks) b is = by (λ later. code_in block blocks b later) (is_same_id one.id block) refl is
   where
-    by : (block_of block blocks ≡ Some b → IsIn block (map (λ (x : CodeBlock). x.id) blocks))
-        → (test : Bool) → same_id one.id block ≡ test
-        → (if test then Some one else block_of block blocks) ≡ Some b
+    by : (block_by_id block blocks ≡ Some b → IsIn block (map (λ (x : CodeBlock). x.id) blocks))
+        → (test : Bool) → is_same_id one.id block ≡ test
+        → (if test then Some one else block_by_id block blocks) ≡ Some b
         → (one.id ≡ block) ⊎ IsIn block (map (λ (x : CodeBlock). x.id) blocks)
     by next true same here = inl (same_is one.id block same)
     by next false same later = inr (next later)
 
 -- a code block is one of the blocks of the program
-pub loaded_in : (p : Program) (block : BlockId) (b : CodeBlock) → block_of block p.code_blocks ≡ Some b
-    → IsIn block (ids_of p)
+pub loaded_in : (p : Program) (block : BlockId) (b : CodeBlock) → block_by_id block p.code_blocks ≡ Some b
+    → IsIn block (block_ids p)
 loaded_in p block b is =
-    in_front block (map (λ (x : CodeBlock). x.id) p.code_blocks) (map data_id p.data_blocks)
+    in_front block (map (λ (x : CodeBlock). x.id) p.code_blocks) (map data_block_id p.data_blocks)
     (code_in block p.code_blocks b is)
 
 -- ---- what a layer has
 
 abbrev bound_for : Program → List Bound → BlockId → Option Bound
-bound_for p layer block = option_map (bound_above layer block) (block_of block p.code_blocks)
+bound_for p layer block = option_map (bound_above layer block) (block_by_id block p.code_blocks)
 
 -- of each block that is among them the bounds above a layer have the bound of that block
 bounds_have : (p : Program) (layer : List Bound) (ids : List BlockId) (block : BlockId) (b : CodeBlock)
-    → block_of block p.code_blocks ≡ Some b → IsIn block ids
+    → block_by_id block p.code_blocks ≡ Some b → IsIn block ids
     → bound_of block (bounds_above p layer ids) ≡ Some (bound_above layer block b)
 bounds_have p layer [] block b is there = absurd there
 bounds_have p layer (id ∷ ids) block b is there =
-    by (same_id id block) refl there (λ later. bounds_have p layer ids block b is later)
+    by (is_same_id id block) refl there (λ later. bounds_have p layer ids block b is later)
   where
     rest : List Bound
     rest = bounds_above p layer ids
@@ -64,56 +64,56 @@ bounds_have p layer (id ∷ ids) block b is there =
         subst (λ (x : BlockId). bound_of block (with_bound (bound_for p layer x) rest) ≡ Some (bound_above layer block b))
         (sym same) (rw is (rw (same_self block) refl))
 
-    skip : (found : Option CodeBlock) → same_id id block ≡ false
+    skip : (found : Option CodeBlock) → is_same_id id block ≡ false
         → bound_of block (with_bound (option_map (bound_above layer id) found) rest) ≡ bound_of block rest
     skip None apart = refl
     skip (Some x) apart = rw apart refl
 
-    not_here : (test : Bool) → same_id id block ≡ test → test ≡ false → (id ≡ block) ⊎ IsIn block ids → IsIn block ids
+    not_here : (test : Bool) → is_same_id id block ≡ test → test ≡ false → (id ≡ block) ⊎ IsIn block ids → IsIn block ids
     not_here test is_test fails (inl here) =
-        absurd (wrong (subst (λ (x : BlockId). same_id x block ≡ true) (sym here) (same_self block)))
+        absurd (wrong (subst (λ (x : BlockId). is_same_id x block ≡ true) (sym here) (same_self block)))
       where
-        wrong : same_id id block ≡ true → ⊥
+        wrong : is_same_id id block ≡ true → ⊥
         wrong passes = cc
     not_here test is_test fails (inr later) = later
 
-    by : (test : Bool) → same_id id block ≡ test → (id ≡ block) ⊎ IsIn block ids
+    by : (test : Bool) → is_same_id id block ≡ test → (id ≡ block) ⊎ IsIn block ids
         → (IsIn block ids → bound_of block rest ≡ Some (bound_above layer block b))
         → bound_of block (with_bound (bound_for p layer id) rest) ≡ Some (bound_above layer block b)
     by true same among next = first (same_is id block same)
     by false apart among next =
-        skip (block_of id p.code_blocks) apart ∙ next (not_here false apart refl among)
+        skip (block_by_id id p.code_blocks) apart ∙ next (not_here false apart refl among)
 
 -- and of a block that isn't loaded none
 bounds_lack : (p : Program) (layer : List Bound) (ids : List BlockId) (block : BlockId)
-    → block_of block p.code_blocks ≡ None → bound_of block (bounds_above p layer ids) ≡ None
+    → block_by_id block p.code_blocks ≡ None → bound_of block (bounds_above p layer ids) ≡ None
 bounds_lack p layer [] block is = refl
 bounds_lack p layer (id ∷ ids) block is =
-    by (block_of id p.code_blocks) refl ∙ bounds_lack p layer ids block is
+    by (block_by_id id p.code_blocks) refl ∙ bounds_lack p layer ids block is
   where
-    apart : (x : CodeBlock) → block_of id p.code_blocks ≡ Some x → (test : Bool) → same_id id block ≡ test
+    apart : (x : CodeBlock) → block_by_id id p.code_blocks ≡ Some x → (test : Bool) → is_same_id id block ≡ test
         → test ≡ false
     apart x there false same = refl
     apart x there true same =
-        absurd (wrong (subst (λ (y : BlockId). block_of y p.code_blocks ≡ Some x) (same_is id block same) there))
+        absurd (wrong (subst (λ (y : BlockId). block_by_id y p.code_blocks ≡ Some x) (same_is id block same) there))
       where
-        wrong : block_of block p.code_blocks ≡ Some x → ⊥
+        wrong : block_by_id block p.code_blocks ≡ Some x → ⊥
         wrong passes = cc
 
-    by : (found : Option CodeBlock) → block_of id p.code_blocks ≡ found
+    by : (found : Option CodeBlock) → block_by_id id p.code_blocks ≡ found
         → bound_of block (with_bound (option_map (bound_above layer id) found) (bounds_above p layer ids))
         ≡ bound_of block (bounds_above p layer ids)
     by None there = refl
-    by (Some x) there = rw (apart x there (same_id id block) refl) refl
+    by (Some x) there = rw (apart x there (is_same_id id block) refl) refl
 
 pub layer_has : (p : Program) (layer : List Bound) (block : BlockId) (b : CodeBlock)
-    → block_of block p.code_blocks ≡ Some b
+    → block_by_id block p.code_blocks ≡ Some b
     → bound_of block (layer_above p layer) ≡ Some (bound_above layer block b)
-layer_has p layer block b is = bounds_have p layer (ids_of p) block b is (loaded_in p block b is)
+layer_has p layer block b is = bounds_have p layer (block_ids p) block b is (loaded_in p block b is)
 
 pub layer_lacks : (p : Program) (layer : List Bound) (block : BlockId)
-    → block_of block p.code_blocks ≡ None → bound_of block (layer_above p layer) ≡ None
-layer_lacks p layer block is = bounds_lack p layer (ids_of p) block is
+    → block_by_id block p.code_blocks ≡ None → bound_of block (layer_above p layer) ≡ None
+layer_lacks p layer block is = bounds_lack p layer (block_ids p) block is
 
 number_above : (m : Measure) (layer : List Bound) (block : BlockId) (b : CodeBlock)
     → number m (bound_above layer block b) ≡ weight m b + most_called m layer b.code
@@ -122,13 +122,13 @@ number_above Bytes layer block b = refl
 
 -- what a layer above another one says of a loaded block
 pub above : (m : Measure) (p : Program) (layer : List Bound) (block : BlockId) (b : CodeBlock)
-    → block_of block p.code_blocks ≡ Some b
+    → block_by_id block p.code_blocks ≡ Some b
     → number_in m (layer_above p layer) (Some block) ≡ weight m b + most_called m layer b.code
 above m p layer block b is =
     ap (λ (o : Option Bound). number_if m o) (layer_has p layer block b is) ∙ number_above m layer block b
 
 pub above_none : (m : Measure) (p : Program) (layer : List Bound) (block : BlockId)
-    → block_of block p.code_blocks ≡ None → number_in m (layer_above p layer) (Some block) ≡ 0
+    → block_by_id block p.code_blocks ≡ None → number_in m (layer_above p layer) (Some block) ≡ 0
 above_none m p layer block is =
     ap (λ (o : Option Bound). number_if m o) (layer_lacks p layer block is)
 
@@ -157,9 +157,9 @@ none_below x y is = omega (arith, is)
 above_below : (m : Measure) (p : Program) (low high : List Bound) → IsBelow m low high
     → IsBelow m (layer_above p low) (layer_above p high)
 above_below m p low high below None = omega arith
-above_below m p low high below (Some block) = by (block_of block p.code_blocks) refl
+above_below m p low high below (Some block) = by (block_by_id block p.code_blocks) refl
   where
-    by : (found : Option CodeBlock) → block_of block p.code_blocks ≡ found
+    by : (found : Option CodeBlock) → block_by_id block p.code_blocks ≡ found
         → number_in m (layer_above p low) (Some block) ≤ number_in m (layer_above p high) (Some block)
     by None is =
         none_below (number_in m (layer_above p low) (Some block))
@@ -177,7 +177,7 @@ layers_rise m p (suc k) callee =
 
 -- a block has at most its own weight and the most of a block that it calls
 pub at_most : (m : Measure) (p : Program) (k : ℕ) (block : BlockId) (b : CodeBlock)
-    → block_of block p.code_blocks ≡ Some b
+    → block_by_id block p.code_blocks ≡ Some b
     → number_in m (layers (suc k) p) (Some block) ≤ weight m b + most_called m (layers (suc k) p) b.code
 at_most m p k block b is =
     sum_below (weight m b) (most_called m (layers k p) b.code) (most_called m (layers (suc k) p) b.code)
@@ -228,9 +228,9 @@ one_less x a k is less = omega (arith, is, less)
 pub stays : (p : Program) (k : ℕ) → Stays p k
 stays p zero m callee less = absurd (omega (arith, less))
 stays p (suc k) m None less = refl
-stays p (suc k) m (Some block) less = by (block_of block p.code_blocks) refl (stays p k)
+stays p (suc k) m (Some block) less = by (block_by_id block p.code_blocks) refl (stays p k)
   where
-    by : (found : Option CodeBlock) → block_of block p.code_blocks ≡ found → Stays p k
+    by : (found : Option CodeBlock) → block_by_id block p.code_blocks ≡ found → Stays p k
         → number_in m (layers (suc (suc k)) p) (Some block) ≡ number_in m (layers (suc k) p) (Some block)
     by None is before =
         above_none m p (layers (suc k) p) block is ∙ sym (above_none m p (layers k p) block is)
@@ -245,7 +245,7 @@ stays p (suc k) m (Some block) less = by (block_of block p.code_blocks) refl (st
 
 -- so a layer counts each block as itself and what it calls, where its depth is below the layer's number
 pub settled : (m : Measure) (p : Program) (k : ℕ) (block : BlockId) (b : CodeBlock)
-    → block_of block p.code_blocks ≡ Some b → number_in Depth (layers k p) (Some block) < k
+    → block_by_id block p.code_blocks ≡ Some b → number_in Depth (layers k p) (Some block) < k
     → number_in m (layers k p) (Some block) ≡ weight m b + most_called m (layers k p) b.code
 settled m p k block b is less =
     sym (stays p k m (Some block) less) ∙ above m p (layers k p) block b is

@@ -10,8 +10,8 @@ use Rattle.std.proofs.lemmas.List.{length-map}
 use Rattle.std.proofs.lemmas.Bool.Decides.{nat_tests}
 use Rattle.plc_base.specs.declared.BlockId.{BlockId}
 use Rattle.plc_mem.specs.Areas.{Areas}
-use Rattle.frames.specs.Activations.{entered, frames_of, refused, with_local_byte}
-use Rattle.frames.specs.Locals.{LocalData, byte_set}
+use Rattle.frames.specs.Activations.{block_entered, frames_of, entry_fault, with_local_byte}
+use Rattle.frames.specs.Locals.{LocalData, local_byte_set}
 use Rattle.frames.specs.declared.Activation.{Activation}
 use Rattle.frames.specs.declared.FrameFault.{FrameFault}
 use Rattle.frames.specs.declared.FrameFault.TheVariants.{Depth, LocalFull}
@@ -21,18 +21,18 @@ use Rattle.flat_code.specs.Instr.{Instr, Does, Jumps, JumpsByList, Calls, Return
 use Rattle.flat_code.specs.declared.operations.CallOperation.{CallOperation}
 use Rattle.flat_code.specs.declared.programs.Param.{Param}
 use Rattle.flat_code.specs.Programs.{Program}
-use Rattle.machine.specs.Bindings.{bindings_of}
-use Rattle.machine.specs.Code.{Code, Fetched, Head}
+use Rattle.machine.specs.Bindings.{param_bindings}
+use Rattle.machine.specs.Code.{Code, Fetched, BlockHead}
 use Rattle.machine.specs.Effect.{effect_with}
-use Rattle.machine.specs.Entering.{Call, Fails, Stops, Enters, Callee, supplied, entered_if, called_with, call, fresh, caller_at, going_on}
+use Rattle.machine.specs.Entering.{Call, Fails, Stops, Enters, CalledBlock, instance_supplied, entered_if, called_with, call, fresh, caller_at, going_on}
 use Rattle.machine.specs.Fitting.{FramesFit, FitsBlock, bytes_together}
 use Rattle.machine.specs.Flat.{code_of}
 use Rattle.machine.specs.Jumps.{rlo_tested}
 use Rattle.machine.specs.Lasting.{FitsProgram}
 use Rattle.machine.specs.OpenBrackets.{open_codes}
 use Rattle.machine.specs.ExecState.{ExecState, local_of, exec_state_of}
-use Rattle.machine.specs.Returning.{left, given_back, returning}
-use Rattle.machine.specs.Statement.{World, Step, Went, Ended, SyncError, SysCall, Stop, Stuck, continue_with, after_call, callee_of, block_called, after_system_call, system_called, called, is_called, not_called, after_return, returned, is_ended, step_of, step_found, statement}
+use Rattle.machine.specs.Returning.{left, given_back, block_return}
+use Rattle.machine.specs.Statement.{World, Step, Went, Ended, SyncError, SysCall, Stop, Stuck, continue_with, call_step, called_block, block_called, after_system_call, system_call_made, call_made, is_call_made, not_called, after_return, return_made, is_ended, step_of, step_found, statement}
 use Rattle.machine.specs.SystemCalls.{Given, system_function, system_call}
 use Rattle.stack_bound.specs.Certificates.{bound_of, CountsItself, CountsCalled}
 use Rattle.stack_bound.proofs.Stacks.{Roomy, counted_frame, stack_of, bytes_below, RoomFor, HasRoom, Certifies}
@@ -77,7 +77,7 @@ enters_by most depth bytes local_len full deep fits = rw deep (rw fits refl)
 
 not_refused : (z : Profile) (d : Option Bound) (local_len : ℕ) (stack : List (BlockId × ℕ)) (a : Activation)
     → a.profile ≡ z → RoomFor z d stack → CountsItself local_len d → length (frames_of a) ≡ length stack
-    → length a.running.locals.bytes ≡ bytes_below stack → refused local_len a ≡ None
+    → length a.running.locals.bytes ≡ bytes_below stack → entry_fault local_len a ≡ None
 not_refused z None local_len stack a same room own depth bytes = absurd room
 not_refused z (Some d) local_len stack a same room own depth bytes =
     enters_by (most_frames a.profile) (length (frames_of a)) (length a.running.locals.bytes) local_len
@@ -99,16 +99,16 @@ bytes_same [] = refl
 bytes_same (f ∷ rest) = ap (λ (n : ℕ). f.local_len + n) (bytes_same rest)
 
 -- the head of the running block says how many local bytes its frame has
-len_by : (h : Option Head) (f : Frame) (below : List Frame) (m : Areas) → FitsBlock h f below m
-    → (k : Head) → h ≡ Some k → f.local_len ≡ k.local_len
+len_by : (h : Option BlockHead) (f : Frame) (below : List Frame) (m : Areas) → FitsBlock h f below m
+    → (k : BlockHead) → h ≡ Some k → f.local_len ≡ k.local_len
 len_by None f below m fits k is = absurd fits
-len_by (Some h) f below m fits k is = fits.local_len ∙ ap (λ (o : Option Head). head_len o) is
+len_by (Some h) f below m fits k is = fits.local_len ∙ ap (λ (o : Option BlockHead). head_len o) is
   where
-    head_len : Option Head → ℕ
+    head_len : Option BlockHead → ℕ
     head_len None = 0
     head_len (Some x) = x.local_len
 
-own_len : (p : Program) (m : Areas) (a : Activation) → FitsProgram p m a → (h : Head)
+own_len : (p : Program) (m : Areas) (a : Activation) → FitsProgram p m a → (h : BlockHead)
     → (code_of p).head a.running.frame.block ≡ Some h → a.running.frame.local_len ≡ h.local_len
 own_len p m a fits h is =
     let frames : FramesFit (code_of p) (open_codes p) m (a.running.frame ∷ a.below) =
@@ -130,49 +130,49 @@ went_room z c (Err code) next a room = room
 
 supplied_room : (z : Profile) (c : List Bound) (instance : Option ℕ) (params : List Param) (b : Activation)
     (m : Areas) (a : Activation) → Roomy z c b
-    → CallHasRoom z c a (supplied instance params b m)
+    → CallHasRoom z c a (instance_supplied instance params b m)
 supplied_room z c None params b m a room = room
 supplied_room z c (Some instance) params b m a room = room
 
 -- the frame of the called block stands above those that stood
-entered_stack : (to : Callee) (bindings : List Binding) (next : ℕ) (a : Activation) → a.left ≡ false
-    → stack_of (entered (fresh to bindings a.running.frame) (caller_at next a))
+entered_stack : (to : CalledBlock) (bindings : List Binding) (next : ℕ) (a : Activation) → a.left ≡ false
+    → stack_of (block_entered (fresh to bindings a.running.frame) (caller_at next a))
     ≡ (to.block, to.local_len) ∷ stack_of a
 entered_stack to bindings next a is =
     ap (λ (frames : List (BlockId × ℕ)). (to.block, to.local_len) ∷ frames)
     (stack_is (caller_at next a) is)
 
-entered_room : (z : Profile) (c : List Bound) (fault : Option FrameFault) (to : Callee) (bindings : List Binding)
+entered_room : (z : Profile) (c : List Bound) (fault : Option FrameFault) (to : CalledBlock) (bindings : List Binding)
     (next : ℕ) (a : Activation) (m : Areas) → a.left ≡ false → fault ≡ None
     → RoomFor z (bound_of to.block c) (stack_of a) → Roomy z c a
     → CallHasRoom z c a (entered_if fault to bindings next a m)
 entered_room z c (Some fault) to bindings next a m stands none more room = absurd cc
 entered_room z c None to bindings next a m stands none more room =
-    supplied_room z c to.instance to.params (entered (fresh to bindings a.running.frame) (caller_at next a))
+    supplied_room z c to.instance to.params (block_entered (fresh to bindings a.running.frame) (caller_at next a))
     m a (
       room.0,
       subst (λ (stack : List (BlockId × ℕ)). HasRoom z c stack)
           (sym (entered_stack to bindings next a stands)) (more, room.1),
     )
 
-call_by : (z : Profile) (c : List Bound) (r : Result (List Binding) ℕ) (to : Callee) (next : ℕ) (a : Activation)
-    (m : Areas) → a.left ≡ false → refused to.local_len a ≡ None
+call_by : (z : Profile) (c : List Bound) (r : Result (List Binding) ℕ) (to : CalledBlock) (next : ℕ) (a : Activation)
+    (m : Areas) → a.left ≡ false → entry_fault to.local_len a ≡ None
     → RoomFor z (bound_of to.block c) (stack_of a) → Roomy z c a
     → CallHasRoom z c a (called_with r to next a m)
 call_by z c (Err code) to next a m stands none more room = tt
 call_by z c (Ok bindings) to next a m stands none more room =
-    entered_room z c (refused to.local_len a) to bindings next a m stands none more room
+    entered_room z c (entry_fault to.local_len a) to bindings next a m stands none more room
 
-call_room : (z : Profile) (c : List Bound) (to : Callee) (passings : List Passing) (next : ℕ) (a : Activation)
-    (m : Areas) → a.left ≡ false → refused to.local_len a ≡ None
+call_room : (z : Profile) (c : List Bound) (to : CalledBlock) (passings : List Passing) (next : ℕ) (a : Activation)
+    (m : Areas) → a.left ≡ false → entry_fault to.local_len a ≡ None
     → RoomFor z (bound_of to.block c) (stack_of a) → Roomy z c a
     → CallHasRoom z c a (call to passings next a m)
 unfolding call
 call_room z c to passings next a m stands none more room =
-    call_by z c (bindings_of to.params passings (local_of a.running) m) to next a m stands none more room
+    call_by z c (param_bindings to.params passings (local_of a.running) m) to next a m stands none more room
 
 after_call_room : (z : Profile) (c : List Bound) (k : Call) (next : ℕ) (a : Activation) (w : World)
-    → Roomy z c a → CallHasRoom z c a k → StepHasRoom z c (after_call k next a w)
+    → Roomy z c a → CallHasRoom z c a k → StepHasRoom z c (call_step k next a w)
 after_call_room z c (Fails code) next a w room called = room
 after_call_room z c (Stops fault) next a w room called = called
 after_call_room z c (Enters b m) next a w room called = called
@@ -180,11 +180,11 @@ after_call_room z c (Enters b m) next a w room called = called
 -- what a certificate says of a call of the running block
 abbrev CallCounts : Code → List Bound → Activation → BlockId → Type 0
 CallCounts code c a block =
-    (h d : Head) → is_system_function block.kind ≡ false → code.head a.running.frame.block ≡ Some h
+    (h d : BlockHead) → is_system_function block.kind ≡ false → code.head a.running.frame.block ≡ Some h
     → code.head block ≡ Some d
     → CountsCalled h.local_len (bound_of a.running.frame.block c) (bound_of block c)
 
-block_room : (z : Profile) (p : Program) (c : List Bound) (found : Option Head) (block : BlockId)
+block_room : (z : Profile) (p : Program) (c : List Bound) (found : Option BlockHead) (block : BlockId)
     (instance : Option ℕ) (passings : List Passing) (next : ℕ) (a : Activation) (w : World)
     → Certifies z (code_of p) c → FitsProgram p w.memory a → Roomy z c a
     → (code_of p).head block ≡ found → is_system_function block.kind ≡ false
@@ -192,15 +192,15 @@ block_room : (z : Profile) (p : Program) (c : List Bound) (found : Option Head) 
     → StepHasRoom z c (block_called found block instance passings next a w)
 block_room z p c None block instance passings next a w holds fits room is user counts = tt
 block_room z p c (Some d) block instance passings next a w holds fits room is user counts =
-    after_call_room z c (call (callee_of block instance d) passings next a w.memory) next a w room
-    (call_room z c (callee_of block instance d) passings next a w.memory stands
+    after_call_room z c (call (called_block block instance d) passings next a w.memory) next a w room
+    (call_room z c (called_block block instance d) passings next a w.memory stands
     (not_refused z (bound_of block c) d.local_len (stack_of a) a room.0 more (holds.own block d is) depth bytes)
     more room)
   where
     stands : a.left ≡ false
     stands = fits.fits.stands
 
-    head_of_running : (h : Option Head) → (code_of p).head a.running.frame.block ≡ h
+    head_of_running : (h : Option BlockHead) → (code_of p).head a.running.frame.block ≡ h
         → FitsBlock h a.running.frame a.below w.memory
         → RoomFor z (bound_of block c) (stack_of a)
     head_of_running None found fit = absurd fit
@@ -235,7 +235,7 @@ after_system_room z c (Ok given) number next a room = room
 
 system_room : (z : Profile) (c : List Bound) (params : Option (List Param)) (number : ℕ) (passings : List Passing)
     (next : ℕ) (a : Activation) (w : World) → Roomy z c a
-    → StepHasRoom z c (system_called params number passings next a w)
+    → StepHasRoom z c (system_call_made params number passings next a w)
 system_room z c None number passings next a w room = tt
 system_room z c (Some params) number passings next a w room =
     after_system_room z c (system_call params passings (local_of a.running) w.memory) number next a room
@@ -244,12 +244,12 @@ calls_room : (z : Profile) (p : Program) (c : List Bound) (block : BlockId) (ins
     (passings : List Passing) (next : ℕ) (a : Activation) (w : World)
     → Certifies z (code_of p) c → FitsProgram p w.memory a → Roomy z c a
     → CallCounts (code_of p) c a block
-    → StepHasRoom z c (called (code_of p) block instance passings next a w)
+    → StepHasRoom z c (call_made (code_of p) block instance passings next a w)
 calls_room z p c block instance passings next a w holds fits room counts =
     by (is_system_function block.kind) refl
   where
     by : (test : Bool) → is_system_function block.kind ≡ test
-        → StepHasRoom z c (if test then system_called (system_function block.number) block.number passings next a w
+        → StepHasRoom z c (if test then system_call_made (system_function block.number) block.number passings next a w
         else block_called ((code_of p).head block) block instance passings next a w)
     by true is = system_room z c (system_function block.number) block.number passings next a w room
     by false is =
@@ -263,9 +263,9 @@ left_room z c [] instance params a m w same room = tt
 left_room z c (f ∷ rest) None params a m w same room = (same, room)
 left_room z c (f ∷ rest) (Some instance) params a m w same room = (same, room)
 
-returned_room : (z : Profile) (c : List Bound) (h : Option Head) (a : Activation) (w : World)
-    → Roomy z c a → StepHasRoom z c (returned h a w)
-unfolding returning
+returned_room : (z : Profile) (c : List Bound) (h : Option BlockHead) (a : Activation) (w : World)
+    → Roomy z c a → StepHasRoom z c (return_made h a w)
+unfolding block_return
 returned_room z c None a w room = tt
 returned_room z c (Some h) a w room =
     left_room z c a.below a.running.frame.instance h.params a w.memory w room.0 room.1.1
@@ -281,14 +281,14 @@ performed_room z p c (Does use_db word operand) next a w holds fits room counts 
 performed_room z p c (Jumps word target) next a w holds fits room counts = room
 performed_room z p c (JumpsByList targets otherwise) next a w holds fits room counts = room
 performed_room z p c (Calls how block instance passings) next a w holds fits room counts =
-    if_room z (is_called how a.running.regs.status.rlo) c
-    (called (code_of p) block instance passings next a w)
+    if_room z (is_call_made how a.running.regs.status.rlo) c
+    (call_made (code_of p) block instance passings next a w)
     (Went (going_on next (not_called a.running.regs) a) w)
     (calls_room z p c block instance passings next a w holds fits room
     (counts how block instance passings refl)) room
 performed_room z p c (Returns how) next a w holds fits room counts =
     if_room z (is_ended how a.running.regs.status.rlo) c
-    (returned ((code_of p).head a.running.frame.block) a w)
+    (return_made ((code_of p).head a.running.frame.block) a w)
     (Went (going_on next (rlo_tested a.running.regs) a) w)
     (returned_room z c ((code_of p).head a.running.frame.block) a w room) room
 
@@ -321,7 +321,7 @@ local_stack (Some locals) a = refl
 
 pub byte_stack : (byte value : ℕ) (a : Activation)
     → stack_of (unwrap_or (with_local_byte 0 byte value a) a) ≡ stack_of a
-byte_stack byte value a = local_stack (byte_set a.running.locals 0 byte value) a
+byte_stack byte value a = local_stack (local_byte_set a.running.locals 0 byte value) a
 
 local_profile : (locals : Option LocalData) (a : Activation)
     → (unwrap_or (option_map (λ l. record a { running = record a.running { locals = l } }) locals) a).profile
@@ -331,4 +331,4 @@ local_profile (Some locals) a = refl
 
 pub byte_profile : (byte value : ℕ) (a : Activation)
     → (unwrap_or (with_local_byte 0 byte value a) a).profile ≡ a.profile
-byte_profile byte value a = local_profile (byte_set a.running.locals 0 byte value) a
+byte_profile byte value a = local_profile (local_byte_set a.running.locals 0 byte value) a

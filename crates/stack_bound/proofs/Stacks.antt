@@ -9,7 +9,7 @@ use Rattle.frames.specs.declared.Activation.{Activation}
 use Rattle.frames.specs.declared.frame.Frame.{Frame}
 use Rattle.flat_code.specs.Instr.{Calls, Passing}
 use Rattle.flat_code.specs.declared.operations.CallOperation.{CallOperation}
-use Rattle.machine.specs.Code.{Code, Fetched, Head}
+use Rattle.machine.specs.Code.{Code, Fetched, BlockHead}
 use Rattle.controller.specs.Beginning.{ob_block}
 use Rattle.stack_bound.specs.Certificates.{bound_of, CountsItself, CountsCalled}
 use Rattle.stack_bound.specs.Chains.{most_local_bytes}
@@ -47,10 +47,10 @@ Roomy z c a = (a.profile ≡ z) × HasRoom z c (stack_of a)
 -- room in an activation, and each block counts itself and each block that it calls
 pub record Certifies (z : Profile) (code : Code) (c : List Bound) : Type 0 where
   pub obs : (ob : ℕ) → IsSome (code.head (ob_block ob)) → RoomFor z (bound_of (ob_block ob) c) []
-  pub own : (block : BlockId) (h : Head) → code.head block ≡ Some h
+  pub own : (block : BlockId) (h : BlockHead) → code.head block ≡ Some h
       → CountsItself h.local_len (bound_of block c)
   pub calls : (block : BlockId) (at : ℕ) (f : Fetched) (how : CallOperation) (called : BlockId)
-      (instance : Option ℕ) (passings : List Passing) (h d : Head)
+      (instance : Option ℕ) (passings : List Passing) (h d : BlockHead)
       → code.fetch block at ≡ Some f → f.instr ≡ Calls how called instance passings
       → is_system_function called.kind ≡ false → code.head block ≡ Some h → code.head called ≡ Some d
       → CountsCalled h.local_len (bound_of block c) (bound_of called c)

@@ -11,7 +11,7 @@ use Rattle.flat_code.specs.declared.operands.Operand.{Operand}
 use Rattle.flat_code.specs.declared.operands.Operand.TheVariants as operand
 use Rattle.flat_code.specs.declared.operations.Operation.{Operation}
 use Rattle.flat_code.specs.declared.operations.Operation.TheVariants as operation
-use Rattle.image_file.specs.Readers.{block_of}
+use Rattle.image_file.specs.Readers.{block_by_id}
 
 -- a block of a kind and number
 abbrev pub block_named : (number : ℕ) → BlockKind → BlockId
@@ -37,6 +37,6 @@ CallsIn (op ∷ ops) called = (callee_of op ≡ Some called) ⊎ CallsIn ops cal
 pub record Calls (p : Program) (caller called : BlockId) : Type 0 where
   pub from : CodeBlock
   pub to : CodeBlock
-  pub is_loaded : block_of caller p.code_blocks ≡ Some from
-  pub called_is_loaded : block_of called p.code_blocks ≡ Some to
+  pub is_loaded : block_by_id caller p.code_blocks ≡ Some from
+  pub called_is_loaded : block_by_id called p.code_blocks ≡ Some to
   pub calls : CallsIn from.code called

@@ -7,7 +7,7 @@ use Rattle.plc_base.specs.declared.blocks.BlockKind.{BlockKind}
 use Rattle.plc_base.specs.declared.blocks.BlockKind.TheVariants.{Ob, Fc, Fb}
 use Rattle.plc_base.specs.declared.refusals.Refusal.{Refusal}
 use Rattle.flat_code.specs.Programs.{Program}
-use Rattle.image_file.specs.Readers.{block_of}
+use Rattle.image_file.specs.Readers.{block_by_id}
 use Rattle.monitor.specs.LineText.{kind_text}
 use Rattle.var_access.specs.Readings.{Reading, address_number, both, no_line, reading_map, words_of}
 use Rattle.stack_bound.specs.Order.{is_before}
@@ -71,7 +71,7 @@ comes_behind (Some before) block = is_before before block
 abbrev pub in_order : Program → Option BlockId → Reading Bound → Reading Bound
 in_order p before (Err rule) = Err rule
 in_order p before (Ok b) =
-    if is_some (block_of b.block p.code_blocks) && comes_behind before b.block then Ok b else Err 3
+    if is_some (block_by_id b.block p.code_blocks) && comes_behind before b.block then Ok b else Err 3
 
 -- the bound of a line behind one of a block
 abbrev pub bound_line : Program → Option BlockId → (line : List ℕ) → Reading Bound

@@ -5,7 +5,7 @@ use Rattle.plc_base.specs.declared.Profile.{Profile}
 use Rattle.plc_base.specs.declared.blocks.BlockId.{BlockId}
 use Rattle.plc_base.specs.declared.blocks.BlockKind.TheVariants.{Ob}
 use Rattle.flat_code.specs.Programs.{CodeBlock, Program}
-use Rattle.image_file.specs.Readers.{block_of, same_id}
+use Rattle.image_file.specs.Readers.{block_by_id, is_same_id}
 use Rattle.stack_bound.specs.Calls.{CallsIn}
 use Rattle.stack_bound.specs.Chains.{most_local_bytes}
 use Rattle.stack_bound.specs.declared.certificates.Bound.{Bound}
@@ -13,7 +13,7 @@ use Rattle.stack_bound.specs.declared.certificates.Bound.{Bound}
 -- what a certificate says of a block
 abbrev pub bound_of : BlockId → List Bound → Option Bound
 bound_of block [] = None
-bound_of block (b ∷ rest) = if same_id b.block block then Some b else bound_of block rest
+bound_of block (b ∷ rest) = if is_same_id b.block block then Some b else bound_of block rest
 
 -- no block stands in the list twice
 abbrev pub AreOnce : List Bound → Type 0
@@ -23,7 +23,7 @@ AreOnce (b ∷ rest) = (bound_of b.block rest ≡ None) × AreOnce rest
 -- each block of the list is a code block of the program
 abbrev pub AreLoaded : Program → List Bound → Type 0
 AreLoaded p [] = Unit {0}
-AreLoaded p (b ∷ rest) = IsSome (block_of b.block p.code_blocks) × AreLoaded p rest
+AreLoaded p (b ∷ rest) = IsSome (block_by_id b.block p.code_blocks) × AreLoaded p rest
 
 -- a bound that is there, and within the limits of an activation
 abbrev pub IsWithin : Profile → Option Bound → Type 0
@@ -49,10 +49,10 @@ CountsCalled local_len (Some b) (Some d) =
 pub record Holds (profile : Profile) (p : Program) (c : List Bound) : Type 0 where
   pub once : AreOnce c
   pub loaded : AreLoaded p c
-  pub obs : (b : CodeBlock) → block_of b.id p.code_blocks ≡ Some b → b.id.kind ≡ Ob
+  pub obs : (b : CodeBlock) → block_by_id b.id p.code_blocks ≡ Some b → b.id.kind ≡ Ob
       → IsWithin profile (bound_of b.id c)
-  pub own : (block : BlockId) (b : CodeBlock) → block_of block p.code_blocks ≡ Some b
+  pub own : (block : BlockId) (b : CodeBlock) → block_by_id block p.code_blocks ≡ Some b
       → CountsItself b.local_len (bound_of block c)
   pub calls : (block called : BlockId) (b d : CodeBlock)
-      → block_of block p.code_blocks ≡ Some b → block_of called p.code_blocks ≡ Some d
+      → block_by_id block p.code_blocks ≡ Some b → block_by_id called p.code_blocks ≡ Some d
       → CallsIn b.code called → CountsCalled b.local_len (bound_of block c) (bound_of called c)

@@ -5,7 +5,7 @@ use Rattle.plc_base.specs.declared.Profile.{Profile}
 use Rattle.plc_base.specs.declared.blocks.BlockId.{BlockId}
 use Rattle.plc_base.specs.declared.blocks.BlockKind.TheVariants.{Ob}
 use Rattle.flat_code.specs.Programs.{CodeBlock, Program}
-use Rattle.image_file.specs.Readers.{block_of}
+use Rattle.image_file.specs.Readers.{block_by_id}
 use Rattle.stack_bound.specs.Calls.{Calls}
 
 -- the local bytes that an activation has at most
@@ -21,7 +21,7 @@ CallEachOther p caller (called ∷ rest) = Calls p caller called × CallEachOthe
 abbrev pub IsChain : Program → List BlockId → Type 0
 IsChain p [] = ⊥
 IsChain p (ob ∷ rest) =
-    (ob.kind ≡ Ob) × IsSome (block_of ob p.code_blocks) × CallEachOther p ob rest
+    (ob.kind ≡ Ob) × IsSome (block_by_id ob p.code_blocks) × CallEachOther p ob rest
 
 -- the local bytes of a block; none of one that isn't loaded
 abbrev pub local_bytes : Option CodeBlock → ℕ
@@ -32,7 +32,7 @@ local_bytes (Some b) = b.local_len
 abbrev pub bytes_of_chain : Program → List BlockId → ℕ
 bytes_of_chain p [] = 0
 bytes_of_chain p (block ∷ rest) =
-    local_bytes (block_of block p.code_blocks) + bytes_of_chain p rest
+    local_bytes (block_by_id block p.code_blocks) + bytes_of_chain p rest
 
 -- a chain is too deep where it has more blocks than the profile has frames, or more local bytes than an
 -- activation has

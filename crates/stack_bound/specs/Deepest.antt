@@ -8,7 +8,7 @@ use Rattle.plc_base.specs.declared.blocks.BlockId.{BlockId}
 use Rattle.plc_base.specs.declared.blocks.BlockKind.TheVariants.{Ob}
 use Rattle.flat_code.specs.Ops.{OpData}
 use Rattle.flat_code.specs.Programs.{Program}
-use Rattle.image_file.specs.Readers.{block_of}
+use Rattle.image_file.specs.Readers.{block_by_id}
 use Rattle.stack_bound.specs.Calls.{CallsIn, callee_of}
 use Rattle.stack_bound.specs.Certificates.{bound_of}
 use Rattle.stack_bound.specs.Chains.{IsChain, bytes_of_chain, most_local_bytes}
@@ -69,7 +69,7 @@ first_over profile layer (id ∷ ids) =
 -- it is one that is loaded, and above the limits
 pub record IsOver (profile : Profile) (p : Program) (layer : List Bound) (over : Over) : Type 0 where
   pub organization : over.block.kind ≡ Ob
-  pub loaded : IsSome (block_of over.block p.code_blocks)
+  pub loaded : IsSome (block_by_id over.block p.code_blocks)
   pub is_over : limit profile over.measure < number_in over.measure layer (Some over.block)
 
 -- ---- the chain
@@ -90,7 +90,7 @@ pub record LeadsOver
     (block : BlockId) (bytes : ℕ)
     : Type 0 where
   pub is_chain : IsChain p (chain ++ block ∷ [])
-  pub loaded : IsSome (block_of block p.code_blocks)
+  pub loaded : IsSome (block_by_id block p.code_blocks)
   pub total_is : bytes ≡ bytes_of_chain p chain
   pub few : length chain ≤ most_frames profile
   pub within : bytes ≤ most_local_bytes

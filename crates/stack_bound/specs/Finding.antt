@@ -4,7 +4,7 @@ use Rattle.std.specs.List.{AllByRecursion}
 use Rattle.plc_base.specs.declared.Profile.{Profile}
 use Rattle.plc_base.specs.declared.blocks.BlockId.{BlockId}
 use Rattle.flat_code.specs.Programs.{Program}
-use Rattle.image_file.specs.Readers.{ids_of}
+use Rattle.image_file.specs.Readers.{block_ids}
 use Rattle.stack_bound.specs.Certificates.{bound_of, Holds}
 use Rattle.stack_bound.specs.Chains.{IsChain, IsTooDeep}
 use Rattle.stack_bound.specs.declared.certificates.Bound.{Bound}
@@ -40,7 +40,7 @@ pub record IsLeastCertificate (profile : Profile) (p : Program) (c : List Bound)
   pub fits : (chain : List BlockId) → IsChain p chain → IsTooDeep profile p chain → ⊥
   pub holds : Holds profile p c
   pub on_chains : AllByRecursion (λ (b : Bound). IsOnChain p b.block) c
-  pub order : AreAmong (map (λ (b : Bound). b.block) c) (ids_of p)
+  pub order : AreAmong (map (λ (b : Bound). b.block) c) (block_ids p)
   pub least : (d : List Bound) → Holds profile p d
       → AllByRecursion (λ (b : Bound). IsAtMost b (bound_of b.block d)) c
 

@@ -6,7 +6,7 @@ use Rattle.plc_base.specs.declared.Profile.{Profile}
 use Rattle.plc_base.specs.declared.blocks.BlockId.{BlockId}
 use Rattle.flat_code.specs.Ops.{OpData}
 use Rattle.flat_code.specs.Programs.{CodeBlock, Program}
-use Rattle.image_file.specs.Readers.{block_of, ids_of}
+use Rattle.image_file.specs.Readers.{block_by_id, block_ids}
 use Rattle.stack_bound.specs.Calls.{callee_of}
 use Rattle.stack_bound.specs.Certificates.{bound_of}
 use Rattle.stack_bound.specs.Chains.{most_local_bytes}
@@ -27,7 +27,7 @@ counts_called local_len b (Some d) =
 abbrev pub counts_callee : Program → List Bound → (local_len : ℕ) → Bound → Option BlockId → Bool
 counts_callee p c local_len b None = true
 counts_callee p c local_len b (Some called) =
-    is_none (block_of called p.code_blocks) || counts_called local_len b (bound_of called c)
+    is_none (block_by_id called p.code_blocks) || counts_called local_len b (bound_of called c)
 
 -- and what each op calls
 abbrev pub counts_ops : Program → List Bound → (local_len : ℕ) → Bound → List OpData → Bool
@@ -43,7 +43,7 @@ counts_block p c b (Some block) =
 
 -- so does a bound of the list, of its own block
 abbrev pub counts_its_block : Program → List Bound → Bound → Bool
-counts_its_block p c b = counts_block p c b (block_of b.block p.code_blocks)
+counts_its_block p c b = counts_block p c b (block_by_id b.block p.code_blocks)
 
 -- so does each of some bounds of a list
 abbrev pub each_counts : Program → List Bound → List Bound → Bool
@@ -66,4 +66,4 @@ obs_within profile c (id ∷ ids) =
 -- the list is a certificate that holds
 abbrev pub is_certificate : Profile → Program → List Bound → Bool
 is_certificate profile p c =
-    are_once c && each_counts p c c && obs_within profile c (ids_of p)
+    are_once c && each_counts p c c && obs_within profile c (block_ids p)

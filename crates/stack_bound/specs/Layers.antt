@@ -8,7 +8,7 @@ use Rattle.plc_base.specs.declared.Profile.{Profile}
 use Rattle.plc_base.specs.declared.blocks.BlockId.{BlockId}
 use Rattle.flat_code.specs.Ops.{OpData}
 use Rattle.flat_code.specs.Programs.{CodeBlock, Program}
-use Rattle.image_file.specs.Readers.{block_of, ids_of}
+use Rattle.image_file.specs.Readers.{block_by_id, block_ids}
 use Rattle.stack_bound.specs.Calls.{callee_of}
 use Rattle.stack_bound.specs.Certificates.{bound_of}
 use Rattle.stack_bound.specs.Chains.{most_local_bytes}
@@ -57,7 +57,7 @@ bound_above layer block b = record {
 
 -- so for a block of a program, if it is a code block
 abbrev pub bound_above_in : Program → List Bound → BlockId → Option Bound
-bound_above_in p layer id = option_map (bound_above layer id) (block_of id p.code_blocks)
+bound_above_in p layer id = option_map (bound_above layer id) (block_by_id id p.code_blocks)
 
 -- a bound that may be there, in front of others
 abbrev pub with_bound : Option Bound → List Bound → List Bound
@@ -72,7 +72,7 @@ bounds_above p layer (id ∷ ids) =
 
 -- the layer above another one
 abbrev pub layer_above : Program → List Bound → List Bound
-layer_above p layer = bounds_above p layer (ids_of p)
+layer_above p layer = bounds_above p layer (block_ids p)
 
 -- the layers, the lowest of which is empty
 abbrev pub layers : ℕ → Program → List Bound

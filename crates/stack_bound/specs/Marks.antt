@@ -4,7 +4,7 @@ use Rattle.plc_base.specs.Kinds.{is_organization_block}
 use Rattle.plc_base.specs.declared.blocks.BlockId.{BlockId}
 use Rattle.flat_code.specs.Ops.{OpData}
 use Rattle.flat_code.specs.Programs.{CodeBlock, Program}
-use Rattle.image_file.specs.Readers.{block_of, same_id}
+use Rattle.image_file.specs.Readers.{block_by_id, is_same_id}
 use Rattle.stack_bound.specs.Calls.{callee_of}
 use Rattle.stack_bound.specs.Certificates.{bound_of}
 use Rattle.stack_bound.specs.declared.certificates.Bound.{Bound}
@@ -14,7 +14,7 @@ abbrev pub mark : List Bool → List Bound → BlockId → List Bool
 mark [] list block = []
 mark (m ∷ marks) [] block = m ∷ marks
 mark (m ∷ marks) (b ∷ list) block =
-    if same_id b.block block then true ∷ marks else m ∷ mark marks list block
+    if is_same_id b.block block then true ∷ marks else m ∷ mark marks list block
 
 -- what an op calls, if it calls a block
 abbrev pub mark_callee : List Bool → List Bound → Option BlockId → List Bool
@@ -33,7 +33,7 @@ mark_called marks list (Some b) = mark_ops marks list b.code
 
 -- what the block of a bound calls
 abbrev pub mark_called_by : Program → List Bool → List Bound → Bound → List Bool
-mark_called_by p marks list b = mark_called marks list (block_of b.block p.code_blocks)
+mark_called_by p marks list b = mark_called marks list (block_by_id b.block p.code_blocks)
 
 -- what the blocks call that had a mark before
 abbrev pub mark_all : Program → List Bound → List Bool → (before : List Bool) → (left : List Bound) → List Bool

@@ -3,7 +3,7 @@ use Rattle.std.specs.Prelude.{◌≡◌, ℕ, ◌==◌, ◌&&◌, ◌||◌, nat_
 use Rattle.std.specs.List.Sorted.{IsPartitionPoint}
 use Rattle.plc_base.specs.Kinds.{kind_order}
 use Rattle.plc_base.specs.declared.blocks.BlockId.{BlockId}
-use Rattle.image_file.specs.Readers.{same_id}
+use Rattle.image_file.specs.Readers.{is_same_id}
 use Rattle.stack_bound.specs.declared.certificates.Bound.{Bound}
 
 -- a block stands before another one: organization blocks first, then functions, then function blocks,
@@ -26,7 +26,7 @@ rise (b ∷ rest) = comes_before b rest && rise rest
 -- the bound of a block, if it is the one of a bound that may be there
 abbrev pub bound_if_of : BlockId → Option Bound → Option Bound
 bound_if_of block None = None
-bound_if_of block (Some b) = if same_id b.block block then Some b else None
+bound_if_of block (Some b) = if is_same_id b.block block then Some b else None
 
 -- the bound at a place of a list, if it is the block's
 abbrev pub bound_at : List Bound → (place : ℕ) → BlockId → Option Bound

@@ -5,7 +5,7 @@ use Rattle.std.specs.Option.{option_map}
 use Rattle.plc_base.specs.declared.blocks.BlockId.{BlockId}
 use Rattle.flat_code.specs.Ops.{OpData}
 use Rattle.flat_code.specs.Programs.{CodeBlock, Program}
-use Rattle.image_file.specs.Readers.{block_of, same_id}
+use Rattle.image_file.specs.Readers.{block_by_id, is_same_id}
 use Rattle.stack_bound.specs.Calls.{callee_of}
 use Rattle.stack_bound.specs.Layers.{number_if, with_bound}
 use Rattle.stack_bound.specs.Marks.{ob_marks}
@@ -19,7 +19,7 @@ use Rattle.stack_bound.specs.declared.measures.Measure.TheVariants.{Depth, Bytes
 abbrev pub place_of : BlockId → List Bound → Option ℕ
 place_of block [] = None
 place_of block (b ∷ rest) =
-    if same_id b.block block then Some 0 else option_map suc (place_of block rest)
+    if is_same_id b.block block then Some 0 else option_map suc (place_of block rest)
 
 -- that of a block that may be called
 abbrev pub place_in : List Bound → Option BlockId → Option ℕ
@@ -48,7 +48,7 @@ caller_of list id b = record { block = id; local_len = b.local_len; called = pla
 
 -- a block of a program, if it is a code block
 abbrev pub caller_in : Program → List Bound → BlockId → Option CallerData
-caller_in p list id = option_map (caller_of list id) (block_of id p.code_blocks)
+caller_in p list id = option_map (caller_of list id) (block_by_id id p.code_blocks)
 
 -- a caller that may be there, in front of others
 abbrev pub with_caller : Option CallerData → List CallerData → List CallerData
@@ -90,7 +90,7 @@ bound_alone block b = record { block = block; depth = 1; bytes = b.local_len }
 
 -- so of a block of a program, if it is a code block
 abbrev pub bound_alone_in : Program → BlockId → Option Bound
-bound_alone_in p id = option_map (bound_alone id) (block_of id p.code_blocks)
+bound_alone_in p id = option_map (bound_alone id) (block_by_id id p.code_blocks)
 
 -- and of each of some blocks
 abbrev pub bounds_alone : Program → List BlockId → List Bound

@@ -1,7 +1,7 @@
 //! The calls of a program, gathered once: of each block the places of the blocks that it calls.
 ghost use Rattle.std.specs.Prelude.{◌≡◌, ◌++◌, [], ◌∷◌, IfOk, OnOk};
 ghost use Rattle.std.specs.Option.{option_map};
-ghost use Rattle.image_file.specs.Readers.{ids_of};
+ghost use Rattle.image_file.specs.Readers.{block_ids};
 ghost use Rattle.stack_bound.specs.Calls.{callee_of};
 ghost use Rattle.stack_bound.specs.Places.{caller_in, callers_of, place_in, places_called, with_place};
 
@@ -107,7 +107,7 @@ pub(crate) fn callers(
     blocks: &Bounds<'_>,
 ) -> Result<Vec<Caller>, NoMemory>
     ensures { IfOk result
-        (λ v. v.items ≡ callers_of l.now.program blocks.now (ids_of l.now.program)) }
+        (λ v. v.items ≡ callers_of l.now.program blocks.now (block_ids l.now.program)) }
 {
     let mut callers = Vec::new(alloc);
     let mut left = l.blocks();

@@ -1,7 +1,7 @@
 //! Bounds, and lists of them.
 ghost use Rattle.std.specs.Prelude.{◌≡◌, true};
 ghost use Rattle.std.specs.List.{position_from};
-ghost use Rattle.image_file.specs.Readers.{same_id};
+ghost use Rattle.image_file.specs.Readers.{is_same_id};
 ghost use Rattle.stack_bound.specs.Certificates.{bound_of};
 ghost use Rattle.stack_bound.specs.Judging.{are_once};
 ghost use Rattle.stack_bound.specs.Order.{IsHalved, bound_at, comes_before, is_before, rise};
@@ -20,7 +20,7 @@ pub struct Bound {
 }
 
 pub(crate) fn is_same(a: BlockId, b: BlockId) -> bool
-    ensures { result ≡ same_id a b }
+    ensures { result ≡ is_same_id a b }
 {
     a.kind.order() == b.kind.order() && a.number == b.number
 }
@@ -115,7 +115,7 @@ fn place_searched(list: &[Bound], block: BlockId) -> Option<usize>
 
 /// The place where a block stands first in a list, by a walk.
 fn place_walked(list: &[Bound], block: BlockId) -> Option<usize>
-    ensures { result ≡ position_from (λ b. same_id b.block block) 0 list.now }
+    ensures { result ≡ position_from (λ b. is_same_id b.block block) 0 list.now }
 {
     list.iter().position(|b| is_same(b.block, block))
 }

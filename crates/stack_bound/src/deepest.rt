@@ -2,7 +2,7 @@
 ghost use Rattle.std.specs.Prelude.{◌≡◌, suc, IfOk};
 ghost use Rattle.plc_base.specs.Profiles.{most_frames};
 ghost use Rattle.plc_base.specs.declared.blocks.BlockKind.TheVariants.{Ob};
-ghost use Rattle.image_file.specs.Readers.{ids_of};
+ghost use Rattle.image_file.specs.Readers.{block_ids};
 ghost use Rattle.stack_bound.specs.Deepest.{IsMostCalled, IsOver, better, first_over, is_too_deep, measure_over, ob_over};
 ghost use Rattle.stack_bound.specs.Finding.{IsDeepChain};
 ghost use Rattle.stack_bound.specs.Layers.{layers, limit, number_in};
@@ -87,7 +87,7 @@ fn ob_over(profile: Profile, layer: &Bounds<'_>, block: BlockId) -> Option<Measu
 
 /// The first organization block that is above the limits.
 pub(crate) fn first_over(l: &Loaded, layer: &Bounds<'_>) -> Option<Over>
-    ensures { result ≡ first_over l.now.profile layer.now (ids_of l.now.program) }
+    ensures { result ≡ first_over l.now.profile layer.now (block_ids l.now.program) }
 {
     let mut left = l.blocks();
     while let [block, rest @ ..] = left {

@@ -1,6 +1,6 @@
 //! Whether a certificate holds.
 ghost use Rattle.std.specs.Prelude.{◌≡◌, ◌↔◌, IsTrue};
-ghost use Rattle.image_file.specs.Readers.{ids_of};
+ghost use Rattle.image_file.specs.Readers.{block_ids};
 ghost use Rattle.stack_bound.specs.Certificates.{Holds};
 ghost use Rattle.stack_bound.specs.Judging.{counts_called, counts_callee, counts_ops, counts_its_block, each_counts, is_within, obs_within, is_certificate};
 ghost use Rattle.stack_bound.specs.Overflow.{NeverOverflows};
@@ -98,7 +98,7 @@ fn is_organization_block(block: BlockId) -> bool
 }
 
 fn obs_within(l: &Loaded, c: &Bounds<'_>) -> bool
-    ensures { result ≡ obs_within l.now.profile c.now (ids_of l.now.program) }
+    ensures { result ≡ obs_within l.now.profile c.now (block_ids l.now.program) }
 {
     let mut left = l.blocks();
     while let [block, rest @ ..] = left {

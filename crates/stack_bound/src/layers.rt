@@ -1,6 +1,6 @@
 //! The least bounds, layer by layer.
 ghost use Rattle.std.specs.Prelude.{◌≡◌, ◌≤◌, ◌*◌, ◌+◌, map, max, IfOk, IfSome};
-ghost use Rattle.image_file.specs.Readers.{ids_of};
+ghost use Rattle.image_file.specs.Readers.{block_ids};
 ghost use Rattle.stack_bound.specs.Layers.{AreLow, IsLow, number_if, number_in};
 ghost use Rattle.stack_bound.specs.Places.{bound_alone_in, bound_by, bounds_alone, layers_by, most_at};
 ghost use Rattle.stack_bound.specs.declared.measures.Measure.TheVariants.{Depth, Bytes};
@@ -41,7 +41,7 @@ fn bound_alone(l: &Loaded, block: BlockId) -> Option<Bound>
 /// The lowest layer that has blocks: each of them by itself.
 pub(crate) fn first_layer(alloc: Global, l: &Loaded) -> Result<Vec<Bound>, NoMemory>
     ensures layer { IfOk result
-        (λ v. v.items ≡ bounds_alone l.now.program (ids_of l.now.program)) }
+        (λ v. v.items ≡ bounds_alone l.now.program (block_ids l.now.program)) }
     ensures low { IfOk result (λ v. AreLow 65536 v.items) }
 {
     let mut layer = Vec::new(alloc);

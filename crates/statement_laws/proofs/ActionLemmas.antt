@@ -8,22 +8,22 @@ use Rattle.plc_base.specs.declared.instructions.TimerKind.{TimerKind}
 use Rattle.plc_base.specs.declared.places.Width.TheVariants as widths
 use Rattle.plc_base.specs.Widths.{bit_count}
 use Rattle.plc_mem.specs.Areas.{Areas}
-use Rattle.status_word.specs.Brackets.{begun, entry_of}
-use Rattle.status_word.specs.Check.{checked}
-use Rattle.status_word.specs.Edge.{edged}
-use Rattle.status_word.specs.Store.{stored}
+use Rattle.status_word.specs.Brackets.{bracket_begun, entry_of}
+use Rattle.status_word.specs.Check.{after_check}
+use Rattle.status_word.specs.Edge.{after_edge}
+use Rattle.status_word.specs.Store.{after_store}
 use Rattle.status_word.specs.declared.nesting.Bracket.{Bracket}
 use Rattle.status_word.specs.declared.registers.Regs.{Regs}
 use Rattle.alu.specs.Accumulators as accumulators
 use Rattle.timers_counters.specs.Counter as counters
 use Rattle.timers_counters.specs.Counter.{Counter}
-use Rattle.timers_counters.specs.Numbered.{change}
+use Rattle.timers_counters.specs.Numbered.{change_at_number}
 use Rattle.timers_counters.specs.Timer as timers
 use Rattle.timers_counters.specs.Timer.{Timer}
 use Rattle.timers_counters.specs.declared.faults.TimerFault.{TimerFault}
 use Rattle.timers_counters.specs.declared.faults.TimerFault.TheVariants.{BadBcd, NoNumber}
 use Rattle.frames.specs.Relay.{zone_ended, zone_opened}
-use Rattle.flat_code.specs.Placed.{is_empty}
+use Rattle.flat_code.specs.Placed.{is_empty_list}
 use Rattle.flat_code.specs.declared.operands.Operand.{Operand}
 use Rattle.flat_code.specs.declared.operations.Adding.TheVariants as adding
 use Rattle.flat_code.specs.declared.operations.Logic.{Logic}
@@ -57,7 +57,7 @@ use Rattle.statement_laws.proofs.PlaceLemmas.{standing_same, then_same, there_sa
 -- ---- results
 
 regs_then : {A : Type 0} (p : ExecState) (r : Result A ℕ) (f : A → Regs)
-    → does.on_regs p (then_ok r (λ x. Ok (f x))) ≡ then_ok r (λ x. Ok (own.with_regs (f x) p))
+    → does.effect_on_regs p (then_ok r (λ x. Ok (f x))) ≡ then_ok r (λ x. Ok (own.with_regs (f x) p))
 regs_then p (Ok x) f = refl
 regs_then p (Err e) f = refl
 
@@ -78,9 +78,9 @@ pub checks_same : (with : Check) (x : Named) (p : ExecState) → is_read x ≡ t
     → does.effect (operation.Check with) (flat_of x) p ≡ own.checks with x p
 unfolding does.effect bit_logic.checking
 checks_same with x p e =
-    regs_then p (values.tested (flat_of x) p.local p.memory p.timers p.counters)
-    (λ b. checked with b p.local.regs)
-    ∙ ap (λ r. then_ok r (λ b. Ok (own.with_regs (checked with b p.local.regs) p)))
+    regs_then p (values.checked_bit (flat_of x) p.local p.memory p.timers p.counters)
+    (λ b. after_check with b p.local.regs)
+    ∙ ap (λ r. then_ok r (λ b. Ok (own.with_regs (after_check with b p.local.regs) p)))
     (tested_same x p e)
 
 -- O by whether it has an operand
@@ -99,8 +99,8 @@ pub nest_same : (with : Check) (o : Operand) (p : ExecState)
 unfolding does.effect nesting.nesting
 nest_same with o p =
     own_if p (length p.local.inner.brackets == 7)
-    (nesting.with_brackets (entry_of with p.local.regs ∷ p.local.inner.brackets)
-    (record p.local { regs = begun p.local.regs }))
+    (nesting.with_open_brackets (entry_of with p.local.regs ∷ p.local.inner.brackets)
+    (record p.local { regs = bracket_begun p.local.regs }))
 
 pub unnest_same : (o : Operand) (p : ExecState)
     → does.effect operation.Unnest o p ≡ own.closes_bracket p
@@ -108,7 +108,7 @@ unfolding does.effect nesting.unnesting
 unnest_same o p = by p.local.inner.brackets
   where
     by : (brackets : List Bracket)
-        → does.on_local p (nesting.unnested brackets p.local) ≡ own.closes_one brackets p
+        → does.on_local p (nesting.bracket_closed brackets p.local) ≡ own.closes_one brackets p
     by [] = refl
     by (bracket ∷ rest) = refl
 
@@ -119,7 +119,7 @@ is_written (named.Parameter index w) = true
 is_written _ = false
 
 written_place : (x : Named) (p : ExecState) → is_written x ≡ true
-    → places.located Writing (flat_of x) p.local p.memory ≡ reading.place_of_operand Writing x p
+    → places.operand_location Writing (flat_of x) p.local p.memory ≡ reading.place_of_operand Writing x p
 written_place (named.Place spot) p e = place_same Writing (named.Place spot) p refl
 written_place (named.Parameter index w) p e = place_same Writing (named.Parameter index w) p refl
 written_place _ p e = absurd (false≢true e)
@@ -133,7 +133,7 @@ put_same b value r p =
     (written_same b (own.number_of_bit value) p)
   where
     by : (z : Result LocalMemory ℕ)
-        → does.on_local_memory p (then_ok z (λ c. Ok (bit_logic.with_regs r c)))
+        → does.on_local_memory p (then_ok z (λ c. Ok (bit_logic.with_local_regs r c)))
         ≡ then_ok (does.on_local_memory p z) (λ q. Ok (own.with_regs r q))
     by (Ok c) = refl
     by (Err e) = refl
@@ -141,11 +141,11 @@ put_same b value r p =
 -- an instruction that seeks a place to write to
 seek_same : (x : Named) (p : ExecState) (f : Location → Result LocalMemory ℕ) (g : Location → Result ExecState ℕ)
     → is_written x ≡ true → ((b : Location) → does.on_local_memory p (f b) ≡ g b)
-    → does.on_local_memory p (then_ok (places.located Writing (flat_of x) p.local p.memory) f)
+    → does.on_local_memory p (then_ok (places.operand_location Writing (flat_of x) p.local p.memory) f)
     ≡ then_ok (reading.place_of_operand Writing x p) g
 seek_same x p f g e h =
-    scene_then p (places.located Writing (flat_of x) p.local p.memory) f
-    ∙ then_same (places.located Writing (flat_of x) p.local p.memory) (reading.place_of_operand Writing x p)
+    scene_then p (places.operand_location Writing (flat_of x) p.local p.memory) f
+    ∙ then_same (places.operand_location Writing (flat_of x) p.local p.memory) (reading.place_of_operand Writing x p)
     (λ b. does.on_local_memory p (f b)) g (written_place x p e) h
 
 -- one that reads the bit there first
@@ -162,14 +162,14 @@ before_same b p f g h =
 
 pub assign_same : (x : Named) (p : ExecState) → is_written x ≡ true
     → does.effect operation.Assign (flat_of x) p ≡ own.assigns x p
-unfolding does.effect bit_logic.assigned
+unfolding does.effect bit_logic.bit_assigned
 assign_same x p e =
     seek_same x p (λ b. bit_logic.assigned_at b p.local p.memory)
-    (λ b. own.writes_bit b (own.flow p) (stored (own.flow p) p.local.regs) p) e
-    (λ b. put_same b (own.flow p) (stored (own.flow p) p.local.regs) p)
+    (λ b. own.writes_bit b (own.flow p) (after_store (own.flow p) p.local.regs) p) e
+    (λ b. put_same b (own.flow p) (after_store (own.flow p) p.local.regs) p)
 
 after_same : (flow value before : Bool)
-    → bit_logic.bit_after flow value before ≡ own.bit_after flow value before
+    → bit_logic.bit_after_set flow value before ≡ own.bit_after flow value before
 after_same true value before = refl
 after_same false value before = refl
 
@@ -178,16 +178,16 @@ bit_set_same : (value : Bool) (x : Named) (p : ExecState) → is_written x ≡ t
 unfolding bit_logic.bit_set
 bit_set_same value x p e =
     let writes : Location → Bool → Result ExecState ℕ =
-    λ b bit. own.writes_bit b bit (stored bit p.local.regs) p in
+    λ b bit. own.writes_bit b bit (after_store bit p.local.regs) p in
     seek_same x p
     (λ b. then_ok (bit_logic.bit_before b p.local p.memory)
-    (λ before. bit_logic.set_at value b before p.local p.memory))
+    (λ before. bit_logic.bit_set_at value b before p.local p.memory))
     (λ b. then_ok (own.bit_there b p) (λ before. writes b (own.bit_after (own.flow p) value before)))
     e
-    (λ b. before_same b p (λ before. bit_logic.set_at value b before p.local p.memory)
+    (λ b. before_same b p (λ before. bit_logic.bit_set_at value b before p.local p.memory)
     (λ before. writes b (own.bit_after (own.flow p) value before))
-    (λ before. put_same b (bit_logic.bit_after (own.flow p) value before)
-    (stored (bit_logic.bit_after (own.flow p) value before) p.local.regs) p
+    (λ before. put_same b (bit_logic.bit_after_set (own.flow p) value before)
+    (after_store (bit_logic.bit_after_set (own.flow p) value before) p.local.regs) p
     ∙ ap (writes b) (after_same (own.flow p) value before)))
 
 pub edge_same : (rising : Bool) (x : Named) (p : ExecState) → is_written x ≡ true
@@ -198,10 +198,10 @@ edge_same rising x p e =
     (λ b. then_ok (bit_logic.bit_before b p.local p.memory)
     (λ before. bit_logic.edge_at rising b before p.local p.memory))
     (λ b. then_ok (own.bit_there b p)
-    (λ before. own.writes_bit b (own.rlo p) (edged rising before p.local.regs) p)) e
+    (λ before. own.writes_bit b (own.rlo p) (after_edge rising before p.local.regs) p)) e
     (λ b. before_same b p (λ before. bit_logic.edge_at rising b before p.local p.memory)
-    (λ before. own.writes_bit b (own.rlo p) (edged rising before p.local.regs) p)
-    (λ before. put_same b (own.rlo p) (edged rising before p.local.regs) p))
+    (λ before. own.writes_bit b (own.rlo p) (after_edge rising before p.local.regs) p)
+    (λ before. put_same b (own.rlo p) (after_edge rising before p.local.regs) p))
 
 -- ---- timers and counters
 
@@ -213,10 +213,10 @@ error_same code (Err BadBcd) = refl
 
 timer_same : (f : Timer → Option Timer) (n : Number) (p : ExecState)
     → does.on_timers p (then_ok (values.number_named (flat_number 1 n) p.local p.memory)
-    (λ which. values.faulty 0x26 (change f p.timers which)))
+    (λ which. values.faulty 0x26 (change_at_number f p.timers which)))
     ≡ own.on_timer f n p
 timer_same f n p =
-    ap (λ z. does.on_timers p (then_ok z (λ which. values.faulty 0x26 (change f p.timers which))))
+    ap (λ z. does.on_timers p (then_ok z (λ which. values.faulty 0x26 (change_at_number f p.timers which))))
     (numbered_same 1 n p)
     ∙ by (reading.number_of_item n p)
   where
@@ -228,18 +228,18 @@ timer_same f n p =
     changed (Err BadBcd) = refl
 
     by : (z : Result ℕ ℕ)
-        → does.on_timers p (then_ok z (λ which. values.faulty 0x26 (change f p.timers which)))
-        ≡ then_ok z (λ which. then_ok (own.or_error 0x26 (change f p.timers which))
+        → does.on_timers p (then_ok z (λ which. values.faulty 0x26 (change_at_number f p.timers which)))
+        ≡ then_ok z (λ which. then_ok (own.or_error 0x26 (change_at_number f p.timers which))
         (λ all. own.on_regs own.string_ended (record p { timers = all })))
-    by (Ok which) = changed (change f p.timers which)
+    by (Ok which) = changed (change_at_number f p.timers which)
     by (Err e) = refl
 
 counter_same : (f : Counter → Option Counter) (n : Number) (p : ExecState)
     → does.on_counters p (then_ok (values.number_named (flat_number 2 n) p.local p.memory)
-    (λ which. values.faulty 0x27 (change f p.counters which)))
+    (λ which. values.faulty 0x27 (change_at_number f p.counters which)))
     ≡ own.on_counter f n p
 counter_same f n p =
-    ap (λ z. does.on_counters p (then_ok z (λ which. values.faulty 0x27 (change f p.counters which))))
+    ap (λ z. does.on_counters p (then_ok z (λ which. values.faulty 0x27 (change_at_number f p.counters which))))
     (numbered_same 2 n p)
     ∙ by (reading.number_of_item n p)
   where
@@ -251,10 +251,10 @@ counter_same f n p =
     changed (Err BadBcd) = refl
 
     by : (z : Result ℕ ℕ)
-        → does.on_counters p (then_ok z (λ which. values.faulty 0x27 (change f p.counters which)))
-        ≡ then_ok z (λ which. then_ok (own.or_error 0x27 (change f p.counters which))
+        → does.on_counters p (then_ok z (λ which. values.faulty 0x27 (change_at_number f p.counters which)))
+        ≡ then_ok z (λ which. then_ok (own.or_error 0x27 (change_at_number f p.counters which))
         (λ all. own.on_regs own.string_ended (record p { counters = all })))
-    by (Ok which) = changed (change f p.counters which)
+    by (Ok which) = changed (change_at_number f p.counters which)
     by (Err e) = refl
 
 -- by the kind in the operand
@@ -293,7 +293,7 @@ pub set_same : (x : Named) (p : ExecState) → is_set x ≡ true
 unfolding does.effect timing.counter_set
 set_same (named.Counter n) p e =
     ap (λ k. does.set_of k (flat_number 2 n) p) (number_kind 2 n)
-    ∙ counter_same (counters.set_to (own.rlo p) (own.low_word p)) n p
+    ∙ counter_same (counters.set_counter (own.rlo p) (own.low_word p)) n p
 set_same (named.Place spot) p e =
     ap (λ k. does.set_of k (flat_spot spot) p) (spot_kind spot)
     ∙ bit_set_same true (named.Place spot) p refl
@@ -320,31 +320,31 @@ pub free_same : (x : Named) (p : ExecState) → is_freed x ≡ true
 unfolding does.effect timing.counter_freed timing.timer_freed
 free_same (named.Timer n) p e =
     ap (λ k. does.free_of k (flat_number 1 n) p) (number_kind 1 n)
-    ∙ timer_same (λ t. Some (timers.freed_timer (own.rlo p) t)) n p
+    ∙ timer_same (λ t. Some (timers.free_timer (own.rlo p) t)) n p
 free_same (named.Counter n) p e =
     ap (λ k. does.free_of k (flat_number 2 n) p) (number_kind 2 n)
-    ∙ counter_same (λ k. Some (counters.freed_counter (own.rlo p) k)) n p
+    ∙ counter_same (λ k. Some (counters.free_counter (own.rlo p) k)) n p
 free_same _ p e = absurd (false≢true e)
 
 pub start_same : (how : TimerKind) (x : Named) (p : ExecState) → is_timer x ≡ true
     → does.effect (operation.Start how) (flat_of x) p ≡ own.starts how x p
-unfolding does.effect timing.starting
+unfolding does.effect timing.timer_start
 start_same how (named.Timer n) p e =
-    timer_same (timers.started how (own.rlo p) (own.low_word p)) n p
+    timer_same (timers.start_timer how (own.rlo p) (own.low_word p)) n p
 start_same how _ p e = absurd (false≢true e)
 
 pub up_same : (x : Named) (p : ExecState) → is_counter x ≡ true
-    → does.effect operation.CountUp (flat_of x) p ≡ own.counts counters.counted_up x p
+    → does.effect operation.CountUp (flat_of x) p ≡ own.counts counters.count_up x p
 unfolding does.effect timing.counting_up
 up_same (named.Counter n) p e =
-    counter_same (λ k. Some (counters.counted_up (own.rlo p) k)) n p
+    counter_same (λ k. Some (counters.count_up (own.rlo p) k)) n p
 up_same _ p e = absurd (false≢true e)
 
 pub down_same : (x : Named) (p : ExecState) → is_counter x ≡ true
-    → does.effect operation.CountDown (flat_of x) p ≡ own.counts counters.counted_down x p
+    → does.effect operation.CountDown (flat_of x) p ≡ own.counts counters.count_down x p
 unfolding does.effect timing.counting_down
 down_same (named.Counter n) p e =
-    counter_same (λ k. Some (counters.counted_down (own.rlo p) k)) n p
+    counter_same (λ k. Some (counters.count_down (own.rlo p) k)) n p
 down_same _ p e = absurd (false≢true e)
 
 -- ---- the master control relay
@@ -354,7 +354,7 @@ pub open_zone_same : (o : Operand) (p : ExecState)
 unfolding does.effect zones.opening_zone
 open_zone_same o p =
     own_if p (length p.local.inner.relay.zones == 8)
-    (zones.with_zones (zone_opened p.local.regs.status.rlo p.local.inner.relay) p.local)
+    (zones.with_relay_zones (zone_opened p.local.regs.status.rlo p.local.inner.relay) p.local)
 
 pub end_zone_same : (o : Operand) (p : ExecState)
     → does.effect (operation.Relay relay.Close) o p ≡ own.ends_zone p
@@ -362,8 +362,8 @@ unfolding does.effect zones.ending_zone
 end_zone_same o p = by p.local.inner.relay.zones
   where
     by : (open_zones : List Bool)
-        → does.on_local p (if is_empty open_zones then Err 0
-        else Ok (zones.with_zones (zone_ended p.local.inner.relay) p.local))
+        → does.on_local p (if is_empty_list open_zones then Err 0
+        else Ok (zones.with_relay_zones (zone_ended p.local.inner.relay) p.local))
         ≡ own.ends_zone_of open_zones p
     by [] = refl
     by (value ∷ around) = refl
@@ -390,7 +390,7 @@ plain_load : (x : Named) (p : ExecState) → is_read x ≡ true
     ≡ then_ok (reading.number_to_load x p) (λ n. own.on_regs (own.with_loaded n) p)
 unfolding does.effect loads.loading
 plain_load x p e =
-    regs_then p (values.loaded (flat_of x) p.local p.memory p.timers p.counters)
+    regs_then p (values.load_value (flat_of x) p.local p.memory p.timers p.counters)
     (λ n. own.with_loaded n p.local.regs)
     ∙ ap (λ r. then_ok r (λ n. Ok (own.with_regs (own.with_loaded n p.local.regs) p)))
     (loaded_same x p e)
@@ -426,8 +426,8 @@ load_bcd_same x p =
     (bcd_same x p)
 
 puts_same : (n : ℕ) (x : Named) (p : ExecState) → is_written x ≡ true
-    → does.on_local_memory p (loads.transferred n (flat_of x) p.local p.memory) ≡ own.puts n x p
-unfolding loads.transferred
+    → does.on_local_memory p (loads.number_transferred n (flat_of x) p.local p.memory) ≡ own.puts n x p
+unfolding loads.number_transferred
 puts_same n x p e =
     seek_same x p (λ b. values.write b (n % 2 ^ bit_count b.width) p.local p.memory)
     (λ b. reading.with_number_at b (n % 2 ^ bit_count b.width) p) e
@@ -497,7 +497,7 @@ is_first_address x = is_address x
 
 pub lar1_same : (x : Named) (p : ExecState) → is_first_address x ≡ true
     → does.effect (load_address_operation x) (flat_of x) p ≡ own.loads_ar1 x p
-unfolding does.effect pointer.pointed
+unfolding does.effect pointer.pointer_effect
 lar1_same named.SecondRegister p e = refl
 lar1_same named.Nothing p e = address_to (λ n. record p.local.regs { ar1 = n }) named.Nothing p e
 lar1_same (named.Pointer value) p e =
@@ -508,7 +508,7 @@ lar1_same _ p e = absurd (false≢true e)
 
 pub lar2_same : (x : Named) (p : ExecState) → is_address x ≡ true
     → does.effect (operation.Pointer pointers.Lar2) (flat_of x) p ≡ own.loads_ar2 x p
-unfolding does.effect pointer.pointed
+unfolding does.effect pointer.pointer_effect
 lar2_same x p e = address_to (λ n. record p.local.regs { ar2 = n }) x p e
 
 -- TAR1 and TAR2
@@ -541,7 +541,7 @@ is_first_address_place x = is_address_place x
 
 pub tar1_same : (x : Named) (p : ExecState) → is_first_address_place x ≡ true
     → does.effect (store_address_operation x) (flat_of x) p ≡ own.stores_ar1 x p
-unfolding does.effect pointer.pointed
+unfolding does.effect pointer.pointer_effect
 tar1_same named.SecondRegister p e = refl
 tar1_same named.Nothing p e = puts_address_same p.local.regs.ar1 named.Nothing p e
 tar1_same (named.Place spot) p e = puts_address_same p.local.regs.ar1 (named.Place spot) p e
@@ -550,7 +550,7 @@ tar1_same _ p e = absurd (false≢true e)
 pub tar2_same : (x : Named) (p : ExecState) → is_address_place x ≡ true
     → does.effect (operation.Pointer pointers.Tar2) (flat_of x) p
     ≡ own.puts_address p.local.regs.ar2 x p
-unfolding does.effect pointer.pointed
+unfolding does.effect pointer.pointer_effect
 tar2_same x p e = puts_address_same p.local.regs.ar2 x p e
 
 abbrev pub is_added_address : Named → Bool
@@ -561,7 +561,7 @@ is_added_address _ = false
 pub add_ar1_same : (x : Named) (p : ExecState) → is_added_address x ≡ true
     → does.effect (operation.Pointer pointers.AddAr1) (flat_of x) p
     ≡ Ok (own.with_ar1 (own.address_after p.local.regs.ar1 (own.added_bits x p)) p)
-unfolding does.effect pointer.pointed pointer.address_after
+unfolding does.effect pointer.pointer_effect pointer.address_added
 add_ar1_same named.Nothing p e = refl
 add_ar1_same (named.Pointer value) p e = refl
 add_ar1_same _ p e = absurd (false≢true e)
@@ -569,7 +569,7 @@ add_ar1_same _ p e = absurd (false≢true e)
 pub add_ar2_same : (x : Named) (p : ExecState) → is_added_address x ≡ true
     → does.effect (operation.Pointer pointers.AddAr2) (flat_of x) p
     ≡ Ok (own.with_ar2 (own.address_after p.local.regs.ar2 (own.added_bits x p)) p)
-unfolding does.effect pointer.pointed pointer.address_after
+unfolding does.effect pointer.pointer_effect pointer.address_added
 add_ar2_same named.Nothing p e = refl
 add_ar2_same (named.Pointer value) p e = refl
 add_ar2_same _ p e = absurd (false≢true e)
@@ -581,15 +581,15 @@ is_data_block (named.DataBlock di n) = true
 is_data_block _ = false
 
 opened_same : (di : Bool) (n : ℕ) (p : ExecState)
-    → does.on_local p (data_blocks.opened_if (data_blocks.is_loaded n p.memory) (if di then 2 else 1) n p.local)
+    → does.on_local p (data_blocks.opened_if (data_blocks.is_block_loaded n p.memory) (if di then 2 else 1) n p.local)
     ≡ own.opens_number di n p
-opened_same true n p = by (data_blocks.is_loaded n p.memory)
+opened_same true n p = by (data_blocks.is_block_loaded n p.memory)
   where
     by : (b : Bool) → does.on_local p (data_blocks.opened_if b 2 n p.local)
         ≡ (if b then Ok (own.with_open true n p) else Err 0x3A)
     by true = refl
     by false = refl
-opened_same false n p = by (data_blocks.is_loaded n p.memory)
+opened_same false n p = by (data_blocks.is_block_loaded n p.memory)
   where
     by : (b : Bool) → does.on_local p (data_blocks.opened_if b 1 n p.local)
         ≡ (if b then Ok (own.with_open false n p) else Err 0x3A)
@@ -603,14 +603,14 @@ own_then p (Err e) f = refl
 
 pub open_same : (x : Named) (p : ExecState) → is_data_block x ≡ true
     → does.effect operation.OpenBlock (flat_of x) p ≡ own.opens x p
-unfolding does.effect data_blocks.opening reading.number_of_item
+unfolding does.effect data_blocks.block_opened_by reading.number_of_item
 open_same (named.DataBlock di (named.Written n)) p e = opened_same di n p
 open_same (named.DataBlock di (named.InWord from byte)) p e =
-    own_then p (places.pointer from byte widths.Word p.local p.memory)
-    (λ n. data_blocks.opened_if (data_blocks.is_loaded n p.memory) (if di then 2 else 1) n p.local)
-    ∙ then_same (places.pointer from byte widths.Word p.local p.memory)
+    own_then p (places.pointer_number from byte widths.Word p.local p.memory)
+    (λ n. data_blocks.opened_if (data_blocks.is_block_loaded n p.memory) (if di then 2 else 1) n p.local)
+    ∙ then_same (places.pointer_number from byte widths.Word p.local p.memory)
     (reading.stored_number from byte widths.Word p)
-    (λ n. does.on_local p (data_blocks.opened_if (data_blocks.is_loaded n p.memory) (if di then 2 else 1) n p.local))
+    (λ n. does.on_local p (data_blocks.opened_if (data_blocks.is_block_loaded n p.memory) (if di then 2 else 1) n p.local))
     (λ n. own.opens_number di n p)
     (standing_same from byte widths.Word p) (λ n. opened_same di n p)
 open_same _ p e = absurd (false≢true e)
@@ -618,10 +618,10 @@ open_same _ p e = absurd (false≢true e)
 -- ---- number instructions
 
 pub bcd_number_same : (f : Regs → Option Regs) (p : ExecState)
-    → does.on_regs p (ok_or (f p.local.regs) 0x21) ≡ own.on_bcd f p
+    → does.effect_on_regs p (ok_or (f p.local.regs) 0x21) ≡ own.on_bcd f p
 bcd_number_same f p = by (ok_or (f p.local.regs) 0x21)
   where
-    by : (r : Result Regs ℕ) → does.on_regs p r ≡ then_ok r (λ z. Ok (own.with_regs z p))
+    by : (r : Result Regs ℕ) → does.effect_on_regs p r ≡ then_ok r (λ z. Ok (own.with_regs z p))
     by (Ok z) = refl
     by (Err e) = refl
 
@@ -662,14 +662,14 @@ add_same _ p e = absurd (false≢true e)
 
 -- word logic and shifts by the constant that is there
 constant_same : (w : ℕ) (x : Named) → is_count x ≡ true
-    → numbers.constant w (flat_of x) ≡ own.constant w x
+    → numbers.constant_in w (flat_of x) ≡ own.constant w x
 constant_same w named.Nothing e = refl
 constant_same w (named.Constant value) e = refl
 constant_same w _ e = absurd (false≢true e)
 
 pub logic_same : (what : Logic) (w : ℕ) (f : Option ℕ → Regs → Regs) (x : Named) (p : ExecState)
     → is_count x ≡ true
-    → ((o : Operand) → numbers.combined what o p.local.regs ≡ f (numbers.constant w o) p.local.regs)
+    → ((o : Operand) → numbers.word_logic_effect what o p.local.regs ≡ f (numbers.constant_in w o) p.local.regs)
     → does.effect (operation.Logic what) (flat_of x) p ≡ own.on_regs (f (own.constant w x)) p
 unfolding does.effect
 logic_same what w f x p e h =
@@ -678,8 +678,8 @@ logic_same what w f x p e h =
 
 pub shift_same : (what : Shift) (f : ℕ → Regs → Regs) (x : Named) (p : ExecState)
     → is_count x ≡ true
-    → ((o : Operand) → numbers.shifted what o p.local.regs
-    ≡ f (unwrap_or (numbers.constant 8 o) (p.local.regs.a2 % 2 ^ 8)) p.local.regs)
+    → ((o : Operand) → numbers.shift_effect what o p.local.regs
+    ≡ f (unwrap_or (numbers.constant_in 8 o) (p.local.regs.a2 % 2 ^ 8)) p.local.regs)
     → does.effect (operation.Shift what) (flat_of x) p ≡ own.on_regs (f (own.places x p)) p
 unfolding does.effect
 shift_same what f x p e h =

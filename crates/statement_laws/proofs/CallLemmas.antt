@@ -5,13 +5,13 @@ use Rattle.std.specs.Option.{option_map, option_and_then}
 use Rattle.std.proofs.lemmas.Bool.{false≢true}
 use Rattle.std.proofs.lemmas.List.{map-append}
 use Rattle.std.proofs.lemmas.Option.{same_Some}
-use Rattle.plc_base.specs.Folding.{folded}
+use Rattle.plc_base.specs.Folding.{upper_case_name}
 use Rattle.plc_base.specs.Kinds.{is_function, is_function_block, is_system_function}
 use Rattle.plc_base.specs.declared.blocks.BlockId.{BlockId}
 use Rattle.plc_base.specs.declared.places.Area.{Area}
 use Rattle.plc_base.specs.declared.places.Area.TheVariants as area
 use Rattle.plc_base.specs.declared.places.Width.{Width}
-use Rattle.frames.specs.Bound.{set_at}
+use Rattle.frames.specs.Bound.{binding_set}
 use Rattle.frames.specs.declared.Activation.{Activation}
 use Rattle.frames.specs.declared.bindings.Binding.{Binding}
 use Rattle.frames.specs.declared.bindings.Binding.TheVariants as binding
@@ -51,7 +51,7 @@ use Rattle.stl_codegen.specs.Instruction.{block_at, call_instr, in_order, instr_
 use Rattle.stl_codegen.specs.Operations.{call_of, jump_of}
 use Rattle.stl_codegen.specs.Passed.{passed_actual, passed_place, passed_seen, passed_view, passings_from, with_index}
 use Rattle.machine.specs.Bindings as bindings
-use Rattle.machine.specs.Code.{Code, Head}
+use Rattle.machine.specs.Code.{Code, BlockHead}
 use Rattle.machine.specs.DataBlocks as data_blocks
 use Rattle.machine.specs.Entering as entering
 use Rattle.machine.specs.ExecState.{ExecState, local_of, exec_state_of, then_ok}
@@ -107,7 +107,7 @@ direct_same : (access : Access) (a : Area) (w : Width) (byte bit : ℕ) (p : Exe
     ≡ own.binding_of access (named.Place (named.Fixed a w byte bit)) p
 unfolding bindings.bound_actual own.binding_of
 direct_same access a w byte bit p =
-    then_same (places.placed access a byte bit w p.local) (reading.fixed_place access a w byte bit p)
+    then_same (places.area_location access a byte bit w p.local) (reading.fixed_place access a w byte bit p)
     (λ b. bindings.bound_place access b p.local p.memory) (λ b. own.binding_at access b p)
     (fixed_same access a w byte bit p) (λ b. bound_at_same access b p)
 
@@ -116,10 +116,10 @@ in_block_bound : (access : Access) (n : ℕ) (w : Width) (byte bit : ℕ) (p : E
     ≡ own.binding_of access (named.PlaceIn n w byte bit) p
 unfolding bindings.bound_actual own.binding_of
 in_block_bound access n w byte bit p =
-    ap (λ r. if data_blocks.is_loaded n p.memory then r else Err 0x3A)
+    ap (λ r. if data_blocks.is_block_loaded n p.memory then r else Err 0x3A)
     (bound_at_same access (reading.at area.Db n byte bit w 0) p)
 
-access_same : (param : Param) → bindings.access_of param ≡ own.access_of param
+access_same : (param : Param) → bindings.param_access param ≡ own.access_of param
 access_same param = refl
 
 -- for a parameter by its index
@@ -137,7 +137,7 @@ step_same : (params : List Param) (index : ℕ) (actual : Passed) (x : Named) (r
     ≡ own.binds (Some x) (slice_get params index) index before p
     (λ more. bindings.bound_params params rest more p.local p.memory)
 step_same params index actual x rest before p h =
-    ap (λ r. then_ok r (λ b. bindings.bound_params params rest (set_at before index b) p.local p.memory))
+    ap (λ r. then_ok r (λ b. bindings.bound_params params rest (binding_set before index b) p.local p.memory))
     (for_same (slice_get params index) actual x p h)
 
 passing_same : (params : List Param) (index : ℕ) (x : Named) (rest : List Passing)
@@ -231,16 +231,16 @@ Known c (Some a) = IsNamedActual c a
 
 found_same : (c : Context) (name : List ℕ) (actuals : List Actual)
     → AllByRecursion (IsNamedActual c) actuals
-    → (find (λ (a : Actual). bytes_eq (folded a.name) name) actuals ≡ own.actual_for name actuals)
+    → (find (λ (a : Actual). bytes_eq (upper_case_name a.name) name) actuals ≡ own.actual_for name actuals)
     × Known c (own.actual_for name actuals)
 found_same c name [] h = (refl, tt)
 found_same c name (a ∷ actuals) h =
-    by (bytes_eq (folded a.name) name) (found_same c name actuals h.1)
+    by (bytes_eq (upper_case_name a.name) name) (found_same c name actuals h.1)
   where
     by : (b : Bool)
-        → (find (λ (a : Actual). bytes_eq (folded a.name) name) actuals ≡ own.actual_for name actuals)
+        → (find (λ (a : Actual). bytes_eq (upper_case_name a.name) name) actuals ≡ own.actual_for name actuals)
         × Known c (own.actual_for name actuals)
-        → ((if b then Some a else find (λ (a : Actual). bytes_eq (folded a.name) name) actuals)
+        → ((if b then Some a else find (λ (a : Actual). bytes_eq (upper_case_name a.name) name) actuals)
         ≡ (if b then Some a else own.actual_for name actuals))
         × Known c (if b then Some a else own.actual_for name actuals)
     by true more = (refl, h.0)
@@ -265,8 +265,8 @@ binds_same : (o : Option Named) (param : Option Param) (index : ℕ) (before : L
 binds_same None param index before p f g h = h before
 binds_same (Some x) param index before p f g h =
     then_same (own.binding_for param x p) (own.binding_for param x p)
-    (λ b. f (set_at before index b)) (λ b. g (set_at before index b)) refl
-    (λ b. h (set_at before index b))
+    (λ b. f (binding_set before index b)) (λ b. g (binding_set before index b)) refl
+    (λ b. h (binding_set before index b))
 
 all_same : (c : Context) (actuals : List Actual) (params : List Param) (index : ℕ)
     (formals : List Formal) (before : List Binding) (p : ExecState)
@@ -490,7 +490,7 @@ called_view _ id instance e = absurd cc
 record SameCall (m : Mnemonic) (how : CallOperation) : Type 0 where
   no_jump : jump_of m ≡ None
   is : call_of m ≡ Some how
-  made : (rlo : Bool) → machine.is_called how rlo ≡ own.is_made m rlo
+  made : (rlo : Bool) → machine.is_call_made how rlo ≡ own.is_made m rlo
 
 call_same : (m : Mnemonic) → is_call m ≡ true → (how : CallOperation) × SameCall m how
 call_same code.Call e = (how_called.Call, record { no_jump = refl; is = refl; made = λ rlo. refl })
@@ -502,24 +502,24 @@ call_same _ e = absurd (false≢true e)
 abbrev Binds : List Passing → (List Param → ExecState → Result (List Binding) ℕ) → Activation → World → Type 0
 Binds passings bind a w =
     (params : List Param)
-    → bindings.bindings_of params passings (local_of a.running) w.memory
+    → bindings.param_bindings params passings (local_of a.running) w.memory
     ≡ bind params (exec_state_of a.running w.memory w.timers w.counters)
 
-block_entered : (h : Option Head) (id : BlockId) (instance : Option ℕ) (passings : List Passing)
+block_entered : (h : Option BlockHead) (id : BlockId) (instance : Option ℕ) (passings : List Passing)
     (bind : List Param → ExecState → Result (List Binding) ℕ) (next : ℕ) (a : Activation) (w : World)
     → Binds passings bind a w
     → machine.block_called h id instance passings next a w ≡ own.enters_block h id instance bind next a w
 unfolding entering.call
 block_entered None id instance passings bind next a w same = refl
 block_entered (Some h) id instance passings bind next a w same =
-    ap (λ r. machine.after_call
-    (entering.called_with r (machine.callee_of id instance h) next a w.memory) next a w)
+    ap (λ r. machine.call_step
+    (entering.called_with r (machine.called_block id instance h) next a w.memory) next a w)
     (same h.params)
 
 system_entered : (o : Option (List Param)) (n : ℕ) (passings : List Passing)
     (bind : List Param → ExecState → Result (List Binding) ℕ) (next : ℕ) (a : Activation) (w : World)
     → Binds passings bind a w
-    → machine.system_called o n passings next a w ≡ own.enters_system o n bind next a w
+    → machine.system_call_made o n passings next a w ≡ own.enters_system o n bind next a w
 unfolding system.system_call
 system_entered None n passings bind next a w same = refl
 system_entered (Some params) n passings bind next a w same =
@@ -530,7 +530,7 @@ system_entered (Some params) n passings bind next a w same =
 called_same : (program : Code) (id : BlockId) (instance : Option ℕ) (passings : List Passing)
     (bind : List Param → ExecState → Result (List Binding) ℕ) (next : ℕ) (a : Activation) (w : World)
     → Binds passings bind a w
-    → machine.called program id instance passings next a w
+    → machine.call_made program id instance passings next a w
     ≡ (if is_system_function id.kind
     then own.enters_system (system.system_function id.number) id.number bind next a w
     else own.enters_block (program.head id) id instance bind next a w)
@@ -541,9 +541,9 @@ called_same program id instance passings bind next a w same =
 
 all_bound : (c : Context) (actuals : List Actual) (formals : List Formal) (these : List (List ℕ))
     (params : List Param) (p : ExecState) → AllByRecursion (IsNamedActual c) actuals → names formals ≡ these
-    → bindings.bindings_of params (passings_from c actuals 0 formals) p.local p.memory
+    → bindings.param_bindings params (passings_from c actuals 0 formals) p.local p.memory
     ≡ own.bindings_of c actuals these params p
-unfolding bindings.bindings_of
+unfolding bindings.param_bindings
 all_bound c actuals formals these params p h e =
     all_same c actuals params 0 formals (replicate (length params) binding.Unsupplied) p h
     ∙ ap (λ ns. own.bindings_of c actuals ns params p) e

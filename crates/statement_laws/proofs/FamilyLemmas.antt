@@ -47,9 +47,9 @@ use Rattle.statement_laws.proofs.VariableLemmas.{view_same}
 
 db_first : (m : Mnemonic) (op : Operation) (n : ℕ) (x : Named) (p : ExecState)
     → ((q : ExecState) → does.effect op (flat_of x) q ≡ action m x q)
-    → (if data_blocks.is_loaded n p.memory then does.effect op (flat_of x) (does.with_db n p) else Err 0x3A)
+    → (if data_blocks.is_block_loaded n p.memory then does.effect op (flat_of x) (does.with_db n p) else Err 0x3A)
     ≡ then_ok (own.opens_number false n p) (λ q. action m x q)
-db_first m op n x p h = by (data_blocks.is_loaded n p.memory)
+db_first m op n x p h = by (data_blocks.is_block_loaded n p.memory)
   where
     by : (b : Bool)
         → (if b then does.effect op (flat_of x) (does.with_db n p) else Err 0x3A)
@@ -197,7 +197,7 @@ bit_logic_acts c body n s v x is e names =
 
 load_or_transfer : (m : Mnemonic) (o : Operand) (v : ResolvedOperand) (x : Named) → is_load_or_transfer m ≡ true
     → Given m o v x → Acted m o v x
-unfolding operation_for action form_of does.effect pointer.pointed
+unfolding operation_for action form_of does.effect pointer.pointer_effect
 load_or_transfer code.L o v x is g =
     acted code.L o v x refl refl refl
     (λ q. ap (λ op. does.effect op (flat_of (as_open x)) q) (rules.load_named (about o) v x g.there)
@@ -244,7 +244,7 @@ load_or_transfer_acts c body n s v x is e names =
 
 number_instruction : (m : Mnemonic) (o : Operand) (v : ResolvedOperand) (x : Named) → is_number_instruction m ≡ true
     → Given m o v x → Acted m o v x
-unfolding operation_for action form_of does.effect numbers.counted numbers.combined
+unfolding operation_for action form_of does.effect numbers.number_effect numbers.word_logic_effect
 number_instruction code.Tak o v x is g =
     acted code.Tak o v x refl refl refl
     (λ q. refl)
@@ -410,7 +410,7 @@ comparison_acts c body n s v x is e names =
 
 shift : (m : Mnemonic) (o : Operand) (v : ResolvedOperand) (x : Named) → is_shift m ≡ true
     → Given m o v x → Acted m o v x
-unfolding operation_for action form_of does.effect numbers.counted numbers.shifted
+unfolding operation_for action form_of does.effect numbers.number_effect numbers.shift_effect
 shift code.Ssi o v x is g =
     acted code.Ssi o v x refl refl refl
     (λ q. action_lemmas.shift_same shift_word.Ssi (shifts.shifted_signed 16) (as_open x) q
@@ -527,7 +527,7 @@ relay_acts c body n s v x is e names =
 
 data_block : (m : Mnemonic) (o : Operand) (v : ResolvedOperand) (x : Named) → is_data_block m ≡ true
     → Given m o v x → Acted m o v x
-unfolding operation_for action form_of does.effect data_blocks.exchanged
+unfolding operation_for action form_of does.effect data_blocks.registers_exchanged
 data_block code.Opn o v x is g =
     acted code.Opn o v x refl refl refl
     (λ q. action_lemmas.open_same (as_open x) q

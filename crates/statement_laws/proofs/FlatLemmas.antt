@@ -8,12 +8,12 @@ use Rattle.plc_base.specs.declared.places.Area.TheVariants as area
 use Rattle.plc_base.specs.declared.places.Width.TheVariants as widths
 use Rattle.status_word.specs.Flags.{flag_value}
 use Rattle.timers_counters.specs.Counter.{Counter, count_bcd, is_counting}
-use Rattle.timers_counters.specs.Numbered.{reading}
+use Rattle.timers_counters.specs.Numbered.{read_at_number}
 use Rattle.timers_counters.specs.Timer.{Timer, time_left, units_left}
 use Rattle.timers_counters.specs.declared.faults.TimerFault.TheVariants.{NoNumber}
 use Rattle.frames.specs.declared.bindings.Binding.{Binding}
 use Rattle.frames.specs.declared.bindings.Binding.TheVariants as binding
-use Rattle.flat_code.specs.Kinds.{condition_of, flag_of}
+use Rattle.flat_code.specs.Kinds.{condition_number, flag_of}
 use Rattle.flat_code.specs.declared.operands.Operand.{Operand}
 use Rattle.flat_code.specs.declared.operands.Operand.TheVariants as flat
 use Rattle.machine.specs.ExecState.{ExecState, then_ok}
@@ -55,7 +55,7 @@ flat_of (named.PlaceIn block w byte bit) = flat.Direct area.Db w byte bit
 flat_of (named.Parameter index w) = flat.Parameter index w
 flat_of (named.Constant value) = flat.Literal (own.bits value)
 flat_of (named.Pointer value) = flat.Literal value
-flat_of (named.Condition f) = flat.OfStatus (condition_of f)
+flat_of (named.Condition f) = flat.OfStatus (condition_number f)
 flat_of (named.Timer n) = flat_number 1 n
 flat_of (named.Counter n) = flat_number 2 n
 flat_of (named.DataBlock di n) = flat_block di n
@@ -65,19 +65,19 @@ flat_of _ = flat.Nothing
 -- ---- places
 
 found_same : (access : Access) (spot : Spot) (p : ExecState)
-    → places.located access (flat_spot spot) p.local p.memory ≡ own.place_of_spot access spot p
-unfolding places.located own.place_of_spot
+    → places.operand_location access (flat_spot spot) p.local p.memory ≡ own.place_of_spot access spot p
+unfolding places.operand_location own.place_of_spot
 found_same access (named.Fixed a w byte bit) p = fixed_same access a w byte bit p
 found_same access (named.ByMemory a w from byte) p =
-    then_same (places.pointer from byte widths.Dword p.local p.memory)
+    then_same (places.pointer_number from byte widths.Dword p.local p.memory)
     (own.stored_number from byte widths.Dword p)
     (λ n. places.by_pointer access a w n p.local) (λ n. own.place_of_pointer access a w n p)
     (standing_same from byte widths.Dword p) (λ n. pointed_same access a w n p)
 found_same access (named.ByRegister None w register count) p =
-    crossing_same access w (places.address register p.local)
-    (places.moved (places.address register p.local) count) p
+    crossing_same access w (places.register_address register p.local)
+    (places.address_moved_by (places.register_address register p.local) count) p
 found_same access (named.ByRegister (Some a) w register count) p =
-    pointed_same access a w (places.moved (places.address register p.local) count) p
+    pointed_same access a w (places.address_moved_by (places.register_address register p.local) count) p
 
 bound_same : (o : Option Binding) → places.of_binding o ≡ own.place_of_binding o
 bound_same None = refl
@@ -90,8 +90,8 @@ is_open (named.PlaceIn block w byte bit) = false
 is_open _ = true
 
 pub place_same : (access : Access) (x : Named) (p : ExecState) → is_open x ≡ true
-    → places.located access (flat_of x) p.local p.memory ≡ own.place_of_operand access x p
-unfolding places.located own.place_of_operand
+    → places.operand_location access (flat_of x) p.local p.memory ≡ own.place_of_operand access x p
+unfolding places.operand_location own.place_of_operand
 place_same access (named.Place spot) p e = found_same access spot p
 place_same access (named.PlaceIn block w byte bit) p e = absurd (false≢true e)
 place_same access (named.Parameter index w) p e = bound_same (slice_get p.local.inner.bindings index)
@@ -124,26 +124,26 @@ is_read (named.Opened what) = false
 is_read _ = true
 
 spot_read : (spot : Spot) (p : ExecState)
-    → then_ok (places.located Reading (flat_spot spot) p.local p.memory)
+    → then_ok (places.operand_location Reading (flat_spot spot) p.local p.memory)
     (λ b. places.read b p.local p.memory)
     ≡ then_ok (own.place_of_spot Reading spot p) (λ b. own.number_or_error Reading b p)
 spot_read spot p =
-    then_same (places.located Reading (flat_spot spot) p.local p.memory) (own.place_of_spot Reading spot p)
+    then_same (places.operand_location Reading (flat_spot spot) p.local p.memory) (own.place_of_spot Reading spot p)
     (λ b. places.read b p.local p.memory) (λ b. own.number_or_error Reading b p)
     (found_same Reading spot p) (λ b. read_same b p)
 
 spot_number : (spot : Spot) (p : ExecState)
-    → values.number (flat_spot spot) p.local p.memory
-    ≡ then_ok (places.located Reading (flat_spot spot) p.local p.memory)
+    → values.operand_number (flat_spot spot) p.local p.memory
+    ≡ then_ok (places.operand_location Reading (flat_spot spot) p.local p.memory)
     (λ b. places.read b p.local p.memory)
-unfolding values.number
+unfolding values.operand_number
 spot_number (named.Fixed a w byte bit) p = refl
 spot_number (named.ByMemory a w from byte) p = refl
 spot_number (named.ByRegister a w register count) p = refl
 
 pub number_same : (x : Named) (p : ExecState) → is_read x ≡ true
-    → values.number (flat_of x) p.local p.memory ≡ own.number_of_operand x p
-unfolding values.number own.number_of_operand places.located
+    → values.operand_number (flat_of x) p.local p.memory ≡ own.number_of_operand x p
+unfolding values.operand_number own.number_of_operand places.operand_location
 number_same (named.Place spot) p e = spot_number spot p ∙ spot_read spot p
 number_same (named.PlaceIn block w byte bit) p e = absurd (false≢true e)
 number_same (named.Opened what) p e = absurd (false≢true e)
@@ -166,7 +166,7 @@ numbered_same kind (named.Written n) p = refl
 numbered_same kind (named.InWord from byte) p = standing_same from byte widths.Word p
 
 faulty_same : {A B : Type 0} (code : ℕ) (read : A → B) (all : List A) (n : ℕ)
-    → values.faulty code (reading read all n) ≡ ok_or (option_map read (slice_get all n)) code
+    → values.faulty code (read_at_number read all n) ≡ ok_or (option_map read (slice_get all n)) code
 faulty_same {A = A} code read all n = by (slice_get all n)
   where
     by : (o : Option A)
@@ -175,7 +175,7 @@ faulty_same {A = A} code read all n = by (slice_get all n)
     by (Some x) = refl
 
 -- a condition by its number in the code
-flag_same : (f : Flag) → flag_of (condition_of f) ≡ f
+flag_same : (f : Flag) → flag_of (condition_number f) ≡ f
 unfolding flag_of
 flag_same flag.Br = refl
 flag_same flag.Ov = refl
@@ -194,28 +194,28 @@ one_same (Err code) = refl
 
 -- of a timer or a counter by its number in a word
 in_word : {A B : Type 0} (code : ℕ) (read : A → B) (all : List A) (from : Area) (byte : ℕ) (p : ExecState)
-    → then_ok (places.pointer from byte widths.Word p.local p.memory)
-    (λ n. values.faulty code (reading read all n))
+    → then_ok (places.pointer_number from byte widths.Word p.local p.memory)
+    (λ n. values.faulty code (read_at_number read all n))
     ≡ then_ok (own.stored_number from byte widths.Word p)
     (λ n. ok_or (option_map read (slice_get all n)) code)
 in_word code read all from byte p =
-    then_same (places.pointer from byte widths.Word p.local p.memory)
+    then_same (places.pointer_number from byte widths.Word p.local p.memory)
     (own.stored_number from byte widths.Word p)
-    (λ n. values.faulty code (reading read all n))
+    (λ n. values.faulty code (read_at_number read all n))
     (λ n. ok_or (option_map read (slice_get all n)) code)
     (standing_same from byte widths.Word p) (λ n. faulty_same code read all n)
 
 spot_tested : (spot : Spot) (p : ExecState)
-    → values.tested (flat_spot spot) p.local p.memory p.timers p.counters
-    ≡ values.is_one (values.number (flat_spot spot) p.local p.memory)
-unfolding values.tested
+    → values.checked_bit (flat_spot spot) p.local p.memory p.timers p.counters
+    ≡ values.is_one (values.operand_number (flat_spot spot) p.local p.memory)
+unfolding values.checked_bit
 spot_tested (named.Fixed a w byte bit) p = refl
 spot_tested (named.ByMemory a w from byte) p = refl
 spot_tested (named.ByRegister a w register count) p = refl
 
 pub tested_same : (x : Named) (p : ExecState) → is_read x ≡ true
-    → values.tested (flat_of x) p.local p.memory p.timers p.counters ≡ own.bit_of_operand x p
-unfolding values.tested values.bit_of_numbered own.bit_of_operand own.number_of_item
+    → values.checked_bit (flat_of x) p.local p.memory p.timers p.counters ≡ own.bit_of_operand x p
+unfolding values.checked_bit values.bit_of_numbered own.bit_of_operand own.number_of_item
 tested_same (named.Place spot) p e =
     spot_tested spot p
     ∙ ap values.is_one (number_same (named.Place spot) p e)
@@ -238,16 +238,16 @@ tested_same (named.DataBlock di (named.InWord from byte)) p e =
 tested_same x p e = ap values.is_one (number_same x p e) ∙ one_same (own.number_of_operand x p)
 
 spot_loaded : (spot : Spot) (p : ExecState)
-    → values.loaded (flat_spot spot) p.local p.memory p.timers p.counters
-    ≡ values.number (flat_spot spot) p.local p.memory
-unfolding values.loaded
+    → values.load_value (flat_spot spot) p.local p.memory p.timers p.counters
+    ≡ values.operand_number (flat_spot spot) p.local p.memory
+unfolding values.load_value
 spot_loaded (named.Fixed a w byte bit) p = refl
 spot_loaded (named.ByMemory a w from byte) p = refl
 spot_loaded (named.ByRegister a w register count) p = refl
 
 pub loaded_same : (x : Named) (p : ExecState) → is_read x ≡ true
-    → values.loaded (flat_of x) p.local p.memory p.timers p.counters ≡ own.number_to_load x p
-unfolding values.loaded values.value_of_numbered own.number_to_load own.number_of_item
+    → values.load_value (flat_of x) p.local p.memory p.timers p.counters ≡ own.number_to_load x p
+unfolding values.load_value values.value_of_numbered own.number_to_load own.number_of_item
 loaded_same (named.Place spot) p e = spot_loaded spot p ∙ number_same (named.Place spot) p e
 loaded_same (named.PlaceIn block w byte bit) p e = absurd (false≢true e)
 loaded_same (named.Opened what) p e = absurd (false≢true e)

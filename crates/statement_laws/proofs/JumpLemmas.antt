@@ -17,7 +17,7 @@ use Rattle.stl_types.specs.Lists.{has_label}
 use Rattle.stl_codegen.specs.Instruction.{counted, end_instr, instr_by, instruction, jump_instr, numbers_from, resolved_instr, target_in, target_of, view_instr}
 use Rattle.stl_codegen.specs.Operations.{call_of, end_of, jump_of}
 use Rattle.machine.specs.Jumps as machine
-use Rattle.machine.specs.Statement.{Went, is_ended, step_of, returned}
+use Rattle.machine.specs.Statement.{Went, is_ended, step_of, return_made}
 use Rattle.statement_laws.specs.Jumps as own
 use Rattle.statement_laws.specs.Laws.{EndsAct, JumpListsAct, PlainJumpsAct, is_end, is_plain_jump}
 
@@ -50,11 +50,11 @@ target_same body o name e = ap (target_of body) e ∙ label_same name body
 record Same (m : Mnemonic) (how : JumpOperation) : Type 0 where
   is : jump_of m ≡ Some how
   goes : (n target : ℕ) → jump_instr how n target ≡ Jumps how target
-  taken : (r : Regs) → machine.is_taken how r ≡ own.is_taken m r
-  after : (r : Regs) → machine.after_jump how r ≡ own.after_jump m r
+  taken : (r : Regs) → machine.is_jump_taken how r ≡ own.is_taken m r
+  after : (r : Regs) → machine.regs_after_jump how r ≡ own.after_jump m r
 
 jump_same : (m : Mnemonic) → is_plain_jump m ≡ true → (how : JumpOperation) × Same m how
-unfolding machine.is_taken machine.after_jump own.is_taken own.after_jump
+unfolding machine.is_jump_taken machine.regs_after_jump own.is_taken own.after_jump
 jump_same code.Ju e =
     (jump.Ju, record { is = refl; goes = λ n target. refl; taken = λ r. refl; after = λ r. refl })
 jump_same code.Jc e =
@@ -135,7 +135,7 @@ numbers_same m (suc count) (suc k) otherwise =
     ap₂ (λ (b : Bool) (z : ℕ). if b then z else otherwise) (sym (one_more k count)) sum)
 
 pub jump_lists_act : JumpListsAct
-unfolding instruction machine.listed
+unfolding instruction machine.list_goal
 jump_lists_act c body n s name is o program next a w =
     ap (λ i. step_of program i next a w)
     (ap (λ m. instr_by c body n s (jump_of m)) is
@@ -169,7 +169,7 @@ ends_act c body n s v is e program next a w =
     ap (λ i. step_of program i next a w)
     (ap (instr_by c body n s) same.no_jump ∙ ap (resolved_instr c s) e
     ∙ ap (view_instr c s v) same.no_call ∙ ap (end_instr s v) same.is)
-    ∙ ap (λ (b : Bool). if b then returned (program.head a.running.frame.block) a w
+    ∙ ap (λ (b : Bool). if b then return_made (program.head a.running.frame.block) a w
     else Went (own.standing_at next (own.rlo_set a.running.regs) a) w)
     (same.ended a.running.regs.status.rlo)
   where

@@ -1,6 +1,6 @@
 -- The machine's places, numbers and writing are those of the laws.
 use Rattle.std.proofs.Common.{ℕ, ◌≡◌, Bool, ◌&&◌, Option, Some, None, Result, Ok, Err, ok_or, option_map, if◌then◌else◌, refl, ◌∙◌, ap, ap₂}
-use Rattle.plc_base.specs.Pointer.{place_of}
+use Rattle.plc_base.specs.Pointer.{place_at_pointer}
 use Rattle.plc_base.specs.declared.places.Area.{Area}
 use Rattle.plc_base.specs.declared.places.Area.TheVariants as area
 use Rattle.plc_base.specs.declared.places.Place.{Place}
@@ -29,13 +29,13 @@ then_same {A = A} {B = B} r r' f g e h = ap (λ z. then_ok z f) e ∙ by r'
     by (Err code) = refl
 
 open_same : (o : Option ℕ) (e byte bit : ℕ) (w : Width)
-    → places.in_register o e byte bit w ≡ own.place_in_open_block o e byte bit w
+    → places.open_block_location o e byte bit w ≡ own.place_in_open_block o e byte bit w
 open_same None e byte bit w = refl
 open_same (Some number) e byte bit w = refl
 
 pub lying_same : (a : Area) (byte bit : ℕ) (w : Width) (p : ExecState)
-    → places.in_area a byte bit w p.local ≡ own.place_in_area a byte bit w p
-unfolding places.in_area own.place_in_area
+    → places.open_area_location a byte bit w p.local ≡ own.place_in_area a byte bit w p
+unfolding places.open_area_location own.place_in_area
 lying_same area.Db byte bit w p = open_same p.local.inner.db 0x32 byte bit w
 lying_same area.Di byte bit w p = open_same p.local.inner.di 0x33 byte bit w
 lying_same area.L byte bit w p = refl
@@ -52,14 +52,14 @@ absent_same Writing area.P = refl
 absent_same Writing _ = refl
 
 pub of_area : (a : Area) (b : Location) (p : ExecState)
-    → (if places.is_local a then local_number p.local.locals b.frame b.place.byte b.place.bit b.width
+    → (if places.is_area_l a then local_number p.local.locals b.frame b.place.byte b.place.bit b.width
     else number_at p.memory b.place b.width)
     ≡ own.number_at_bound a b p
 of_area area.L b p = refl
 of_area _ b p = refl
 
 pub there_same : (access : Access) (b : Location) (p : ExecState)
-    → ok_or (places.number_in b p.local.locals p.memory) (places.absent access b.place.area)
+    → ok_or (places.location_number b p.local.locals p.memory) (places.absent access b.place.area)
     ≡ own.number_or_error access b p
 there_same access b p =
     ap₂ ok_or (of_area b.place.area b p) (absent_same access b.place.area)
@@ -70,10 +70,10 @@ unfolding places.read
 read_same b p = there_same Reading b p
 
 pub standing_same : (from : Area) (byte : ℕ) (w : Width) (p : ExecState)
-    → places.pointer from byte w p.local p.memory ≡ own.stored_number from byte w p
-unfolding places.direct
+    → places.pointer_number from byte w p.local p.memory ≡ own.stored_number from byte w p
+unfolding places.direct_number
 standing_same from byte w p =
-    then_same (places.in_area from byte 0 w p.local) (own.place_in_area from byte 0 w p)
+    then_same (places.open_area_location from byte 0 w p.local) (own.place_in_area from byte 0 w p)
     (λ b. places.read b p.local p.memory) (λ b. own.number_or_error Reading b p)
     (lying_same from byte 0 w p) (λ b. read_same b p)
 
@@ -107,18 +107,18 @@ pointed_same access a w n p =
     (whole_same w n) (lying_same a (own.byte_of n) (own.bit_of n) w p) (ap Err (bit_error access))
 
 peripheral_same : (a : Area) (w : Width)
-    → (places.is_peripheral a && places.is_bit w) ≡ own.is_peripheral_bit a w
+    → (places.is_area_p a && places.is_bit_width w) ≡ own.is_peripheral_bit a w
 peripheral_same area.P widths.Bit = refl
 peripheral_same area.P _ = refl
 peripheral_same _ w = refl
 
 pub fixed_same : (access : Access) (a : Area) (w : Width) (byte bit : ℕ) (p : ExecState)
-    → places.placed access a byte bit w p.local ≡ own.fixed_place access a w byte bit p
+    → places.area_location access a byte bit w p.local ≡ own.fixed_place access a w byte bit p
 unfolding own.fixed_place
 fixed_same access a w byte bit p =
-    if_same (places.is_peripheral a && places.is_bit w) (own.is_peripheral_bit a w)
+    if_same (places.is_area_p a && places.is_bit_width w) (own.is_peripheral_bit a w)
     (Err (places.error_of access 0x24)) (Err (own.bad_area access))
-    (places.in_area a byte bit w p.local) (own.place_in_area a byte bit w p)
+    (places.open_area_location a byte bit w p.local) (own.place_in_area a byte bit w p)
     (peripheral_same a w) (ap Err (area_error access)) (lying_same a byte bit w p)
 
 named_same : (access : Access) (o : Option Place) (w : Width) (n : ℕ) (p : ExecState)
@@ -133,10 +133,10 @@ pub crossing_same : (access : Access) (w : Width) (address n : ℕ) (p : ExecSta
 unfolding places.by_crossing own.place_of_crossing
 crossing_same access w address n p =
     if_same (places.is_aligned w n) (own.is_whole w n)
-    (places.in_named access (place_of address) w n p.local)
+    (places.in_named access (place_at_pointer address) w n p.local)
     (own.in_area_of access (own.area_of address) w n p)
     (Err (places.error_of access 0x28)) (Err (own.bad_bit access))
-    (whole_same w n) (named_same access (place_of address) w n p) (ap Err (bit_error access))
+    (whole_same w n) (named_same access (place_at_pointer address) w n p) (ap Err (bit_error access))
 
 -- ---- writing
 
@@ -146,11 +146,11 @@ with_scene p c = record p { local = c.local; memory = c.memory }
 
 written_in_same : (a : Area) (b : Location) (n : ℕ) (p : ExecState)
     → option_map (with_scene p)
-    (if places.is_local a
+    (if places.is_area_l a
     then option_map (λ l. record { local = values.with_locals p.local l; memory = p.memory })
     (local_written p.local.locals b.frame b.place.byte b.place.bit b.width n)
     else option_map (λ m. record { local = p.local; memory = m })
-    (memory.written p.memory b.place b.width n))
+    (memory.number_written p.memory b.place b.width n))
     ≡ own.written_in a b n p
 written_in_same area.L b n p = by (local_written p.local.locals b.frame b.place.byte b.place.bit b.width n)
   where
@@ -160,7 +160,7 @@ written_in_same area.L b n p = by (local_written p.local.locals b.frame b.place.
         ≡ option_map (λ l. own.with_locals l p) o
     by None = refl
     by (Some l) = refl
-written_in_same _ b n p = by (memory.written p.memory b.place b.width n)
+written_in_same _ b n p = by (memory.number_written p.memory b.place b.width n)
   where
     by : (o : Option Areas)
         → option_map (with_scene p) (option_map (λ m. record { local = p.local; memory = m }) o)

@@ -4,7 +4,7 @@ use Rattle.std.specs.Option.{option_map, option_and_then}
 use Rattle.std.proofs.Common.{eqb-true}
 use Rattle.std.proofs.lemmas.Option.{same_Some}
 use Rattle.plc_base.specs.Kinds.{is_data_block, is_same_kind}
-use Rattle.plc_base.specs.S5Time.{s5time_of}
+use Rattle.plc_base.specs.S5Time.{s5time_of_ms}
 use Rattle.plc_base.specs.declared.blocks.BlockId.{BlockId}
 use Rattle.plc_base.specs.declared.places.Area.{Area}
 use Rattle.plc_base.specs.declared.places.Area.TheVariants as area
@@ -114,7 +114,7 @@ bits_same (literal.Dword value) = refl
 bits_same (literal.Long value) = twos_same 32 value
 bits_same (literal.Count value) = refl
 bits_same (literal.Time ms) = twos_same 32 ms
-bits_same (literal.S5time ms) = none_same (s5time_of ms)
+bits_same (literal.S5time ms) = none_same (s5time_of_ms ms)
 bits_same (literal.Characters bytes) = bytes_same 0 bytes
 bits_same (literal.Bytes bytes) = bytes_same 0 bytes
 

@@ -5,7 +5,7 @@ use Rattle.std.specs.Option.{option_map, option_and_then}
 use Rattle.std.proofs.lemmas.Bool.{false≢true}
 use Rattle.std.proofs.lemmas.Bool.Decides.{nat_tests}
 use Rattle.std.proofs.lemmas.Option.{same_Some}
-use Rattle.plc_base.specs.Folding.{folded}
+use Rattle.plc_base.specs.Folding.{upper_case_name}
 use Rattle.plc_base.specs.Kinds.{is_data_block}
 use Rattle.plc_base.specs.declared.blocks.BlockId.{BlockId}
 use Rattle.plc_base.specs.declared.places.Area.TheVariants as area
@@ -434,7 +434,7 @@ path_there : (c : Context) (f : OperandRule) (o : Operand) (v : ResolvedOperand)
     → rule_by f (about o) v ≡ None → seen c o ≡ Resolved v → There (named_by c o)
 unfolding seen named_by
 path_there c f (operand.Named (head.Local name) steps) v plain is inside r e =
-    variable_there c f (folded name) (folded_path steps) v r plain e inside
+    variable_there c f (upper_case_name name) (folded_path steps) v r plain e inside
 path_there c f (operand.Named (head.InBlock name) steps) v plain is inside r e =
     component_there c f name (folded_path steps) v r e inside
 path_there c f (operand.Named (head.Symbol name) steps) v plain is inside r e = absurd (false≢true is)

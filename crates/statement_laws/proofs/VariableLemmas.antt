@@ -4,7 +4,7 @@ use Rattle.std.proofs.Common.{arith}
 use Rattle.std.proofs.lemmas.Bool.Decides.{nat_tests}
 use Rattle.std.specs.Option.{option_map, option_and_then}
 use Rattle.std.proofs.lemmas.Option.{same_Some}
-use Rattle.plc_base.specs.Folding.{folded, is_same_name}
+use Rattle.plc_base.specs.Folding.{upper_case_name, is_same_name}
 use Rattle.plc_base.specs.Kinds.{is_data_block, is_system_function}
 use Rattle.plc_base.specs.declared.blocks.BlockId.{BlockId}
 use Rattle.plc_base.specs.declared.places.Area.TheVariants as area
@@ -425,7 +425,7 @@ view_same c (operand.Counter number) v x e n =
 view_same c (operand.Named (head.Symbol name) steps) v x e n =
     symbol_same (symbol_named name c.symbols) v x e n
 view_same c (operand.Named (head.Local name) steps) v x e n =
-    local_same c (folded name) (folded_path steps) v x e n
+    local_same c (upper_case_name name) (folded_path steps) v x e n
 view_same c (operand.Named (head.InBlock name) steps) v x e n =
     component_same c name (folded_path steps) v x e n
 view_same c (operand.ByMemory a w from byte) v x e n =

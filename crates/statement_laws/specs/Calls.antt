@@ -3,12 +3,12 @@
 use Rattle.std.specs.Prelude.{ℕ, suc, nat_eq, Bool, true, false, List, [], ◌∷◌, ◌++◌, map, length, replicate, codes, slice_get, Option, Some, None, Result, Ok, Err, bytes_eq, if◌then◌else◌}
 use Rattle.std.specs.List.{flat_map}
 use Rattle.std.specs.Option.{option_and_then}
-use Rattle.plc_base.specs.Folding.{folded}
+use Rattle.plc_base.specs.Folding.{upper_case_name}
 use Rattle.plc_base.specs.Kinds.{is_system_function}
 use Rattle.plc_base.specs.declared.blocks.BlockId.{BlockId}
 use Rattle.plc_base.specs.declared.places.Area.TheVariants as area
 use Rattle.status_word.specs.declared.registers.Regs.{Regs}
-use Rattle.frames.specs.Bound.{set_at}
+use Rattle.frames.specs.Bound.{binding_set}
 use Rattle.frames.specs.declared.Activation.{Activation}
 use Rattle.frames.specs.declared.bindings.Binding.{Binding}
 use Rattle.frames.specs.declared.bindings.Binding.TheVariants as binding
@@ -25,10 +25,10 @@ use Rattle.block_layout.specs.declared.cells.Element.TheVariants as element
 use Rattle.stl_types.specs.Context.{Context}
 use Rattle.flat_code.specs.Records.{section_out}
 use Rattle.flat_code.specs.declared.programs.Param.{Param}
-use Rattle.machine.specs.Code.{Code, Head}
+use Rattle.machine.specs.Code.{Code, BlockHead}
 use Rattle.machine.specs.Entering.{called_with}
 use Rattle.machine.specs.ExecState.{ExecState, exec_state_of, then_ok}
-use Rattle.machine.specs.Statement.{Step, Stuck, Went, World, after_call, after_system_call, callee_of}
+use Rattle.machine.specs.Statement.{Step, Stuck, Went, World, call_step, after_system_call, called_block}
 use Rattle.machine.specs.SystemCalls.{given_now, system_function}
 use Rattle.machine.specs.declared.places.Access.{Access}
 use Rattle.machine.specs.declared.places.Access.TheVariants.{Reading, Writing}
@@ -55,6 +55,7 @@ abbrev pub name_if_plain : Element → List ℕ → List (List ℕ)
 name_if_plain (element.Plain kind) name = name ∷ []
 name_if_plain _ name = []
 
+-- the name of a parameter that a call passes, if it is declared so
 abbrev pub parameter_name : Cell → List (List ℕ)
 parameter_name cell =
     if is_passed_by_call cell.section then name_if_plain cell.of cell.name else []
@@ -99,7 +100,7 @@ parameter_names c id =
 abbrev pub actual_for : List ℕ → List Actual → Option Actual
 actual_for name [] = None
 actual_for name (a ∷ actuals) =
-    if bytes_eq (folded a.name) name then Some a else actual_for name actuals
+    if bytes_eq (upper_case_name a.name) name then Some a else actual_for name actuals
 
 -- a constant, a place, a place in a data block that is named, or a parameter of the caller is passed
 abbrev pub if_passable : Named → Option Named
@@ -109,6 +110,7 @@ if_passable (named.PlaceIn block w byte bit) = Some (named.PlaceIn block w byte 
 if_passable (named.Parameter index w) = Some (named.Parameter index w)
 if_passable _ = None
 
+-- the place or value that is passed, if it may be
 abbrev pub named_in_call : Context → Option Actual → Option Named
 named_in_call c None = None
 named_in_call c (Some a) = option_and_then if_passable (named_by c a.value)
@@ -120,6 +122,7 @@ abbrev pub binding_if : Access → Location → Option ℕ → Result Binding �
 binding_if access b None = Err (no_place access b.place.area)
 binding_if access b (Some n) = Ok (binding.Bound b.place b.width b.frame)
 
+-- what a parameter stands for that is passed a place
 abbrev pub binding_at : Access → Location → ExecState → Result Binding ℕ
 binding_at access b p = binding_if access b (number_at_bound b.place.area b p)
 
@@ -154,7 +157,7 @@ abbrev pub binds :
     → (List Binding → Result (List Binding) ℕ) → Result (List Binding) ℕ
 binds None param index bindings p next = next bindings
 binds (Some x) param index bindings p next =
-    then_ok (binding_for param x p) (λ b. next (set_at bindings index b))
+    then_ok (binding_for param x p) (λ b. next (binding_set bindings index b))
 
 -- one after the other, by the order of the parameters; the first that can't be bound is the error
 abbrev pub bindings_from :
@@ -185,13 +188,13 @@ at_call r =
 
 -- a block of the program is entered, by its head
 abbrev pub enters_block :
-    Option Head → BlockId → Option ℕ → (List Param → ExecState → Result (List Binding) ℕ) → (next : ℕ)
+    Option BlockHead → BlockId → Option ℕ → (List Param → ExecState → Result (List Binding) ℕ) → (next : ℕ)
     → Activation → World → Step
 enters_block None id instance bind next a w = Stuck
 enters_block (Some h) id instance bind next a w =
-    after_call
+    call_step
     (called_with (bind h.params (exec_state_of a.running w.memory w.timers w.counters))
-    (callee_of id instance h) next a w.memory)
+    (called_block id instance h) next a w.memory)
     next a w
 
 -- a system function is called, by its parameters

@@ -12,12 +12,12 @@ use Rattle.plc_base.specs.declared.instructions.TimerKind.TheVariants as timer
 use Rattle.plc_base.specs.declared.places.Area.TheVariants as area
 use Rattle.plc_mem.specs.Areas.{Areas}
 use Rattle.status_word.specs.BareOr.{or_bare}
-use Rattle.status_word.specs.Brackets.{begun, closed, entry_of}
-use Rattle.status_word.specs.Check.{checked}
-use Rattle.status_word.specs.Edge.{edged}
-use Rattle.status_word.specs.SetClear.{clr, negated, saved, set}
-use Rattle.status_word.specs.StatusNumber.{number_of, shown, status_of}
-use Rattle.status_word.specs.Store.{stored}
+use Rattle.status_word.specs.Brackets.{bracket_begun, bracket_ended, entry_of}
+use Rattle.status_word.specs.Check.{after_check}
+use Rattle.status_word.specs.Edge.{after_edge}
+use Rattle.status_word.specs.SetClear.{clr, rlo_negated, rlo_saved_in_br, rlo_set_to_1}
+use Rattle.status_word.specs.StatusNumber.{status_number, status_shown, status_of}
+use Rattle.status_word.specs.Store.{after_store}
 use Rattle.status_word.specs.declared.nesting.Bracket.{Bracket}
 use Rattle.status_word.specs.declared.registers.Regs.{Regs}
 use Rattle.alu.specs.Accumulators as accumulators
@@ -30,12 +30,12 @@ use Rattle.alu.specs.Shifts as shifts
 use Rattle.alu.specs.Sums as sums
 use Rattle.alu.specs.WordLogic as word_logic
 use Rattle.timers_counters.specs.Counter as counters
-use Rattle.timers_counters.specs.Numbered.{change}
+use Rattle.timers_counters.specs.Numbered.{change_at_number}
 use Rattle.timers_counters.specs.Timer as timers
 use Rattle.timers_counters.specs.declared.faults.TimerFault.{TimerFault}
 use Rattle.timers_counters.specs.declared.faults.TimerFault.TheVariants.{BadBcd, NoNumber}
 use Rattle.frames.specs.FrameData.{FrameData}
-use Rattle.frames.specs.Relay.{is_closed, zone_ended, zone_opened}
+use Rattle.frames.specs.Relay.{is_zone_closed, zone_ended, zone_opened}
 use Rattle.frames.specs.declared.relay.Relay.{Relay}
 use Rattle.stl_ast.specs.declared.literals.Literal.TheVariants as literal
 use Rattle.stl_ast.specs.declared.mnemonics.Mnemonic.{Mnemonic}
@@ -53,6 +53,7 @@ use Rattle.statement_laws.specs.Reading.{bcd_to_load, bit_of_operand, bits, numb
 abbrev pub regs : ExecState → Regs
 regs p = p.local.regs
 
+-- other registers; all else stays
 abbrev pub with_regs : Regs → ExecState → ExecState
 with_regs r p = record p { local = record p.local { regs = r } }
 
@@ -68,9 +69,11 @@ with_inner i p = record p { local = record p.local { inner = i } }
 abbrev pub rlo : ExecState → Bool
 rlo p = (regs p).status.rlo
 
+-- the master control relay is active, and its last zone has the value 0
 abbrev pub is_relay_closed : ExecState → Bool
-is_relay_closed p = is_closed p.local.inner.relay
+is_relay_closed p = is_zone_closed p.local.inner.relay
 
+-- the power flow: RLO, but 0 while the master control relay is closed
 abbrev pub flow : ExecState → Bool
 flow p = rlo p && not (is_relay_closed p)
 
@@ -82,7 +85,7 @@ low_word p = (regs p).a1 % 2 ^ 16
 
 -- A AN O ON X XN: the bit is read and checked
 abbrev pub checks : Check → Named → ExecState → Result ExecState ℕ
-checks with x p = then_ok (bit_of_operand x p) (λ b. on_regs (checked with b) p)
+checks with x p = then_ok (bit_of_operand x p) (λ b. on_regs (after_check with b) p)
 
 -- O without operand: AND before OR
 abbrev pub checks_or : Named → ExecState → Result ExecState ℕ
@@ -93,16 +96,18 @@ checks_or x p = checks check.O x p
 abbrev pub with_brackets : List Bracket → ExecState → ExecState
 with_brackets brackets p = with_inner (record p.local.inner { brackets = brackets }) p
 
+-- A( to XN(: a bracket opens; none is an eighth
 abbrev pub opens_bracket : Check → ExecState → Result ExecState ℕ
 opens_bracket with p =
     if length p.local.inner.brackets == 7 then Err 0
-    else on_regs begun (with_brackets (entry_of with (regs p) ∷ p.local.inner.brackets) p)
+    else on_regs bracket_begun (with_brackets (entry_of with (regs p) ∷ p.local.inner.brackets) p)
 
 -- ): the last one
 abbrev pub closes_one : List Bracket → ExecState → Result ExecState ℕ
 closes_one [] p = Err 0
-closes_one (bracket ∷ rest) p = on_regs (closed bracket) (with_brackets rest p)
+closes_one (bracket ∷ rest) p = on_regs (bracket_ended bracket) (with_brackets rest p)
 
+-- ): the innermost bracket closes
 abbrev pub closes_bracket : ExecState → Result ExecState ℕ
 closes_bracket p = closes_one p.local.inner.brackets p
 
@@ -122,28 +127,30 @@ bit_there b p = then_ok (number_or_error Writing b p) (λ n. Ok (n == 1))
 -- =: the RLO that the relay lets through
 abbrev pub assigns : Named → ExecState → Result ExecState ℕ
 assigns x p =
-    then_ok (place_of_operand Writing x p) (λ b. writes_bit b (flow p) (stored (flow p) (regs p)) p)
+    then_ok (place_of_operand Writing x p) (λ b. writes_bit b (flow p) (after_store (flow p) (regs p)) p)
 
 -- S (1) and R (0) of a bit: with RLO 1, and not while the relay is closed
 abbrev pub bit_after : (flow value before : Bool) → Bool
 bit_after true value before = value
 bit_after false value before = before
 
+-- S and R: the bit takes the value, where power flows
 abbrev pub sets_bit : (value : Bool) → Named → ExecState → Result ExecState ℕ
 sets_bit value x p =
     then_ok (place_of_operand Writing x p) (λ b.
     then_ok (bit_there b p) (λ before.
     writes_bit b (bit_after (flow p) value before)
-    (stored (bit_after (flow p) value before) (regs p)) p))
+    (after_store (bit_after (flow p) value before) (regs p)) p))
 
 -- FP and FN: the operand is the edge bit, which gets the RLO
 abbrev pub tells_edge : (rising : Bool) → Named → ExecState → Result ExecState ℕ
 tells_edge rising x p =
     then_ok (place_of_operand Writing x p) (λ b.
-    then_ok (bit_there b p) (λ before. writes_bit b (rlo p) (edged rising before (regs p)) p))
+    then_ok (bit_there b p) (λ before. writes_bit b (rlo p) (after_edge rising before (regs p)) p))
 
 -- ---- the master control relay
 
+-- another state of the master control relay; all else stays
 abbrev pub with_relay : Relay → ExecState → ExecState
 with_relay r p = with_inner (record p.local.inner { relay = r }) p
 
@@ -155,14 +162,15 @@ activates active p = Ok (with_relay (record p.local.inner.relay { active = activ
 abbrev pub opens_zone : ExecState → Result ExecState ℕ
 opens_zone p =
     if length p.local.inner.relay.zones == 8 then Err 0
-    else on_regs (stored true) (with_relay (zone_opened (rlo p) p.local.inner.relay) p)
+    else on_regs (after_store true) (with_relay (zone_opened (rlo p) p.local.inner.relay) p)
 
 -- )MCR
 abbrev pub ends_zone_of : List Bool → ExecState → Result ExecState ℕ
 ends_zone_of [] p = Err 0
 ends_zone_of (value ∷ around) p =
-    on_regs (stored true) (with_relay (zone_ended p.local.inner.relay) p)
+    on_regs (after_store true) (with_relay (zone_ended p.local.inner.relay) p)
 
+-- )MCR: the last zone ends
 abbrev pub ends_zone : ExecState → Result ExecState ℕ
 ends_zone p = ends_zone_of p.local.inner.relay.zones p
 
@@ -177,6 +185,7 @@ abbrev pub length_of : Option (List ℕ) → ℕ
 length_of None = 0
 length_of (Some bytes) = length bytes % 2 ^ 32
 
+-- the length of the open data block; 0 where none is open
 abbrev pub open_length : Option ℕ → Areas → ℕ
 open_length None m = 0
 open_length (Some n) m = length_of (map.get m.data_blocks n)
@@ -190,7 +199,7 @@ open_fact named.DiNumber p = unwrap_or p.local.inner.di 0
 
 -- L
 abbrev pub loads : Named → ExecState → Result ExecState ℕ
-loads named.StatusWord p = on_regs (with_loaded (number_of (shown (regs p).status))) p
+loads named.StatusWord p = on_regs (with_loaded (status_number (status_shown (regs p).status))) p
 loads (named.Opened what) p = on_regs (with_loaded (open_fact what p)) p
 loads x p = then_ok (number_to_load x p) (λ n. on_regs (with_loaded n) p)
 
@@ -209,9 +218,11 @@ transfers x p = puts (if is_relay_closed p then 0 else (regs p).a1) x p
 
 -- ---- address registers
 
+-- another address in address register 1
 abbrev pub with_ar1 : ℕ → ExecState → ExecState
 with_ar1 n p = with_regs (record (regs p) { ar1 = n }) p
 
+-- another address in address register 2
 abbrev pub with_ar2 : ℕ → ExecState → ExecState
 with_ar2 n p = with_regs (record (regs p) { ar2 = n }) p
 
@@ -220,10 +231,12 @@ abbrev pub address_to_load : Named → ExecState → Result ℕ ℕ
 address_to_load named.Nothing p = Ok (regs p).a1
 address_to_load x p = number_of_operand x p
 
+-- LAR1, with address register 2 too
 abbrev pub loads_ar1 : Named → ExecState → Result ExecState ℕ
 loads_ar1 named.SecondRegister p = Ok (with_ar1 (regs p).ar2 p)
 loads_ar1 x p = then_ok (address_to_load x p) (λ n. Ok (with_ar1 n p))
 
+-- LAR2
 abbrev pub loads_ar2 : Named → ExecState → Result ExecState ℕ
 loads_ar2 x p = then_ok (address_to_load x p) (λ n. Ok (with_ar2 n p))
 
@@ -232,6 +245,7 @@ abbrev pub puts_address : ℕ → Named → ExecState → Result ExecState ℕ
 puts_address n named.Nothing p = on_regs (with_loaded n) p
 puts_address n x p = puts n x p
 
+-- TAR1, to address register 2 too
 abbrev pub stores_ar1 : Named → ExecState → Result ExecState ℕ
 stores_ar1 named.SecondRegister p = Ok (with_ar2 (regs p).ar1 p)
 stores_ar1 x p = puts_address (regs p).ar1 x p
@@ -294,18 +308,19 @@ or_error code (Err BadBcd) = Err 0x21
 abbrev pub on_timer : (timers.Timer → Option timers.Timer) → Number → ExecState → Result ExecState ℕ
 on_timer f n p =
     then_ok (number_of_item n p) (λ which.
-    then_ok (or_error 0x26 (change f p.timers which)) (λ all.
+    then_ok (or_error 0x26 (change_at_number f p.timers which)) (λ all.
     on_regs string_ended (record p { timers = all })))
 
+-- an instruction on the counter of a number; 27 where there is none
 abbrev pub on_counter : (counters.Counter → Option counters.Counter) → Number → ExecState → Result ExecState ℕ
 on_counter f n p =
     then_ok (number_of_item n p) (λ which.
-    then_ok (or_error 0x27 (change f p.counters which)) (λ all.
+    then_ok (or_error 0x27 (change_at_number f p.counters which)) (λ all.
     on_regs string_ended (record p { counters = all })))
 
 -- SP SE SD SS SF
 abbrev pub starts : TimerKind → Named → ExecState → Result ExecState ℕ
-starts how (named.Timer n) p = on_timer (timers.started how (rlo p) (low_word p)) n p
+starts how (named.Timer n) p = on_timer (timers.start_timer how (rlo p) (low_word p)) n p
 starts how x p = Err 0
 
 -- CU, CD
@@ -315,7 +330,7 @@ counts f x p = Err 0
 
 -- S of a counter, and of a bit
 abbrev pub sets : Named → ExecState → Result ExecState ℕ
-sets (named.Counter n) p = on_counter (counters.set_to (rlo p) (low_word p)) n p
+sets (named.Counter n) p = on_counter (counters.set_counter (rlo p) (low_word p)) n p
 sets x p = sets_bit true x p
 
 -- R of a timer, of a counter, and of a bit
@@ -326,8 +341,8 @@ resets x p = sets_bit false x p
 
 -- FR of a timer and of a counter
 abbrev pub frees : Named → ExecState → Result ExecState ℕ
-frees (named.Timer n) p = on_timer (λ t. Some (timers.freed_timer (rlo p) t)) n p
-frees (named.Counter n) p = on_counter (λ k. Some (counters.freed_counter (rlo p) k)) n p
+frees (named.Timer n) p = on_timer (λ t. Some (timers.free_timer (rlo p) t)) n p
+frees (named.Counter n) p = on_counter (λ k. Some (counters.free_counter (rlo p) k)) n p
 frees x p = Err 0
 
 -- ---- data blocks
@@ -386,10 +401,10 @@ action code.S x p = sets x p
 action code.R x p = resets x p
 action code.Fp x p = tells_edge true x p
 action code.Fn x p = tells_edge false x p
-action code.Set x p = on_regs set p
+action code.Set x p = on_regs rlo_set_to_1 p
 action code.Clr x p = on_regs clr p
-action code.Not x p = on_regs negated p
-action code.Save x p = on_regs saved p
+action code.Not x p = on_regs rlo_negated p
+action code.Save x p = on_regs rlo_saved_in_br p
 action code.Lc x p = loads_bcd x p
 action code.Lar1 x p = loads_ar1 x p
 action code.Lar2 x p = loads_ar2 x p
@@ -434,8 +449,8 @@ action code.Dtb x p = on_regs conversions.to_bcd_dword p
 action code.Itd x p = on_regs conversions.widened p
 action code.Invi x p = on_regs (conversions.inverted 16) p
 action code.Invd x p = on_regs (conversions.inverted 32) p
-action code.Negi x p = on_regs (sums.negated 16) p
-action code.Negd x p = on_regs (sums.negated 32) p
+action code.Negi x p = on_regs (sums.accu_negated 16) p
+action code.Negd x p = on_regs (sums.accu_negated 32) p
 action code.Aw x p = on_regs (word_logic.anded 16 (constant 16 x)) p
 action code.Ow x p = on_regs (word_logic.ored 16 (constant 16 x)) p
 action code.Xow x p = on_regs (word_logic.xored 16 (constant 16 x)) p
@@ -458,8 +473,8 @@ action code.Sd x p = starts timer.Sd x p
 action code.Ss x p = starts timer.Ss x p
 action code.Sf x p = starts timer.Sf x p
 action code.Fr x p = frees x p
-action code.Cu x p = counts counters.counted_up x p
-action code.Cd x p = counts counters.counted_down x p
+action code.Cu x p = counts counters.count_up x p
+action code.Cd x p = counts counters.count_down x p
 action code.Opn x p = opens x p
 action code.Cdb x p = exchanges_blocks p
 action _ x p = Err 0

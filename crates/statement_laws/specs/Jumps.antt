@@ -10,7 +10,7 @@ use Rattle.stl_ast.specs.declared.mnemonics.Mnemonic.{Mnemonic}
 use Rattle.stl_ast.specs.declared.mnemonics.Mnemonic.TheVariants as code
 use Rattle.stl_ast.specs.declared.statements.Statement.{Statement}
 use Rattle.machine.specs.Code.{Code}
-use Rattle.machine.specs.Statement.{Step, Went, World, returned}
+use Rattle.machine.specs.Statement.{Step, Went, World, return_made}
 
 -- ---- labels
 
@@ -122,5 +122,5 @@ ends _ rlo = true
 -- BEC with RLO 0: RLO 1, OR 0, STA 1, /FC 0, and the block goes on
 abbrev pub ends_block : Mnemonic → Code → (next : ℕ) → Activation → World → Step
 ends_block m program next a w =
-    if ends m a.running.regs.status.rlo then returned (program.head a.running.frame.block) a w
+    if ends m a.running.regs.status.rlo then return_made (program.head a.running.frame.block) a w
     else Went (standing_at next (rlo_set a.running.regs) a) w

@@ -2,7 +2,7 @@
 use Rattle.std.specs.Prelude.{◌≡◌, ℕ, Bool, true, false, not, ◌||◌, is_some, List, ◌∷◌, ◌++◌, ◌+◌, length, slice_get, Option, Some, Result, nat_eq, ◌&&◌}
 use Rattle.std.specs.List.{AllByRecursion}
 use Rattle.std.specs.Option.{option_and_then}
-use Rattle.plc_base.specs.Folding.{folded}
+use Rattle.plc_base.specs.Folding.{upper_case_name}
 use Rattle.plc_base.specs.declared.blocks.BlockId.{BlockId}
 use Rattle.stl_ast.specs.Statements.{is_empty}
 use Rattle.stl_ast.specs.declared.blocks.Block.{Block}
@@ -79,6 +79,7 @@ is_bit_logic code.Not = true
 is_bit_logic code.Save = true
 is_bit_logic _ = false
 
+-- statements of bit logic have their effect
 abbrev pub BitLogicActs : Type 0
 BitLogicActs = StatementsAct is_bit_logic
 
@@ -96,6 +97,7 @@ is_load_or_transfer code.AddAr1 = true
 is_load_or_transfer code.AddAr2 = true
 is_load_or_transfer _ = false
 
+-- so have those that load and transfer
 abbrev pub LoadsAct : Type 0
 LoadsAct = StatementsAct is_load_or_transfer
 
@@ -135,6 +137,7 @@ is_number_instruction code.Od = true
 is_number_instruction code.Xod = true
 is_number_instruction _ = false
 
+-- those of numbers
 abbrev pub NumbersAct : Type 0
 NumbersAct = StatementsAct is_number_instruction
 
@@ -154,6 +157,7 @@ is_comparison code.GeD = true
 is_comparison code.LeD = true
 is_comparison _ = false
 
+-- those that compare
 abbrev pub ComparisonsAct : Type 0
 ComparisonsAct = StatementsAct is_comparison
 
@@ -171,6 +175,7 @@ is_shift code.Rlda = true
 is_shift code.Rrda = true
 is_shift _ = false
 
+-- those that shift and rotate
 abbrev pub ShiftsAct : Type 0
 ShiftsAct = StatementsAct is_shift
 
@@ -186,6 +191,7 @@ is_timing code.Cu = true
 is_timing code.Cd = true
 is_timing _ = false
 
+-- those on timers and counters
 abbrev pub TimingActs : Type 0
 TimingActs = StatementsAct is_timing
 
@@ -197,6 +203,7 @@ is_relay code.McrOpen = true
 is_relay code.McrClose = true
 is_relay _ = false
 
+-- those of the master control relay
 abbrev pub RelayActs : Type 0
 RelayActs = StatementsAct is_relay
 
@@ -206,6 +213,7 @@ is_data_block code.Opn = true
 is_data_block code.Cdb = true
 is_data_block _ = false
 
+-- those that open and exchange data blocks
 abbrev pub DataBlocksAct : Type 0
 DataBlocksAct = StatementsAct is_data_block
 
@@ -215,6 +223,7 @@ is_idle code.Nop = true
 is_idle code.Bld = true
 is_idle _ = false
 
+-- those that do nothing
 abbrev pub IdleActs : Type 0
 IdleActs = StatementsAct is_idle
 
@@ -261,6 +270,7 @@ JumpListsAct =
 
 -- ---- ends of a block
 
+-- BE, BEC, BEU
 abbrev pub is_end : Mnemonic → Bool
 is_end code.Be = true
 is_end code.Bec = true
@@ -310,7 +320,7 @@ is_variable _ = false
 -- no index of its path lies outside its array
 abbrev pub stays_inside : Context → Operand → Bool
 stays_inside c (operand.Named (head.Local name) steps) =
-    not (leaves_local c.layouts c.block (folded name) (folded_path steps))
+    not (leaves_local c.layouts c.block (upper_case_name name) (folded_path steps))
 stays_inside c (operand.Named (head.InBlock name) steps) =
     not (leaves_judged c.layouts (option_and_then (structure_of c.layouts) (data_place c name))
     (folded_path steps))
@@ -325,6 +335,7 @@ VariablesAreNamed =
 
 -- ---- calls
 
+-- CALL, UC, CC
 abbrev pub is_call : Mnemonic → Bool
 is_call code.Call = true
 is_call code.Uc = true
@@ -368,11 +379,13 @@ pub record IsNumbered (c : Context) (b : Block) : Type 0 where
   -- and there is no other
   pub count : length (statements_of c b) ≡ count_of b.body + 1
 
+-- the statements of each block have their numbers
 abbrev pub StatementsAreNumbered : Type 0
 StatementsAreNumbered = (c : Context) (b : Block) → IsNumbered c b
 
 -- ---- all statements
 
+-- JL
 abbrev pub is_jump_list : Mnemonic → Bool
 is_jump_list code.Jl = true
 is_jump_list _ = false

@@ -2,7 +2,7 @@
 -- address, a variable by its place in the layout.
 use Rattle.std.specs.Prelude.{ℕ, zero, suc, ◌+◌, ◌-◌, ◌*◌, nat_eq, Bool, true, false, is_some, List, [], ◌∷◌, length, codes, slice_get, Option, Some, None, if◌then◌else◌}
 use Rattle.std.specs.Option.{option_map, option_and_then}
-use Rattle.plc_base.specs.Folding.{folded, is_same_name}
+use Rattle.plc_base.specs.Folding.{upper_case_name, is_same_name}
 use Rattle.plc_base.specs.Kinds.{is_function}
 use Rattle.plc_base.specs.declared.blocks.BlockId.{BlockId}
 use Rattle.plc_base.specs.declared.places.Area.{Area}
@@ -116,6 +116,7 @@ abbrev pub has_result : Option Block → Bool
 has_result None = false
 has_result (Some b) = is_some b.result
 
+-- the block is a function
 abbrev pub is_fc : Option Block → Bool
 is_fc None = false
 is_fc (Some b) = is_function b.kind
@@ -148,6 +149,7 @@ variable_by c name steps (Some m) =
     if is_fc (slice_get c.blocks c.block) then parameter_named c m.place steps
     else place_in_layout (variable c.layouts area.Di c.block false (step.Named name ∷ steps))
 
+-- the variable of the block that a name means, by its steps
 abbrev pub variable_named : Context → List ℕ → List PathStep → Option Named
 variable_named c name steps = variable_by c name steps (component 0 0 0 name (components_of_block c))
 
@@ -221,7 +223,7 @@ named_by c (operand.OpenBlock di name) =
 named_by c (operand.Named (head.Symbol name) steps) =
     option_and_then target_named (symbol_target c name)
 named_by c (operand.Named (head.Local name) steps) =
-    variable_named c (folded name) (folded_path steps)
+    variable_named c (upper_case_name name) (folded_path steps)
 named_by c (operand.Named (head.InBlock name) steps) = component_named c name (folded_path steps)
 named_by c (operand.Called name None) =
     option_map (λ id. named.Called id None) (block_named c name)

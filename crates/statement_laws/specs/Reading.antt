@@ -4,8 +4,8 @@
 use Rattle.std.specs.Prelude.{ℕ, ◌+◌, ◌-◌, ◌*◌, ◌/◌, ◌%◌, ◌^◌, ◌==◌, Bool, true, false, List, [], ◌∷◌, length, slice_get, ℤ, pos, negsuc, Option, Some, None, Result, Ok, Err, ok_or, if◌then◌else◌}
 use Rattle.std.specs.Option.{option_map}
 use Rattle.plc_base.specs.Bcd.{bcd_digits}
-use Rattle.plc_base.specs.Pointer.{place_of}
-use Rattle.plc_base.specs.S5Time.{s5time_of}
+use Rattle.plc_base.specs.Pointer.{place_at_pointer}
+use Rattle.plc_base.specs.S5Time.{s5time_of_ms}
 use Rattle.plc_base.specs.declared.places.Area.{Area}
 use Rattle.plc_base.specs.declared.places.Area.TheVariants as area
 use Rattle.plc_base.specs.declared.places.Width.{Width}
@@ -56,7 +56,7 @@ bits (literal.Dword value) = value
 bits (literal.Long value) = twos_complement 32 value
 bits (literal.Count value) = bcd_digits 3 value
 bits (literal.Time ms) = twos_complement 32 ms
-bits (literal.S5time ms) = or_zero (s5time_of ms)
+bits (literal.S5time ms) = or_zero (s5time_of_ms ms)
 bits (literal.Characters bytes) = number_behind 0 bytes
 bits (literal.Bytes bytes) = number_behind 0 bytes
 
@@ -110,6 +110,7 @@ stored_number from byte width p =
 abbrev pub byte_of : ℕ → ℕ
 byte_of pointer = pointer / 8 % 65536
 
+-- the bit of a pointer: its bits 0 to 2
 abbrev pub bit_of : ℕ → ℕ
 bit_of pointer = pointer % 8
 
@@ -146,7 +147,7 @@ fixed_place access a width byte bit p =
 
 -- the area of an address; none, too, where its bit 31 is 0
 abbrev pub area_of : (address : ℕ) → Option Area
-area_of address = option_map (λ place. place.area) (place_of address)
+area_of address = option_map (λ place. place.area) (place_at_pointer address)
 
 -- where a pointer leads in the area of an address (manual: area-crossing)
 abbrev pub in_area_of : Access → Option Area → Width → (pointer : ℕ) → ExecState → Result Location ℕ
@@ -154,6 +155,7 @@ in_area_of access None width pointer p = Err (bad_area access)
 in_area_of access (Some a) width pointer p =
     fixed_place access a width (byte_of pointer) (bit_of pointer) p
 
+-- the place of an area-crossing pointer
 unfoldable pub place_of_crossing : Access → Width → (address pointer : ℕ) → ExecState → Result Location ℕ
 place_of_crossing access width address pointer p =
     if is_whole width pointer then in_area_of access (area_of address) width pointer p
@@ -169,6 +171,7 @@ address_moved address count = (address % 2 ^ 19 + count % 2 ^ 19) % 2 ^ 19
 
 -- ---- the place of an operand
 
+-- the place of an operand, direct or indirect
 unfoldable pub place_of_spot : Access → Spot → ExecState → Result Location ℕ
 place_of_spot access (named.Fixed a width byte bit) p = fixed_place access a width byte bit p
 place_of_spot access (named.ByMemory a width from byte) p =
@@ -251,6 +254,7 @@ bit_of_operand x p = then_ok (number_of_operand x p) (λ n. Ok (n == 1))
 abbrev pub with_locals : LocalData → ExecState → ExecState
 with_locals l p = record p { local = record p.local { locals = l } }
 
+-- another memory; all else stays
 abbrev pub with_memory : Areas → ExecState → ExecState
 with_memory m p = record p { memory = m }
 
@@ -260,7 +264,8 @@ written_in area.L b n p =
     option_map (λ l. with_locals l p)
     (local_written p.local.locals b.frame b.place.byte b.place.bit b.width n)
 written_in _ b n p =
-    option_map (λ m. with_memory m p) (memory.written p.memory b.place b.width n)
+    option_map (λ m. with_memory m p) (memory.number_written p.memory b.place b.width n)
 
+-- another number at a place; an error where there is no such place
 unfoldable pub with_number_at : Location → ℕ → ExecState → Result ExecState ℕ
 with_number_at b n p = ok_or (written_in b.place.area b n p) (no_place Writing b.place.area)

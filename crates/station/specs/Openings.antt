@@ -6,7 +6,7 @@ use Rattle.machine.specs.Flat.{code_of}
 use Rattle.var_access.specs.declared.Entry.{Entry}
 use Rattle.var_access.specs.declared.Reply.{Reply}
 use Rattle.controller.specs.Replay.{happens, replay}
-use Rattle.controller.specs.Replayed.{events}
+use Rattle.controller.specs.Replayed.{entry_events}
 use Rattle.station.specs.declared.shared.Opening.{Opening}
 use Rattle.station.specs.declared.shared.Shared.{Shared}
 
@@ -33,9 +33,9 @@ the_opening (o ∷ os) = o
 
 -- the mode after an entry at its place behind these, replayed from the first start on
 abbrev pub mode_at : Opening → (before : List Entry) → Entry → Mode
-mode_at o before e = (replay o.profile (code_of o.program) (events (o.first ++ before ++ e ∷ []))).mode
+mode_at o before e = (replay o.profile (code_of o.program) (entry_events (o.first ++ before ++ e ∷ []))).mode
 
 -- the reply to an entry at its place behind these
 abbrev pub reply_at : Opening → (before : List Entry) → Entry → Reply
 reply_at o before e =
-    (happens (code_of o.program) (replay o.profile (code_of o.program) (events (o.first ++ before))) e.what).reply
+    (happens (code_of o.program) (replay o.profile (code_of o.program) (entry_events (o.first ++ before))) e.what).reply

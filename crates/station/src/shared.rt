@@ -62,7 +62,7 @@ impl Shared {
     ghost use Rattle.std.specs.Prelude.{◌≡◌, ◌<◌, ◌∷◌, ◌++◌, [], length, IfOk, IfErr, OnOk};
     ghost use Rattle.var_access.specs.Entry.{IsRequest, IsValid};
     ghost use Rattle.var_access.specs.declared.entries.What.TheVariants.{Ask};
-    ghost use Rattle.controller.specs.Replayed.{next_happens, replayed};
+    ghost use Rattle.controller.specs.Replayed.{next_happens, final_state};
     ghost use Rattle.station.specs.Turns.{AddsEntry, MayFail};
     ghost use Rattle.station.specs.declared.shared.TheConstants.{FULL};
 
@@ -99,7 +99,7 @@ impl Shared {
         requires { IsValid e.now }
         ensures ok { IfOk result (λ mode. (self.new.opened ≡ self.old.opened)
             × AddsEntry self.old.controller.value self.new.controller.value e.now
-            × (mode ≡ (replayed (record self.old.controller.value {
+            × (mode ≡ (final_state (record self.old.controller.value {
               history = self.old.controller.value.history ++ e.now ∷ [];
             })).mode)) }
         ensures err { IfErr result (λ f. (self.new ≡ self.old)

@@ -1,14 +1,14 @@
 use Rattle.std.proofs.Common.{◌≡◌, ℕ, ◌/◌, ◌%◌, ◌^◌, ◌≤◌, Bool, true, false, nat_eq, ap, arith}
 use Rattle.plc_base.specs.Bits.{has_bit}
 use Rattle.status_word.specs.declared.statuses.Status.{Status}
-use Rattle.status_word.specs.StatusNumber.{bit, number_of, status_of}
+use Rattle.status_word.specs.StatusNumber.{bit, status_number, status_of}
 
 bit-has_bit : (n k : ℕ) → bit (has_bit n k) ≡ n / 2 ^ k % 2
 bit-has_bit n k = grind arith
 
 -- the nine bits of a number weigh what it leaves modulo 512
-pub number_of_status_lem : (n : ℕ) → number_of (status_of n) ≡ n % 512
-unfolding number_of status_of
+pub number_of_status_lem : (n : ℕ) → status_number (status_of n) ≡ n % 512
+unfolding status_number status_of
 number_of_status_lem n =
     omega (
       arith,
@@ -32,8 +32,8 @@ is_one m true e = ap (λ n. nat_eq n 1) e
 is_one m false e = ap (λ n. nat_eq n 1) e
 
 -- the nine bits are kept in the number
-pub status_of_number_lem : (s : Status) → status_of (number_of s) ≡ s
-unfolding number_of status_of
+pub status_of_number_lem : (s : Status) → status_of (status_number s) ≡ s
+unfolding status_number status_of
 status_of_number_lem s =
     let low0 : bit s.fc ≤ 1 = bit_le_one s.fc in
     let low1 : bit s.rlo ≤ 1 = bit_le_one s.rlo in
@@ -44,7 +44,7 @@ status_of_number_lem s =
     let low6 : bit s.cc0 ≤ 1 = bit_le_one s.cc0 in
     let low7 : bit s.cc1 ≤ 1 = bit_le_one s.cc1 in
     let low8 : bit s.br ≤ 1 = bit_le_one s.br in
-    let n : ℕ = number_of s in
+    let n : ℕ = status_number s in
     let e0 : n / 2 ^ 0 % 2 ≡ bit s.fc = omega arith in
     let e1 : n / 2 ^ 1 % 2 ≡ bit s.rlo = omega arith in
     let e2 : n / 2 ^ 2 % 2 ≡ bit s.sta = omega arith in

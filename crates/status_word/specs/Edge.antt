@@ -8,8 +8,8 @@ abbrev pub is_edge : (rising rlo bit : Bool) → Bool
 is_edge rising rlo bit = if rising then rlo && not bit else not rlo && bit
 
 -- RLO and STA become that answer, OR 0, /FC 1
-unfoldable pub edged : (rising bit : Bool) → Regs → Regs
-edged rising bit r =
+unfoldable pub after_edge : (rising bit : Bool) → Regs → Regs
+after_edge rising bit r =
     record r {
       status = record r.status {
         rlo = is_edge rising r.status.rlo bit;

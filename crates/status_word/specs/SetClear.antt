@@ -4,17 +4,17 @@ use Rattle.std.specs.Prelude.{true, false, not}
 use Rattle.status_word.specs.declared.registers.Regs.{Regs}
 
 -- SET: RLO 1, STA 1, OR 0, /FC 0
-unfoldable pub set : Regs → Regs
-set r = record r { status = record r.status { rlo = true; sta = true; or = false; fc = false } }
+unfoldable pub rlo_set_to_1 : Regs → Regs
+rlo_set_to_1 r = record r { status = record r.status { rlo = true; sta = true; or = false; fc = false } }
 
 -- CLR: RLO 0, STA 0, OR 0, /FC 0
 unfoldable pub clr : Regs → Regs
 clr r = record r { status = record r.status { rlo = false; sta = false; or = false; fc = false } }
 
 -- NOT: the RLO negated, STA 1
-unfoldable pub negated : Regs → Regs
-negated r = record r { status = record r.status { rlo = not r.status.rlo; sta = true } }
+unfoldable pub rlo_negated : Regs → Regs
+rlo_negated r = record r { status = record r.status { rlo = not r.status.rlo; sta = true } }
 
 -- SAVE: the RLO copied into BR
-unfoldable pub saved : Regs → Regs
-saved r = record r { status = record r.status { br = r.status.rlo } }
+unfoldable pub rlo_saved_in_br : Regs → Regs
+rlo_saved_in_br r = record r { status = record r.status { br = r.status.rlo } }

@@ -9,8 +9,8 @@ abbrev pub bit : Bool → ℕ
 bit b = if b then 1 else 0
 
 -- the number of all nine bits: a bit k that is 1 weighs 2 ^ k
-unfoldable pub number_of : Status → ℕ
-number_of s =
+unfoldable pub status_number : Status → ℕ
+status_number s =
     bit s.fc + 2 * bit s.rlo + 4 * bit s.sta + 8 * bit s.or + 16 * bit s.os + 32 * bit s.ov + 64 * bit s.cc0 + 128 * bit s.cc1
     + 256 * bit s.br
 
@@ -29,5 +29,5 @@ status_of n = record {
 }
 
 -- what L STW shows of a status word: /FC, STA and OR read as 0
-abbrev pub shown : Status → Status
-shown s = record s { fc = false; sta = false; or = false }
+abbrev pub status_shown : Status → Status
+status_shown s = record s { fc = false; sta = false; or = false }

@@ -1,6 +1,6 @@
 ghost use Rattle.std.specs.Prelude.{◌≡◌, ◌==◌, ◌↔◌, [], ◌∷◌, length, IsFalse};
 ghost use Rattle.std.specs.Bool.{OnTrue, OnFalse};
-ghost use Rattle.status_word.specs.Brackets.{entry_of, begun, closed, Closes};
+ghost use Rattle.status_word.specs.Brackets.{entry_of, bracket_begun, bracket_ended, Closes};
 
 use crate::registers::Regs;
 use crate::statuses::Status;
@@ -74,11 +74,11 @@ impl Brackets {
 
     /// `A(`, `AN(`, `O(`, `ON(`, `X(` and `XN(`. False, with nothing changed, where seven brackets
     /// are open.
-    #[tactic(auto, unfolding(crate::specs::Brackets::begun))]
+    #[tactic(auto, unfolding(crate::specs::Brackets::bracket_begun))]
     pub fn begin(&mut self, regs: &mut Regs, code: Check) -> bool
         ensures full { IsFalse result ↔ (length self.old ≡ 7) }
         ensures open { OnTrue result (self.new ≡ entry_of code regs.old ∷ self.old) }
-        ensures inside { OnTrue result (regs.new ≡ begun regs.old) }
+        ensures inside { OnTrue result (regs.new ≡ bracket_begun regs.old) }
         ensures unchanged { OnFalse result (self.new ≡ self.old) }
         ensures same_regs { OnFalse result (regs.new ≡ regs.old) }
     {
@@ -103,7 +103,7 @@ impl Brackets {
 
     /// `)`: makes the check of the innermost bracket with the RLO as the value read. False, with
     /// nothing changed, where no bracket is open.
-    #[tactic(auto, unfolding(crate::specs::Brackets::closed))]
+    #[tactic(auto, unfolding(crate::specs::Brackets::bracket_ended))]
     pub fn close(&mut self, regs: &mut Regs) -> bool
         ensures { Closes self.old regs.old self.new regs.new result }
     {

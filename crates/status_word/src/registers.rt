@@ -1,10 +1,10 @@
 ghost use Rattle.std.specs.Prelude.{◌≡◌};
 ghost use Rattle.status_word.specs.Registers.{regs_at_rest};
-ghost use Rattle.status_word.specs.Check.{checked, is_and};
+ghost use Rattle.status_word.specs.Check.{after_check, is_and};
 ghost use Rattle.status_word.specs.BareOr.{or_bare};
-ghost use Rattle.status_word.specs.Store.{stored};
-ghost use Rattle.status_word.specs.SetClear.{set, clr, negated, saved};
-ghost use Rattle.status_word.specs.Edge.{edged};
+ghost use Rattle.status_word.specs.Store.{after_store};
+ghost use Rattle.status_word.specs.SetClear.{rlo_set_to_1, clr, rlo_negated, rlo_saved_in_br};
+ghost use Rattle.status_word.specs.Edge.{after_edge};
 ghost use Rattle.status_word.specs.Flags.{flag_value};
 
 use crate::statuses::Status;
@@ -43,10 +43,10 @@ impl Regs {
 
     /// A, AN, O, ON, X and XN, where `read` is the bit read, not inverted. Only the status bits are
     /// written, in place: most of what a program does is such checks.
-    #[tactic(auto, unfolding(crate::specs::Check::checked))]
+    #[tactic(auto, unfolding(crate::specs::Check::after_check))]
     #[inline(always)]
     pub fn check(&mut self, code: Check, read: bool)
-        ensures { self.new ≡ checked code read self.old }
+        ensures { self.new ≡ after_check code read self.old }
     {
         let word = &mut self.status;
         let first = !word.fc;
@@ -92,9 +92,9 @@ impl Regs {
     }
 
     /// What =, S and R do to the status word, for a bit whose value afterwards is `after`.
-    #[tactic(auto, unfolding(crate::specs::Store::stored))]
+    #[tactic(auto, unfolding(crate::specs::Store::after_store))]
     pub fn store(&mut self, after: bool)
-        ensures { self.new ≡ stored after self.old }
+        ensures { self.new ≡ after_store after self.old }
     {
         self.status.sta = after;
         self.status.or = false;
@@ -102,16 +102,16 @@ impl Regs {
     }
 
     /// SET: sets the RLO.
-    #[tactic(auto, unfolding(crate::specs::SetClear::set, crate::specs::Store::stored))]
+    #[tactic(auto, unfolding(crate::specs::SetClear::rlo_set_to_1, crate::specs::Store::after_store))]
     pub fn set(&mut self)
-        ensures { self.new ≡ set self.old }
+        ensures { self.new ≡ rlo_set_to_1 self.old }
     {
         self.status.rlo = true;
         self.store(true);
     }
 
     /// CLR: clears the RLO.
-    #[tactic(auto, unfolding(crate::specs::SetClear::clr, crate::specs::Store::stored))]
+    #[tactic(auto, unfolding(crate::specs::SetClear::clr, crate::specs::Store::after_store))]
     pub fn clr(&mut self)
         ensures { self.new ≡ clr self.old }
     {
@@ -120,27 +120,27 @@ impl Regs {
     }
 
     /// NOT: negates the RLO.
-    #[tactic(auto, unfolding(crate::specs::SetClear::negated))]
+    #[tactic(auto, unfolding(crate::specs::SetClear::rlo_negated))]
     pub fn not(&mut self)
-        ensures { self.new ≡ negated self.old }
+        ensures { self.new ≡ rlo_negated self.old }
     {
         self.status.rlo = !self.status.rlo;
         self.status.sta = true;
     }
 
     /// SAVE: saves the RLO in BR.
-    #[tactic(auto, unfolding(crate::specs::SetClear::saved))]
+    #[tactic(auto, unfolding(crate::specs::SetClear::rlo_saved_in_br))]
     pub fn save(&mut self)
-        ensures { self.new ≡ saved self.old }
+        ensures { self.new ≡ rlo_saved_in_br self.old }
     {
         self.status.br = self.status.rlo;
     }
 
     /// FP where `rising` is true, else FN. `bit` is the edge bit, which holds the RLO of the last
     /// time; the answer is its new value.
-    #[tactic(auto, unfolding(crate::specs::Edge::edged))]
+    #[tactic(auto, unfolding(crate::specs::Edge::after_edge))]
     pub fn edge(&mut self, rising: bool, bit: bool) -> bool
-        ensures registers { self.new ≡ edged rising bit self.old }
+        ensures registers { self.new ≡ after_edge rising bit self.old }
         ensures edge_bit { result ≡ self.old.status.rlo }
     {
         let rlo = self.status.rlo;

@@ -1,7 +1,7 @@
 ghost use Rattle.std.specs.Prelude.{◌≡◌, ◌<◌, ◌%◌, ◌*◌, ◌≤◌};
 ghost use Rattle.status_word.specs.Flags.{flag_value};
 ghost use Rattle.status_word.specs.Registers.{status_at_rest};
-ghost use Rattle.status_word.specs.StatusNumber.{bit as bit_value, number_of, status_of, shown};
+ghost use Rattle.status_word.specs.StatusNumber.{bit as bit_value, status_number, status_of, status_shown};
 
 use plc_base::{Flag, has_bit};
 
@@ -59,10 +59,10 @@ impl Status {
     }
 
     /// All nine bits as a number below 512, as a monitoring line shows them.
-    #[tactic(auto, using(crate::proofs::StatusNumberLaws::status_of_number_lem), unfolding(crate::specs::StatusNumber::number_of))]
+    #[tactic(auto, using(crate::proofs::StatusNumberLaws::status_of_number_lem), unfolding(crate::specs::StatusNumber::status_number))]
     pub fn number(self) -> u16
-        ensures value { result ≡ number_of self }
-        ensures kept { status_of (number_of self) ≡ self }
+        ensures value { result ≡ status_number self }
+        ensures kept { status_of (status_number self) ≡ self }
         ensures bound { result < 512 }
     {
         weight(self.fc, 1)
@@ -78,8 +78,8 @@ impl Status {
 
     /// The number that `L STW` loads: RLO, OS, OV, CC 0, CC 1 and BR at their bits, 0 elsewhere.
     pub fn loaded(self) -> u16
-        ensures value { result ≡ number_of (shown self) }
-        ensures lost { status_of result ≡ shown self }
+        ensures value { result ≡ status_number (status_shown self) }
+        ensures lost { status_of result ≡ status_shown self }
         ensures bound { result < 512 }
     {
         let shown = Status {
@@ -95,7 +95,7 @@ impl Status {
     #[tactic(auto, using(crate::proofs::StatusNumberLaws::number_of_status_lem), unfolding(crate::specs::StatusNumber::status_of))]
     pub fn transferred(accumulator: u32) -> Status
         ensures value { result ≡ status_of accumulator }
-        ensures number { number_of result ≡ accumulator % 512 }
+        ensures number { status_number result ≡ accumulator % 512 }
     {
         Status {
             fc: has_bit(accumulator, 0),

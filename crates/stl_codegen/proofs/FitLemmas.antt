@@ -4,8 +4,8 @@ use Rattle.std.proofs.lemmas.Bool.{and_parts, ltb-true}
 use Rattle.std.proofs.lemmas.List.{length-map}
 use Rattle.std.specs.List.{AllByRecursion}
 use Rattle.plc_base.specs.declared.places.Width.{Width}
-use Rattle.flat_code.specs.Codes.{are_ops, code_of}
-use Rattle.flat_code.specs.Image.{Head, IsProgram, body, body_rows, code_block, code_blocks, counts, data_blocks, fields_of_parameter, head, instance_bytes, local_bytes, names, parameter, parameter_bit, parameter_byte, parameter_row, parameter_rows, parameters, parts_of_block, parts_of_records, plain_block, record_of_block, record_of_param, records, records_of, row_of_body_parts, same_state, section_field, width_field, zero_u8}
+use Rattle.flat_code.specs.Codes.{are_ops, code_layout}
+use Rattle.flat_code.specs.Image.{Head, IsProgram, body, body_rows, code_block_layout, code_blocks, counts_layout, data_blocks_layout, fields_of_parameter, head_layout, instance_bytes, local_length_layout, names, parameter_layout, parameter_bit, parameter_byte, parameter_row, parameter_rows, parameters, parts_of_block, parts_of_records, plain_block, record_of_block, record_of_param, records, records_of, row_of_body_parts, same_state, section_field, width_field, zero_u8}
 use Rattle.flat_code.specs.Layout.{chain}
 use Rattle.flat_code.specs.Ops.{OpData}
 use Rattle.flat_code.specs.Programs.{CodeBlock, Program}
@@ -25,15 +25,15 @@ record HeadFits (h : Head) : Type 0 where
   instance_len : h.instance_bytes < 65536
   statements : h.statement_count < 65536
 
-local_word : (kind n : ℕ) → (local_bytes kind).good n ≡ true → n < 65536
-unfolding local_bytes
+local_word : (kind n : ℕ) → (local_length_layout kind).good n ≡ true → n < 65536
+unfolding local_length_layout
 local_word kind n good = word n _ good
 
 instance_word : (kind n : ℕ) → (instance_bytes kind).good n ≡ true → n < 65536
 unfolding instance_bytes
 instance_word kind n good = word n _ good
 
-head_fits : (before : ℕ × ℕ) (h : Head) → (head before).good h ≡ true → HeadFits h
+head_fits : (before : ℕ × ℕ) (h : Head) → (head_layout before).good h ≡ true → HeadFits h
 head_fits before h good =
     let parts = good_head before h good in
     record {
@@ -48,8 +48,8 @@ byte_word : (kind instance w n : ℕ) → (parameter_byte kind instance w).good 
 unfolding parameter_byte
 byte_word kind instance w n good = word n _ good
 
-param_fits : (kind instance : ℕ) (p : Param) → (parameter kind instance).good (record_of_param p) ≡ true → ParamFits p
-unfolding parameter parameter_rows
+param_fits : (kind instance : ℕ) (p : Param) → (parameter_layout kind instance).good (record_of_param p) ≡ true → ParamFits p
+unfolding parameter_layout parameter_rows
 param_fits kind instance p good =
     let x = parameter_row (fields_of_parameter (record_of_param p)) in
     let a = chain_parts section_field (λ s. chain width_field (λ w. chain (parameter_byte kind instance w) (λ byte. chain (parameter_bit kind) (λ bit. zero_u8)))) x good in
@@ -59,14 +59,14 @@ param_fits kind instance p good =
 
 places_fit : (h : Head) (ps : List Param) → (parameters h).good (map record_of_param ps) ≡ true → AllByRecursion ParamFits ps
 unfolding parameters
-places_fit h ps good = all_of_many (λ s. parameter h.kind h.instance_bytes) same_state record_of_param ParamFits (λ s p. param_fits h.kind h.instance_bytes p) 0 h.parameter_count ps good
+places_fit h ps good = all_of_many (λ s. parameter_layout h.kind h.instance_bytes) same_state record_of_param ParamFits (λ s p. param_fits h.kind h.instance_bytes p) 0 h.parameter_count ps good
 
-ops_are : (n : ℕ) (ops : List OpData) → (code_of false n).good ops ≡ true → are_ops ops ≡ true
-unfolding code_of
+ops_are : (n : ℕ) (ops : List OpData) → (code_layout false n).good ops ≡ true → are_ops ops ≡ true
+unfolding code_layout
 ops_are n ops good = (and_parts (are_ops ops) _ (and_parts (are_ops ops && _) _ good).0).0
 
-block_fits : (before : ℕ × ℕ) (b : CodeBlock) → (code_block false before).good (record_of_block b) ≡ true → BlockFits b
-unfolding code_block plain_block
+block_fits : (before : ℕ × ℕ) (b : CodeBlock) → (code_block_layout false before).good (record_of_block b) ≡ true → BlockFits b
+unfolding code_block_layout plain_block
 block_fits before b good =
     let x = parts_of_block (record_of_block b) in
     let p = good_block false before 0 x good in
@@ -83,8 +83,8 @@ unfolding body records body_rows
 program_fits p h =
     let x = parts_of_records (records_of p) in
     let row = row_of_body_parts x in
-    let a = chain_parts counts (λ c. chain (code_blocks false c.code_blocks) (λ blocks. chain (data_blocks c.data_blocks) (λ datas. names c.names))) row h.good in
-    let b = chain_parts (code_blocks false x.counts.code_blocks) (λ blocks. chain (data_blocks x.counts.data_blocks) (λ datas. names x.counts.names)) row.1 a.1 in
+    let a = chain_parts counts_layout (λ c. chain (code_blocks false c.code_blocks) (λ blocks. chain (data_blocks_layout c.data_blocks) (λ datas. names c.names))) row h.good in
+    let b = chain_parts (code_blocks false x.counts.code_blocks) (λ blocks. chain (data_blocks_layout x.counts.data_blocks) (λ datas. names x.counts.names)) row.1 a.1 in
     all_of_blocks false BlockFits block_fits x.counts.code_blocks p.code_blocks b.0
 
 -- a parameter too far behind

@@ -3,9 +3,9 @@ use Rattle.std.proofs.Common.{◌≡◌, ℕ, ◌<◌, ◌≤◌, Bool, true, fa
 use Rattle.std.proofs.lemmas.Bool.Decides.{nat_tests}
 use Rattle.plc_base.specs.declared.places.Width.{Width}
 use Rattle.flat_code.proofs.CodeLemmas.{operation_again}
-use Rattle.flat_code.specs.Forms.{payload_fits, actual}
-use Rattle.flat_code.specs.Kinds.{kind_of}
-use Rattle.flat_code.specs.OpCodes.{code_of}
+use Rattle.flat_code.specs.Forms.{payload_fits, passed_coding}
+use Rattle.flat_code.specs.Kinds.{jump_number}
+use Rattle.flat_code.specs.OpCodes.{op_code_of}
 use Rattle.flat_code.specs.Ops.{is_instruction, is_op, op_of}
 use Rattle.flat_code.specs.Table.{admits, takes_of}
 use Rattle.flat_code.specs.declared.kinds.JumpOperation.{JumpOperation}
@@ -52,25 +52,25 @@ alone code last o still h = record {
   never = λ f. ap (λ (t : Bool). t && true) (ap (λ (x : Operand). is_op code x) (aimed_still f o still) ∙ h);
 }
 
-instruction_fails : (w : Operation) (o : Operand) → is_instruction w o ≡ false → is_op (code_of w) o ≡ false
+instruction_fails : (w : Operation) (o : Operand) → is_instruction w o ≡ false → is_op (op_code_of w) o ≡ false
 unfolding is_op is_instruction takes_of
-instruction_fails w o h = rw (operation_again w) (and_front (ltb (code_of w) 128) _ _ h)
+instruction_fails w o h = rw (operation_again w) (and_front (ltb (op_code_of w) 128) _ _ h)
 
 operand_fails : (code : ℕ) (o : Operand) → payload_fits o ≡ false → is_op code o ≡ false
 unfolding is_op
 operand_fails code o h = ap (λ (t : Bool). ltb code 128 && admits (takes_of code) o && t) h ∙ and_false _
 
 -- an operation that doesn't take the operand
-pub not_taken : (w : Operation) (last : Bool) (o : Operand) → IsStill o → None ≡ cond (is_instruction w o) (Some (op_of (code_of w) last o)) None
-    → HasNoOp (op_of (code_of w) last o ∷ [])
-not_taken w last o still h = alone (code_of w) last o still (instruction_fails w o (fails (is_instruction w o) h))
+pub not_taken : (w : Operation) (last : Bool) (o : Operand) → IsStill o → None ≡ cond (is_instruction w o) (Some (op_of (op_code_of w) last o)) None
+    → HasNoOp (op_of (op_code_of w) last o ∷ [])
+not_taken w last o still h = alone (op_code_of w) last o still (instruction_fails w o (fails (is_instruction w o) h))
   where
-    fails : (b : Bool) → None ≡ cond b (Some (op_of (code_of w) last o)) None → b ≡ false
+    fails : (b : Bool) → None ≡ cond b (Some (op_of (op_code_of w) last o)) None → b ≡ false
     fails true e = absurd cc
     fails false e = refl
 
-pub no_operand : (w : Operation) (last : Bool) (o : Operand) → IsNoOperand o → HasNoOp (op_of (code_of w) last o ∷ [])
-no_operand w last o h = alone (code_of w) last o h.still (operand_fails (code_of w) o h.never)
+pub no_operand : (w : Operation) (last : Bool) (o : Operand) → IsNoOperand o → HasNoOp (op_of (op_code_of w) last o ∷ [])
+no_operand w last o h = alone (op_code_of w) last o h.still (operand_fails (op_code_of w) o h.never)
 
 far : (n : ℕ) → 256 ≤ n → ltb n 256 ≡ false
 far n h = grind (arith, nat_tests)
@@ -80,17 +80,17 @@ pub far_parameter : (index : ℕ) (w : Width) → 256 ≤ index → IsNoOperand 
 far_parameter index w h = record { still = tt; never = ap (λ (t : Bool). t && true) (far index h) }
 
 pub far_passing : (index : ℕ) (a : Passed) → 256 ≤ index → IsNoOperand (operand.Pass index a)
-far_passing index a h = record { still = tt; never = ap (λ (t : Bool). t && actual.fits a) (far index h) }
+far_passing index a h = record { still = tt; never = ap (λ (t : Bool). t && passed_coding.fits a) (far index h) }
 
 pub far_passed : (index own : ℕ) (w : Width) → 256 ≤ own → IsNoOperand (operand.Pass index (passed.Parameter own w))
-unfolding actual
+unfolding passed_coding
 far_passed index own w h = record {
   still = tt;
   never = ap (λ (t : Bool). ltb index 256 && (t && true)) (far own h) ∙ and_false (ltb index 256);
 }
 
 -- a jump is an op, wherever it leads
-kind_small : (how : JumpOperation) → kind_of how < 18
+kind_small : (how : JumpOperation) → jump_number how < 18
 kind_small jump.Ju = omega arith
 kind_small jump.Jl = omega arith
 kind_small jump.Jc = omega arith
@@ -114,8 +114,8 @@ jump_taken : (kind target : ℕ) → kind < 18 → target < 4294967296 → is_in
 unfolding is_instruction admits
 jump_taken kind target k t = grind (arith, nat_tests)
 
-pub jumps : (how : JumpOperation) (target : ℕ) → target < 4294967296 → is_instruction operation.Jump (operand.Jump (kind_of how) target) ≡ true
-jumps how target t = jump_taken (kind_of how) target (kind_small how) t
+pub jumps : (how : JumpOperation) (target : ℕ) → target < 4294967296 → is_instruction operation.Jump (operand.Jump (jump_number how) target) ≡ true
+jumps how target t = jump_taken (jump_number how) target (kind_small how) t
 
 pub jump_ops : (how : JumpOperation) (n target : ℕ) → ops_of (jump_instr how n target) ≡ jump_op how target ∷ []
 unfolding ops_of

@@ -13,7 +13,7 @@ use Rattle.flat_code.specs.Ops.{OpData}
 use Rattle.flat_code.specs.declared.operands.Operand.TheVariants as operand
 use Rattle.flat_code.specs.declared.operations.Operation.TheVariants as operation
 use Rattle.stl_ast.specs.declared.statements.Actual.{Actual}
-use Rattle.plc_base.specs.Folding.{folded}
+use Rattle.plc_base.specs.Folding.{upper_case_name}
 use Rattle.stl_types.specs.Context.{Context}
 use Rattle.stl_types.specs.declared.parameters.Formal.{Formal}
 use Rattle.stl_codegen.specs.Emitted.{passing, preparing}
@@ -44,5 +44,5 @@ swapped xs ys = by (bytes_eq xs ys) (bytes_eq ys xs) (bytes_eq-Decides xs ys) (b
     by false true h k = let e : false ≡ true = h.1 (sym (k.0 refl)) in absurd cc
     by false false h k = refl
 
-pub same_by_order : (name upper : List ℕ) → is_eq (slice_cmp nat_cmp upper (folded name)) ≡ bytes_eq (folded name) upper
-same_by_order name upper = is_eq-slice_cmp upper (folded name) ∙ swapped upper (folded name)
+pub same_by_order : (name upper : List ℕ) → is_eq (slice_cmp nat_cmp upper (upper_case_name name)) ≡ bytes_eq (upper_case_name name) upper
+same_by_order name upper = is_eq-slice_cmp upper (upper_case_name name) ∙ swapped upper (upper_case_name name)

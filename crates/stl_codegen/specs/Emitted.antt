@@ -3,8 +3,8 @@ use Rattle.std.specs.Prelude.{ℕ, true, false, List, [], ◌∷◌, ◌++◌, O
 use Rattle.plc_base.specs.Kinds.{kind_number}
 use Rattle.plc_base.specs.declared.blocks.BlockId.{BlockId}
 use Rattle.flat_code.specs.Instr.{Instr, Passing, Does, Jumps, JumpsByList, Calls, Returns}
-use Rattle.flat_code.specs.Kinds.{kind_of}
-use Rattle.flat_code.specs.OpCodes.{code_of}
+use Rattle.flat_code.specs.Kinds.{jump_number}
+use Rattle.flat_code.specs.OpCodes.{op_code_of}
 use Rattle.flat_code.specs.Ops.{OpData, op_of}
 use Rattle.flat_code.specs.declared.kinds.JumpOperation.{JumpOperation}
 use Rattle.flat_code.specs.declared.kinds.JumpOperation.TheVariants as jump
@@ -17,11 +17,11 @@ use Rattle.flat_code.specs.declared.operations.Operation.TheVariants as operatio
 
 -- an op that prepares its statement, and the op that does it
 abbrev pub preparing : Operation → Operand → OpData
-preparing w o = op_of (code_of w) false o
+preparing w o = op_of (op_code_of w) false o
 
 -- the last op of a statement, which has the end mark
 abbrev pub ending : Operation → Operand → OpData
-ending w o = op_of (code_of w) true o
+ending w o = op_of (op_code_of w) true o
 
 -- USEDB: the data block that the statement opens first
 abbrev pub opening : Option ℕ → List OpData
@@ -35,7 +35,7 @@ passing (p ∷ ps) = preparing operation.Pass (operand.Pass p.index p.actual) �
 
 -- a jump, also LOOP and JL, by its kind and its target
 abbrev pub jump_op : JumpOperation → (target : ℕ) → OpData
-jump_op how target = ending operation.Jump (operand.Jump (kind_of how) target)
+jump_op how target = ending operation.Jump (operand.Jump (jump_number how) target)
 
 -- 0 stands for no instance
 abbrev pub instance_number : Option ℕ → ℕ

@@ -7,7 +7,7 @@ use Rattle.plc_base.specs.declared.places.Area.{Area}
 use Rattle.plc_base.specs.declared.places.Area.TheVariants as area
 use Rattle.plc_base.specs.declared.places.Width.{Width}
 use Rattle.flat_code.specs.Instr.{Returns}
-use Rattle.plc_base.specs.Folding.{folded}
+use Rattle.plc_base.specs.Folding.{upper_case_name}
 use Rattle.flat_code.specs.Programs.{DataBlock, NameEntry, Program}
 use Rattle.flat_code.specs.declared.programs.Param.{Param}
 use Rattle.flat_code.specs.declared.operations.EndOperation.TheVariants as ends
@@ -163,7 +163,7 @@ has_name _ = false
 abbrev pub name_entry : List ℕ → Target → List NameEntry
 name_entry name (target.Variable place width) =
     if has_name place.area
-    then record { name = folded name; place = place; width = width } ∷ [] else []
+    then record { name = upper_case_name name; place = place; width = width } ∷ [] else []
 name_entry name _ = []
 
 -- the names of a program, rising by their bytes

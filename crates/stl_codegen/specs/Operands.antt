@@ -5,7 +5,7 @@ use Rattle.plc_base.specs.declared.places.Area.{Area}
 use Rattle.plc_base.specs.declared.places.Area.TheVariants as area
 use Rattle.plc_base.specs.declared.places.Place.{Place}
 use Rattle.plc_base.specs.declared.places.Width.{Width}
-use Rattle.flat_code.specs.Kinds.{condition_of}
+use Rattle.flat_code.specs.Kinds.{condition_number}
 use Rattle.flat_code.specs.declared.operands.Operand.{Operand as FlatOperand}
 use Rattle.flat_code.specs.declared.operands.Operand.TheVariants as flat
 use Rattle.stl_ast.specs.declared.literals.Literal.{Literal}
@@ -80,7 +80,7 @@ operand_of o (view.Counter number) = flat.Numbered 2 number
 operand_of o (view.NumberBy what from byte) = numbered_operand what from byte
 operand_of o view.Constant = flat.Literal (constant_bits o)
 operand_of o (view.Pointer a byte bit) = flat.Literal (pointer_bits a byte bit)
-operand_of o (view.OfStatus flag) = flat.OfStatus (condition_of flag)
+operand_of o (view.OfStatus flag) = flat.OfStatus (condition_number flag)
 operand_of o (view.Register which) = register_operand which
 operand_of o (view.OpenBlock di number) = flat.OpenBlock (if di then 2 else 1) number
 operand_of o _ = flat.Nothing

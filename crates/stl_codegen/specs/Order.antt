@@ -2,7 +2,7 @@
 use Rattle.std.specs.Prelude.{nat_eq, nat_lt, Bool, ◌&&◌, ◌||◌, List, [], ◌∷◌, if◌then◌else◌}
 use Rattle.plc_base.specs.Kinds.{kind_number}
 use Rattle.plc_base.specs.declared.blocks.BlockId.{BlockId}
-use Rattle.flat_code.specs.Faults.{is_before}
+use Rattle.flat_code.specs.Faults.{is_earlier_name}
 use Rattle.flat_code.specs.Programs.{CodeBlock, DataBlock, NameEntry}
 use Rattle.stl_codegen.specs.Compiled.{StatedBlock}
 
@@ -25,7 +25,7 @@ is_data_before a b = nat_lt a.number b.number
 
 -- a name stands before another by its bytes, and before those that it begins
 abbrev pub is_name_before : NameEntry → NameEntry → Bool
-is_name_before a b = is_before a.name b.name
+is_name_before a b = is_earlier_name a.name b.name
 
 -- a record behind those that come before it
 abbrev pub inserted : {A : Type 0} → (A → A → Bool) → A → List A → List A

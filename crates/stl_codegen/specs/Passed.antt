@@ -8,7 +8,7 @@ use Rattle.flat_code.specs.declared.operands.Passed.{Passed}
 use Rattle.flat_code.specs.declared.operands.Passed.TheVariants as passed
 use Rattle.stl_ast.specs.declared.operands.Operand.{Operand}
 use Rattle.stl_ast.specs.declared.statements.Actual.{Actual}
-use Rattle.plc_base.specs.Folding.{folded}
+use Rattle.plc_base.specs.Folding.{upper_case_name}
 use Rattle.block_layout.specs.Offsets.{width_of}
 use Rattle.stl_types.specs.Context.{Context}
 use Rattle.stl_types.specs.declared.parameters.Formal.{Formal}
@@ -41,7 +41,7 @@ passed_seen o _ = None
 
 -- the actual parameter that is supplied for a parameter
 abbrev pub supplied : List Actual → Formal → Option Actual
-supplied actuals f = find (λ a. bytes_eq (folded a.name) f.name) actuals
+supplied actuals f = find (λ a. bytes_eq (upper_case_name a.name) f.name) actuals
 
 -- what is passed, with the index of its parameter, in a list; nothing where nothing can be passed
 abbrev pub with_index : ℕ → Option Passed → List Passing

@@ -1,5 +1,5 @@
 ghost use Rattle.std.specs.Prelude.{◌≡◌, IfOk, false, true, [], ◌∷◌};
-ghost use Rattle.flat_code.specs.OpCodes.{code_of};
+ghost use Rattle.flat_code.specs.OpCodes.{op_code_of};
 ghost use Rattle.flat_code.specs.Ops.{op_of};
 ghost use Rattle.flat_code.specs.declared.operands.Operand.TheVariants as operands;
 ghost use Rattle.flat_code.specs.declared.operands.Passed.TheVariants as passed;
@@ -29,7 +29,7 @@ pub(crate) fn append(
 ) -> Result<Option<()>, AllocError>
     requires { IsStill operand }
     ensures { IfOk result (λ done. Appended ops.old.items ops.new.items
-        (op_of (code_of operation) last operand ∷ []) done) }
+        (op_of (op_code_of operation) last operand ∷ []) done) }
 {
     let Some(op) = Op::taken(operation, last, operand) else {
         return Ok(None);

@@ -1,7 +1,7 @@
 ghost use Rattle.std.specs.Prelude.{◌≡◌, IfOk, [], ◌∷◌, find};
 ghost use Rattle.std.specs.Option.{option_copied};
 ghost use Rattle.std.specs.Str.{bytes_eq};
-ghost use Rattle.plc_base.specs.Folding.{folded};
+ghost use Rattle.plc_base.specs.Folding.{upper_case_name};
 ghost use Rattle.stl_types.specs.Resolution.{seen};
 ghost use Rattle.stl_codegen.specs.Emitted.{passing};
 ghost use Rattle.stl_codegen.specs.Fitting.{Appended};
@@ -93,13 +93,13 @@ fn append_seen(
 /// Whether a name is this one in upper case.
 #[tactic(auto, using(crate::proofs::PassingLemmas::same_by_order))]
 fn is_folded(name: &[u8], upper: &[u8]) -> bool
-    ensures { result ≡ bytes_eq (folded name.now) upper.now }
+    ensures { result ≡ bytes_eq (upper_case_name name.now) upper.now }
 {
     order_of(upper, name).is_eq()
 }
 
 fn is_for(actual: &Actual, formal: &Formal) -> bool
-    ensures { result ≡ bytes_eq (folded actual.now.name) formal.now.name }
+    ensures { result ≡ bytes_eq (upper_case_name actual.now.name) formal.now.name }
 {
     is_folded(actual.name.as_bytes(), formal.name.as_bytes())
 }

@@ -6,7 +6,7 @@ ghost use Rattle.stl_list.specs.Lines.{first_line as first_line_of};
 ghost use Rattle.stl_list.specs.Sections.{sections as sections_of};
 ghost use Rattle.stl_list.specs.Signatures.{formals_of as formals_in};
 ghost use Rattle.stl_list.specs.Statements.{body_of as body_on};
-ghost use Rattle.image_file.specs.Writing.{BlockFits};
+ghost use Rattle.image_file.specs.Writing.{BlockFitsFields};
 ghost use Rattle.stl_list.specs.CodeBlocks.{line_reached, listed_block, listed_blocks, result_of};
 
 use crate::lines::{first_line, line_behind, lines_from};
@@ -35,7 +35,7 @@ fn body_behind(
     reached: u32,
     block: &CodeBlock,
 ) -> Result<Vec<Statement>, NoMemory>
-    requires { BlockFits block.now }
+    requires { BlockFitsFields block.now }
     ensures { IfOk result (λ v. v.items
         ≡ body_on signatures.now (lines_behind reached block.now.lines) block.now) }
 {
@@ -80,7 +80,7 @@ fn listed_block(
     reached: u32,
     block: &CodeBlock,
 ) -> Result<Block, NoMemory>
-    requires { BlockFits block.now }
+    requires { BlockFitsFields block.now }
     ensures { IfOk result (λ b. b ≡ listed_block signatures.now reached block.now) }
 {
     let line = reached.max(first_line(block));
@@ -96,7 +96,7 @@ pub(crate) fn add_code_blocks(
     signatures: &[Signature],
     blocks: &[CodeBlock],
 ) -> Result<u32, NoMemory>
-    requires { All BlockFits blocks.now }
+    requires { All BlockFitsFields blocks.now }
     ensures listed { IfOk result (λ _. listed.new.items
         ≡ listed.old.items ++ listed_blocks signatures.now 1 blocks.now) }
     ensures line { IfOk result (λ line. line ≡ line_reached 1 blocks.now) }

@@ -1,7 +1,7 @@
 //! The data blocks of a listing.
 ghost use Rattle.std.specs.Prelude.{◌≡◌, ◌<◌, ◌++◌, [], Some, None, length, IfOk};
 ghost use Rattle.std.specs.List.{All};
-ghost use Rattle.image_file.specs.Writing.{DataFits};
+ghost use Rattle.image_file.specs.Writing.{DataFitsFields};
 ghost use Rattle.std.specs.Option.{option_copied, option_map};
 ghost use Rattle.stl_list.specs.DataBlocks.{
   data_block,
@@ -145,7 +145,7 @@ fn listed_block(
     line: u32,
     block: &DataBlock,
 ) -> Result<Block, NoMemory>
-    requires { DataFits block.now }
+    requires { DataFitsFields block.now }
     ensures { IfOk result (λ b. b ≡ listed_data signatures.now line block.now.number
         block.now.bytes block.now.instance_of) }
 {
@@ -168,7 +168,7 @@ pub(crate) fn add_data_blocks(
     line: u32,
     blocks: &[DataBlock],
 ) -> Result<(), NoMemory>
-    requires { All DataFits blocks.now }
+    requires { All DataFitsFields blocks.now }
     ensures { IfOk result (λ _. listed.new.items
         ≡ listed.old.items ++ listed_data_blocks signatures.now line blocks.now) }
 {

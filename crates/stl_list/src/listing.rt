@@ -1,7 +1,7 @@
 ghost use Rattle.std.specs.Prelude.{◌≡◌, ◌<◌, ◌≤◌, ◌⊎◌, nat_lt, length, IfOk, IfSome};
 ghost use Rattle.std.specs.List.{All, list_any};
 ghost use Rattle.std.specs.Option.{IfNone};
-ghost use Rattle.image_file.specs.Writing.{BlockFits, DataFits};
+ghost use Rattle.image_file.specs.Writing.{BlockFitsFields, DataFitsFields};
 ghost use Rattle.stl_list.specs.CodeBlocks.{in_lines as sorted_by_lines};
 ghost use Rattle.stl_list.specs.Joined.{chains_of};
 ghost use Rattle.stl_list.specs.Listing.{
@@ -40,8 +40,8 @@ fn blocks_by(
     code_blocks: &[CodeBlock],
     data_blocks: &[DataBlock],
 ) -> Result<Vec<Block>, NoMemory>
-    requires code { All BlockFits code_blocks.now }
-    requires data { All DataFits data_blocks.now }
+    requires code { All BlockFitsFields code_blocks.now }
+    requires data { All DataFitsFields data_blocks.now }
     ensures { IfOk result (λ v. v.items
         ≡ blocks_from signatures.now code_blocks.now data_blocks.now) }
 {
@@ -67,8 +67,8 @@ fn tree_by(
     data_blocks: &[DataBlock],
 ) -> Result<Tree, NoMemory>
     requires few { length code_blocks.items < 65536 }
-    requires code { All BlockFits code_blocks.items }
-    requires data { All DataFits data_blocks.now }
+    requires code { All BlockFitsFields code_blocks.items }
+    requires data { All DataFitsFields data_blocks.now }
     ensures { IfOk result (λ t. t.blocks ≡ blocks_from
         (signatures_in (chains_of code_blocks.items) code_blocks.items)
         (sorted_by_lines code_blocks.items) data_blocks.now) }

@@ -1,6 +1,6 @@
 //! The statements of a code block.
 ghost use Rattle.std.specs.Prelude.{◌≡◌, ◌++◌, IfOk};
-ghost use Rattle.image_file.specs.Writing.{BlockFits};
+ghost use Rattle.image_file.specs.Writing.{BlockFitsFields};
 ghost use Rattle.stl_list.specs.Statements.{body_of, label_alone, label_of_end};
 
 use crate::actuals::actuals_by;
@@ -194,7 +194,7 @@ pub(crate) fn body_of(
     lines: &[u32],
     block: &CodeBlock,
 ) -> Result<Vec<Statement>, NoMemory>
-    requires { BlockFits block.now }
+    requires { BlockFitsFields block.now }
     ensures { IfOk result (λ v. v.items ≡ body_of signatures.now lines.now block.now) }
 {
     let ops = block.code.as_slice();

@@ -5,7 +5,7 @@ use Rattle.std.specs.Char.{to_ascii_uppercase}
 use Rattle.std.proofs.lemmas.Bool.{cases_Bool, false_from_ne_true}
 use Rattle.std.proofs.lemmas.List.{length-map}
 use Rattle.std.proofs.lemmas.Slice.Eq.{bytes_eq-Decides}
-use Rattle.plc_base.specs.Folding.{folded, is_same_name}
+use Rattle.plc_base.specs.Folding.{upper_case_name, is_same_name}
 use Rattle.stl_symbols.specs.Names.{place_of}
 use Rattle.stl_symbols.specs.Symbol.{Symbol, symbol_named}
 
@@ -14,18 +14,18 @@ next s list None = refl
 next s list (Some k) = refl
 
 -- the first symbol of a name stands at the first place of its folded name
-pub symbol_placed : (name : List ℕ) (list : List Symbol) → symbol_named name list ≡ option_and_then (λ k. slice_get list k) (place_of (folded name) (map (λ s. folded s.name) list))
+pub symbol_placed : (name : List ℕ) (list : List Symbol) → symbol_named name list ≡ option_and_then (λ k. slice_get list k) (place_of (upper_case_name name) (map (λ s. upper_case_name s.name) list))
 unfolding symbol_named
 symbol_placed name [] = refl
 symbol_placed name (s ∷ list) =
     ⊎_elim
     (λ y. rw y refl)
-    (λ n. rw n (symbol_placed name list ∙ next s list (place_of (folded name) (map (λ t. folded t.name) list))))
+    (λ n. rw n (symbol_placed name list ∙ next s list (place_of (upper_case_name name) (map (λ t. upper_case_name t.name) list))))
     (cases_Bool (is_same_name name s.name))
 
 same_length : (a b : List ℕ) → is_same_name a b ≡ true → length a ≡ length b
 same_length a b same =
-    sym (length-map a to_ascii_uppercase) ∙ ap (λ (l : List ℕ). length l) ((bytes_eq-Decides (folded a) (folded b)).0 same) ∙ length-map b to_ascii_uppercase
+    sym (length-map a to_ascii_uppercase) ∙ ap (λ (l : List ℕ). length l) ((bytes_eq-Decides (upper_case_name a) (upper_case_name b)).0 same) ∙ length-map b to_ascii_uppercase
 
 other_length : (a b : List ℕ) → length b < length a → is_same_name a b ≡ false
 other_length a b longer = false_from_ne_true (is_same_name a b) (λ y. omega (arith, same_length a b y, longer))

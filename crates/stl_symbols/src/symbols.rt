@@ -1,6 +1,6 @@
 ghost use Rattle.std.specs.Prelude.{◌≡◌, ◌≤◌, length, map, slice_get, All};
 ghost use Rattle.std.specs.Option.{option_map};
-ghost use Rattle.plc_base.specs.Folding.{folded};
+ghost use Rattle.plc_base.specs.Folding.{upper_case_name};
 ghost use Rattle.stl_symbols.specs.Symbol.{symbol_named};
 
 use crate::names::Names;
@@ -45,7 +45,7 @@ fn target_at(list: &[Symbol], place: usize) -> Option<Target>
 /// What the symbol of a name names, by the names with the letters a to z as A to Z.
 #[tactic(auto, using(crate::proofs::SymbolLemmas::symbol_placed, crate::proofs::SymbolLemmas::no_long_name))]
 fn target_of(list: &[Symbol], names: &Names, name: &[u8]) -> Option<Target>
-    requires names { names.now ≡ map (λ symbol. folded symbol.name) list.now }
+    requires names { names.now ≡ map (λ symbol. upper_case_name symbol.name) list.now }
     requires short { All (λ symbol. length symbol.name ≤ 24) list.now }
     ensures { result ≡ option_map (λ symbol. symbol.target) (symbol_named name.now list.now) }
 {
@@ -66,14 +66,14 @@ pub struct Symbols {
 
 impl Model for Symbols {
     ghost use Rattle.std.specs.Prelude.{◌≡◌, ◌≤◌, ℕ, List, map, length, All};
-    ghost use Rattle.plc_base.specs.Folding.{folded};
+    ghost use Rattle.plc_base.specs.Folding.{upper_case_name};
     ghost use Rattle.stl_symbols.specs.Symbol.{Symbol as SymbolData};
 
     ghost Value = { List SymbolData };
 
     ghost view = { λ s. s.list.items };
 
-    ghost invariant = { λ s. (s.names ≡ map (λ symbol. folded symbol.name) s.list.items)
+    ghost invariant = { λ s. (s.names ≡ map (λ symbol. upper_case_name symbol.name) s.list.items)
         × All (λ symbol. length symbol.name ≤ 24) s.list.items };
 }
 

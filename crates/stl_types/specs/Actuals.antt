@@ -10,7 +10,7 @@ use Rattle.stl_ast.specs.declared.declarations.Simple.{Simple}
 use Rattle.stl_ast.specs.declared.declarations.Simple.TheVariants as simple
 use Rattle.stl_ast.specs.declared.operands.Operand.{Operand}
 use Rattle.stl_ast.specs.declared.operands.Operand.TheVariants as operand
-use Rattle.plc_base.specs.Folding.{folded}
+use Rattle.plc_base.specs.Folding.{upper_case_name}
 use Rattle.block_layout.specs.Fits.{fits}
 use Rattle.block_layout.specs.Offsets.{width_of}
 use Rattle.stl_types.specs.Context.{Context}
@@ -25,7 +25,7 @@ use Rattle.stl_types.specs.declared.views.ResolvedOperand.TheVariants as view
 
 -- the parameter of this name
 abbrev pub formal_named : List Formal → List ℕ → Option Formal
-formal_named formals name = find (λ f. bytes_eq (folded name) f.name) formals
+formal_named formals name = find (λ f. bytes_eq (upper_case_name name) f.name) formals
 
 -- VAR_INPUT
 abbrev pub is_input_section : PartKind → Bool

@@ -6,7 +6,7 @@ use Rattle.stl_ast.specs.declared.blocks.Block.{Block}
 use Rattle.stl_ast.specs.declared.mnemonics.Mnemonic.{Mnemonic}
 use Rattle.stl_ast.specs.declared.mnemonics.Mnemonic.TheVariants as code
 use Rattle.stl_ast.specs.declared.statements.Statement.{Statement}
-use Rattle.plc_base.specs.Gathered.{gathered}
+use Rattle.plc_base.specs.Gathered.{refusals_along}
 use Rattle.plc_base.specs.Least.{broken_if}
 use Rattle.stl_types.specs.Bodies.{in_bodies}
 use Rattle.stl_types.specs.declared.brackets.Bracket.{Bracket}
@@ -48,7 +48,7 @@ behind_all brackets (s ∷ ss) = behind_all (behind brackets s) ss
 -- a walk with the brackets that are open
 abbrev pub with_brackets : (List Bracket → Statement → List Refusal) → List Bracket
     → List Statement → List Refusal
-with_brackets broken brackets body = gathered (λ s. false) broken behind brackets body
+with_brackets broken brackets body = refusals_along (λ s. false) broken behind brackets body
 
 -- a bracket closes where none is open
 abbrev pub closes_none : List Bracket → Statement → Bool

@@ -13,8 +13,8 @@ use Rattle.stl_ast.specs.declared.operands.Operand.TheVariants as operand
 use Rattle.stl_ast.specs.declared.statements.Actual.{Actual}
 use Rattle.stl_ast.specs.declared.statements.Statement.{Statement}
 use Rattle.stl_ast.specs.Statements.{has_actuals}
-use Rattle.plc_base.specs.Folding.{folded}
-use Rattle.plc_base.specs.Gathered.{gathered}
+use Rattle.plc_base.specs.Folding.{upper_case_name}
+use Rattle.plc_base.specs.Gathered.{refusals_along}
 use Rattle.plc_base.specs.Least.{broken_if}
 use Rattle.stl_symbols.specs.Names.{place_of}
 use Rattle.block_layout.specs.Blocks.{named_block}
@@ -50,7 +50,7 @@ has_formal formals name = list_any (λ f. bytes_eq name f.name) formals
 
 -- 34: the call names no such parameter
 abbrev pub names_none : List Formal → Actual → Bool
-names_none formals a = not (has_formal formals (folded a.name))
+names_none formals a = not (has_formal formals (upper_case_name a.name))
 
 -- 34 in a call, for each of its actual parameters
 abbrev pub unnamed : List Formal → List Actual → List Refusal
@@ -63,13 +63,13 @@ rule_34 c blocks = in_calls (λ c callee s. unnamed callee.formals s.actuals) c 
 -- 35: a parameter is supplied twice; the second one, and each later one
 abbrev pub is_supplied_twice : List Formal → (before : List (List ℕ)) → Actual → Bool
 is_supplied_twice formals before a =
-    not (names_none formals a) && is_some (place_of (folded a.name) before)
+    not (names_none formals a) && is_some (place_of (upper_case_name a.name) before)
 
 -- 35 in a call, with the names before
 abbrev pub supplied_twice : List Formal → (before : List (List ℕ)) → List Actual → List Refusal
 supplied_twice formals before actuals =
-    gathered (λ a. false) (λ before a. broken_if (is_supplied_twice formals before a) a.line 35)
-    (λ before a. before ++ folded a.name ∷ []) before actuals
+    refusals_along (λ a. false) (λ before a. broken_if (is_supplied_twice formals before a) a.line 35)
+    (λ before a. before ++ upper_case_name a.name ∷ []) before actuals
 
 -- 35, in all bodies
 unfoldable pub rule_35 : Context → List Block → List Refusal
@@ -78,7 +78,7 @@ rule_35 c blocks =
 
 -- the names that a call supplies, in upper case
 abbrev pub supplied : List Actual → List (List ℕ)
-supplied actuals = map (λ a. folded a.name) actuals
+supplied actuals = map (λ a. upper_case_name a.name) actuals
 
 -- 36: a parameter of a function or system function isn't supplied by CALL
 abbrev pub is_supplied : (names : List (List ℕ)) → Formal → Bool

@@ -7,7 +7,7 @@ use Rattle.stl_ast.specs.declared.blocks.Block.{Block}
 use Rattle.stl_ast.specs.declared.operands.Operand.{Operand}
 use Rattle.stl_ast.specs.declared.operands.Operand.TheVariants as operand
 use Rattle.stl_ast.specs.declared.statements.Statement.{Statement}
-use Rattle.plc_base.specs.Gathered.{gathered}
+use Rattle.plc_base.specs.Gathered.{refusals_along}
 use Rattle.plc_base.specs.Least.{broken_if}
 use Rattle.stl_symbols.specs.Names.{place_of}
 use Rattle.stl_types.specs.Bodies.{in_bodies}
@@ -39,7 +39,7 @@ unknown_labels labels body =
 -- rule 27 in a body: the second statement of a label, and each later one
 abbrev pub labels_twice : (before : List (List ℕ)) → List Statement → List Refusal
 labels_twice before body =
-    gathered (λ s. false) (λ before s. broken_if (is_twice before s.label) s.line 27)
+    refusals_along (λ s. false) (λ before s. broken_if (is_twice before s.label) s.line 27)
     (λ before s. before ++ label_of s.label) before body
 
 -- rule 26, in all bodies

@@ -9,7 +9,7 @@ use Rattle.stl_ast.specs.declared.blocks.Block.{Block}
 use Rattle.stl_ast.specs.declared.operands.Operand.{Operand}
 use Rattle.stl_ast.specs.declared.operands.Operand.TheVariants as operand
 use Rattle.stl_ast.specs.declared.statements.Statement.{Statement}
-use Rattle.plc_base.specs.Gathered.{gathered}
+use Rattle.plc_base.specs.Gathered.{refusals_along}
 use Rattle.plc_base.specs.Least.{broken_if}
 use Rattle.stl_symbols.specs.Names.{place_of}
 use Rattle.stl_types.specs.Bodies.{in_bodies}
@@ -44,6 +44,7 @@ pub record Landing : Type 0 where
 abbrev pub functions_of : List Bracket → List ℕ
 functions_of brackets = map (λ b. b.function) (take 8 brackets)
 
+-- what stands open: the functions of the brackets, and how many zones
 abbrev pub landing_of : Nesting → Landing
 landing_of n = record { functions = functions_of n.brackets; zones = length n.zones }
 
@@ -87,7 +88,7 @@ crosses labels landings n _ = false
 abbrev pub crossing_jumps : (labels : List (List ℕ)) → List Landing → List Statement
     → List Refusal
 crossing_jumps labels landings body =
-    gathered (λ s. false) (λ n s. broken_if (crosses labels landings n s.operand) s.line 33)
+    refusals_along (λ s. false) (λ n s. broken_if (crosses labels landings n s.operand) s.line 33)
     nesting_behind outside body
 
 -- rule 33, in all bodies

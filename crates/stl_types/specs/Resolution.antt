@@ -10,7 +10,7 @@ use Rattle.stl_ast.specs.declared.operands.Operand.{Operand}
 use Rattle.stl_ast.specs.declared.operands.Operand.TheVariants as operand
 use Rattle.stl_ast.specs.declared.operands.PathHead.{PathHead}
 use Rattle.stl_ast.specs.declared.operands.PathHead.TheVariants as head
-use Rattle.plc_base.specs.Folding.{folded, is_same_name}
+use Rattle.plc_base.specs.Folding.{upper_case_name, is_same_name}
 use Rattle.stl_symbols.specs.Symbol.{Symbol, symbol_named}
 use Rattle.stl_symbols.specs.declared.targets.Target.{Target}
 use Rattle.stl_symbols.specs.declared.targets.Target.TheVariants as target
@@ -42,7 +42,7 @@ symbol_seen (Some s) = Resolved (target_view s.target)
 
 -- a path: into the block's own variables, into a data block, or a symbol
 abbrev pub path_seen : Context → PathHead → List PathStep → Resolution
-path_seen c (head.Local name) steps = own_variable c (folded name) (folded_path steps)
+path_seen c (head.Local name) steps = own_variable c (upper_case_name name) (folded_path steps)
 path_seen c (head.InBlock name) steps = data_variable c name (folded_path steps)
 path_seen c (head.Symbol name) steps = symbol_seen (symbol_named name c.symbols)
 

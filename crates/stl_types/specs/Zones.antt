@@ -6,7 +6,7 @@ use Rattle.stl_ast.specs.declared.blocks.Block.{Block}
 use Rattle.stl_ast.specs.declared.mnemonics.Mnemonic.{Mnemonic}
 use Rattle.stl_ast.specs.declared.mnemonics.Mnemonic.TheVariants as code
 use Rattle.stl_ast.specs.declared.statements.Statement.{Statement}
-use Rattle.plc_base.specs.Gathered.{gathered}
+use Rattle.plc_base.specs.Gathered.{refusals_along}
 use Rattle.plc_base.specs.Least.{broken_if}
 use Rattle.stl_types.specs.Bodies.{in_bodies}
 
@@ -37,7 +37,7 @@ zones_behind_all zones (s ∷ ss) = zones_behind_all (zones_behind zones s) ss
 -- a walk with the zones that are open
 abbrev pub with_zones : (List ℕ → Statement → List Refusal) → (zones : List ℕ)
     → List Statement → List Refusal
-with_zones broken zones body = gathered (λ s. false) broken zones_behind zones body
+with_zones broken zones body = refusals_along (λ s. false) broken zones_behind zones body
 
 -- a zone ends where none is open
 abbrev pub ends_none : (zones : List ℕ) → Statement → Bool

@@ -1,7 +1,7 @@
 ghost use Rattle.std.specs.Prelude.{◌≡◌, ◌++◌, [], ◌∷◌, IfOk};
 ghost use Rattle.std.specs.List.{list_all};
 ghost use Rattle.std.specs.Str.{bytes_eq};
-ghost use Rattle.plc_base.specs.Folding.{folded};
+ghost use Rattle.plc_base.specs.Folding.{upper_case_name};
 ghost use Rattle.plc_base.specs.Least.{broken_if, least};
 ghost use Rattle.stl_types.specs.Calls.{
   has_formal,
@@ -66,7 +66,7 @@ pub(crate) fn least_unnamed(
 
 /// Adds the name of an actual behind those before it.
 fn add_name(names: &mut Names, alloc: Global, actual: &Actual) -> Result<(), AllocError>
-    ensures { IfOk result (λ _. names.new ≡ names.old ++ folded actual.now.name ∷ []) }
+    ensures { IfOk result (λ _. names.new ≡ names.old ++ upper_case_name actual.now.name ∷ []) }
 {
     let upper = actual.name.as_bytes().to_ascii_uppercase(alloc)?;
     names.add(alloc, upper.as_slice())

@@ -1,6 +1,6 @@
 ghost use Rattle.std.specs.Prelude.{◌≡◌, true};
 ghost use Rattle.plc_base.specs.StopCauses.{by_program};
-ghost use Rattle.ob_sched.specs.Scheduler.{retriggered};
+ghost use Rattle.ob_sched.specs.Scheduler.{cycle_retriggered};
 ghost use Rattle.ob_sched.specs.Views.{scheduler_of};
 ghost use Rattle.sys_funcs.specs.Functions.{time_tck as tells};
 ghost use Rattle.sys_funcs.specs.Returned.{LeavesReturned, passed};
@@ -12,7 +12,7 @@ use plc_base::stop_causes;
 
 /// SFC 43 RE_TRIGR: the cycle counter begins anew; the mark of an exceeded cycle time stays.
 pub fn re_trigr(s: &mut Sched, a: &mut Activation)
-    ensures sched { scheduler_of s.new ≡ retriggered (scheduler_of s.old) }
+    ensures sched { scheduler_of s.new ≡ cycle_retriggered (scheduler_of s.old) }
     ensures activation { a.new ≡ passed a.old }
 {
     s.re_trigger();

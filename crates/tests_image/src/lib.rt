@@ -5,6 +5,8 @@
 mod altered_fields;
 #[cfg(test)]
 mod building;
+mod checked_calls;
+mod checked_ops;
 #[cfg(test)]
 mod code_in_place;
 #[cfg(test)]
@@ -12,9 +14,7 @@ mod compare;
 #[cfg(test)]
 mod images;
 #[cfg(test)]
-mod judged_calls;
 #[cfg(test)]
-mod judged_ops;
 #[cfg(test)]
 mod large_images;
 #[cfg(test)]

@@ -1,6 +1,6 @@
 use crate::compare::same;
 use crate::tools::{expect_arrival, expect_best, running, start_best};
-use ob_sched::{Arrived, Passed, Sched, StartEvent, StartInfo};
+use ob_sched::{Arrived, Sched, StartEvent, StartInfo, TickResult};
 use plc_base::Mode;
 use std::process::Abort;
 
@@ -25,7 +25,7 @@ fn expect_tick(
 }
 
 /// These records are left.
-fn expect_records(rt: &impl Abort, passed: &Passed, records: &[(u16, u16)]) {
+fn expect_records(rt: &impl Abort, passed: &TickResult, records: &[(u16, u16)]) {
     same(rt, "records", passed.records.as_slice(), records);
 }
 
@@ -33,7 +33,7 @@ fn expect_records(rt: &impl Abort, passed: &Passed, records: &[(u16, u16)]) {
 /// left, among them these at their places.
 fn expect_second_cycle_time(
     rt: &impl Abort,
-    passed: &Passed,
+    passed: &TickResult,
     records: usize,
     rows: &[(usize, (u16, u16))],
 ) {
@@ -229,7 +229,7 @@ fn expect_error(rt: &impl Abort, sched: &mut Sched, error: (u16, u8, u8, u8)) {
 #[test]
 fn errors(rt: HostRuntime) {
     let mut sched = running(&rt, rt.alloc(), &[10, 40, 80, 85]);
-    let mut passed = Passed::new();
+    let mut passed = TickResult::new();
     let info = StartInfo::new(StartEvent::Arrival { ob: 40, value: 0 }, 16);
     for _ in 0..10 {
         sched.request(Mode::Run, 40, info, &mut passed);
@@ -260,7 +260,7 @@ fn errors(rt: HostRuntime) {
 #[test]
 fn errors_without_their_blocks(rt: HostRuntime) {
     let mut sched = running(&rt, rt.alloc(), &[]);
-    let mut passed = Passed::new();
+    let mut passed = TickResult::new();
     let info = StartInfo::new(StartEvent::Arrival { ob: 40, value: 0 }, 16);
     sched.request(Mode::Run, 10, info, &mut passed);
     expect_records(&rt, &passed, &[(3, 10)]);

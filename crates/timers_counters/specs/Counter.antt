@@ -4,10 +4,15 @@ use Rattle.plc_base.specs.Bcd.{unsigned_of_bcd, bcd_digits}
 
 -- the value, 0 to 999, and the edge bits of CU, CD, S and FR
 pub record Counter : Type 0 where
+  -- the count, 0 to 999
   pub value : ℕ
+  -- the RLO of the last CU
   pub up_edge : Bool
+  -- the RLO of the last CD
   pub down_edge : Bool
+  -- the RLO of the last S
   pub set_edge : Bool
+  -- the RLO of the last FR
   pub free_edge : Bool
 
 -- a counter that nothing has touched
@@ -21,16 +26,16 @@ counter_at_rest = record {
 }
 
 -- CU: a rising RLO adds one, up to 999
-unfoldable pub counted_up : Bool → Counter → Counter
-counted_up rlo counter =
+unfoldable pub count_up : Bool → Counter → Counter
+count_up rlo counter =
     record counter {
       value = if rlo && not counter.up_edge then min (counter.value + 1) 999 else counter.value;
       up_edge = rlo;
     }
 
 -- CD: a rising RLO takes one away, down to 0
-unfoldable pub counted_down : Bool → Counter → Counter
-counted_down rlo counter =
+unfoldable pub count_down : Bool → Counter → Counter
+count_down rlo counter =
     record counter {
       value = if rlo && not counter.down_edge then counter.value - 1 else counter.value;
       down_edge = rlo;
@@ -38,24 +43,24 @@ counted_down rlo counter =
 
 -- what S does but for its edge: a rising RLO loads the number of three BCD digits; none where one of
 -- them is above 9
-abbrev pub loaded : Bool → ℕ → Counter → Option Counter
-loaded rlo word counter =
+abbrev pub load_count : Bool → ℕ → Counter → Option Counter
+load_count rlo word counter =
     if rlo && not counter.set_edge
     then option_map (λ number. record counter { value = number }) (unsigned_of_bcd 3 word)
     else Some counter
 
 -- S. Afterwards its edge is the RLO
-unfoldable pub set_to : Bool → ℕ → Counter → Option Counter
-set_to rlo word counter =
-    option_map (λ (next : Counter). record next { set_edge = rlo }) (loaded rlo word counter)
+unfoldable pub set_counter : Bool → ℕ → Counter → Option Counter
+set_counter rlo word counter =
+    option_map (λ (next : Counter). record next { set_edge = rlo }) (load_count rlo word counter)
 
 -- R: with RLO 1 the value is 0
 unfoldable pub reset_counter : Bool → Counter → Counter
 reset_counter rlo counter = if rlo then record counter { value = 0 } else counter
 
 -- FR: a rising RLO of its own edge clears the three other edges. Afterwards its edge is the RLO
-unfoldable pub freed_counter : Bool → Counter → Counter
-freed_counter rlo counter =
+unfoldable pub free_counter : Bool → Counter → Counter
+free_counter rlo counter =
     if rlo && not counter.free_edge
     then record counter { up_edge = false; down_edge = false; set_edge = false; free_edge = rlo }
     else record counter { free_edge = rlo }

@@ -2,20 +2,20 @@
 use Rattle.std.specs.Prelude.{◌≡◌, ℕ, Option, Result, List, map, length}
 use Rattle.std.specs.Fn.{iterate}
 use Rattle.timers_counters.specs.Counter.{Counter}
-use Rattle.timers_counters.specs.Numbered.{Leaves, change}
+use Rattle.timers_counters.specs.Numbered.{LeavesTable, change_at_number}
 use Rattle.timers_counters.specs.Restart.{counters_retained}
-use Rattle.timers_counters.specs.Timer.{Timer, one_ms}
+use Rattle.timers_counters.specs.Timer.{Timer, timer_after_ms}
 use Rattle.timers_counters.specs.declared.faults.TimerFault.{TimerFault}
 
 -- a call with the outcome of an instruction leaves as many as there were, with a fault as without
 abbrev pub InstructionsKeepSize : Type 0 → Type 0
 InstructionsKeepSize A =
     (effect : A → Option A) (old new : List A) (number : ℕ) (result : Result Unit TimerFault)
-    → Leaves old new result (change effect old number) → length new ≡ length old
+    → LeavesTable old new result (change_at_number effect old number) → length new ≡ length old
 
 -- so does each number of milliseconds
 abbrev pub TimeKeepsSize : Type 0
-TimeKeepsSize = (n : ℕ) (timers : List Timer) → length (iterate (map one_ms) n timers) ≡ length timers
+TimeKeepsSize = (n : ℕ) (timers : List Timer) → length (iterate (map timer_after_ms) n timers) ≡ length timers
 
 -- and so does a warm restart
 abbrev pub RestartKeepsSize : Type 0

@@ -1,8 +1,8 @@
 ghost use Rattle.plc_base.specs.Profiles.{counter_count};
 ghost use Rattle.std.specs.Prelude.{◌++◌, ◌+◌, ◌≡◌, ◌≤◌, ◌<◌, ◌↔◌, Some, None, Err, MatchResult, slice_get, slice_set, replicate, length};
-ghost use Rattle.timers_counters.specs.Counter.{counter_at_rest, counted_up, counted_down, set_to, reset_counter, freed_counter, is_counting, count_bcd, Counter as CounterValue};
+ghost use Rattle.timers_counters.specs.Counter.{counter_at_rest, count_up, count_down, set_counter, reset_counter, free_counter, is_counting, count_bcd, Counter as CounterValue};
 ghost use Rattle.timers_counters.specs.Restart.{counters_retained};
-ghost use Rattle.timers_counters.specs.Numbered.{Leaves, change, change_always, reading};
+ghost use Rattle.timers_counters.specs.Numbered.{LeavesTable, change_at_number, change_always, read_at_number};
 ghost use Rattle.timers_counters.specs.declared.faults.TimerFault.TheVariants.{NoNumber};
 
 use crate::counting::Counter;
@@ -98,8 +98,8 @@ impl Counters {
     ///
     /// `NoNumber` exactly for a number that no counter has.
     pub fn up(&mut self, number: u16, rlo: bool) -> Result<(), TimerFault>
-        ensures outcome { Leaves self.old self.new result
-            (change_always (counted_up rlo) self.old number) }
+        ensures outcome { LeavesTable self.old self.new result
+            (change_always (count_up rlo) self.old number) }
         ensures no_number { result ≡ Err NoNumber ↔ (length self.old ≤ number) }
     {
         let mut counter = self.counter(number)?;
@@ -114,8 +114,8 @@ impl Counters {
     ///
     /// `NoNumber` exactly for a number that no counter has.
     pub fn down(&mut self, number: u16, rlo: bool) -> Result<(), TimerFault>
-        ensures outcome { Leaves self.old self.new result
-            (change_always (counted_down rlo) self.old number) }
+        ensures outcome { LeavesTable self.old self.new result
+            (change_always (count_down rlo) self.old number) }
         ensures no_number { result ≡ Err NoNumber ↔ (length self.old ≤ number) }
     {
         let mut counter = self.counter(number)?;
@@ -132,8 +132,8 @@ impl Counters {
     /// `NoNumber` exactly for a number that no counter has, else `BadBcd` exactly where the RLO rises
     /// and a digit is above 9.
     pub fn set(&mut self, number: u16, rlo: bool, value: u16) -> Result<(), TimerFault>
-        ensures outcome { Leaves self.old self.new result
-            (change (set_to rlo value) self.old number) }
+        ensures outcome { LeavesTable self.old self.new result
+            (change_at_number (set_counter rlo value) self.old number) }
         ensures no_number { result ≡ Err NoNumber ↔ (length self.old ≤ number) }
     {
         let mut counter = self.counter(number)?;
@@ -148,7 +148,7 @@ impl Counters {
     ///
     /// `NoNumber` exactly for a number that no counter has.
     pub fn reset(&mut self, number: u16, rlo: bool) -> Result<(), TimerFault>
-        ensures outcome { Leaves self.old self.new result
+        ensures outcome { LeavesTable self.old self.new result
             (change_always (reset_counter rlo) self.old number) }
         ensures no_number { result ≡ Err NoNumber ↔ (length self.old ≤ number) }
     {
@@ -164,8 +164,8 @@ impl Counters {
     ///
     /// `NoNumber` exactly for a number that no counter has.
     pub fn free(&mut self, number: u16, rlo: bool) -> Result<(), TimerFault>
-        ensures outcome { Leaves self.old self.new result
-            (change_always (freed_counter rlo) self.old number) }
+        ensures outcome { LeavesTable self.old self.new result
+            (change_always (free_counter rlo) self.old number) }
         ensures no_number { result ≡ Err NoNumber ↔ (length self.old ≤ number) }
     {
         let mut counter = self.counter(number)?;
@@ -180,7 +180,7 @@ impl Counters {
     ///
     /// `NoNumber` exactly for a number that no counter has.
     pub fn output(&self, number: u16) -> Result<bool, TimerFault>
-        ensures value { result ≡ reading (is_counting) self.now number }
+        ensures value { result ≡ read_at_number (is_counting) self.now number }
         ensures no_number { result ≡ Err NoNumber ↔ (length self.now ≤ number) }
     {
         Ok(self.counter(number)?.output())
@@ -192,7 +192,7 @@ impl Counters {
     ///
     /// `NoNumber` exactly for a number that no counter has.
     pub fn value(&self, number: u16) -> Result<u16, TimerFault>
-        ensures value { result ≡ reading (λ (counter : CounterValue). counter.value)
+        ensures value { result ≡ read_at_number (λ (counter : CounterValue). counter.value)
             self.now number }
         ensures no_number { result ≡ Err NoNumber ↔ (length self.now ≤ number) }
     {
@@ -205,7 +205,7 @@ impl Counters {
     ///
     /// `NoNumber` exactly for a number that no counter has.
     pub fn bcd(&self, number: u16) -> Result<u16, TimerFault>
-        ensures value { result ≡ reading (count_bcd) self.now number }
+        ensures value { result ≡ read_at_number (count_bcd) self.now number }
         ensures no_number { result ≡ Err NoNumber ↔ (length self.now ≤ number) }
     {
         Ok(self.counter(number)?.bcd())

@@ -1,6 +1,6 @@
 ghost use Rattle.std.specs.Prelude.{◌≡◌, ◌≤◌};
 ghost use Rattle.plc_base.specs.Changes.{ChangesOrStays};
-ghost use Rattle.timers_counters.specs.Counter.{counter_at_rest, counted_up, counted_down, set_to, reset_counter, freed_counter, is_counting, count_bcd};
+ghost use Rattle.timers_counters.specs.Counter.{counter_at_rest, count_up, count_down, set_counter, reset_counter, free_counter, is_counting, count_bcd};
 
 use plc_base::{BadBcd, bcd_to_unsigned, unsigned_to_bcd};
 use std::marker::Model;
@@ -54,9 +54,9 @@ impl Counter {
     }
 
     /// `CU`.
-    #[tactic(auto, unfolding(crate::specs::Counter::counted_up))]
+    #[tactic(auto, unfolding(crate::specs::Counter::count_up))]
     pub fn up(&mut self, rlo: bool)
-        ensures { self.new ≡ counted_up rlo self.old }
+        ensures { self.new ≡ count_up rlo self.old }
     {
         if rlo && !self.up_edge && self.value < MOST_COUNT {
             self.value += 1;
@@ -65,9 +65,9 @@ impl Counter {
     }
 
     /// `CD`.
-    #[tactic(auto, unfolding(crate::specs::Counter::counted_down))]
+    #[tactic(auto, unfolding(crate::specs::Counter::count_down))]
     pub fn down(&mut self, rlo: bool)
-        ensures { self.new ≡ counted_down rlo self.old }
+        ensures { self.new ≡ count_down rlo self.old }
     {
         if rlo && !self.down_edge && self.value > 0 {
             self.value -= 1;
@@ -76,9 +76,9 @@ impl Counter {
     }
 
     /// `S`: loads three BCD digits.
-    #[tactic(auto, unfolding(crate::specs::Counter::set_to))]
+    #[tactic(auto, unfolding(crate::specs::Counter::set_counter))]
     pub fn set(&mut self, rlo: bool, word: u16) -> Result<(), BadBcd>
-        ensures { ChangesOrStays (set_to rlo word self.old) self.old self.new result }
+        ensures { ChangesOrStays (set_counter rlo word self.old) self.old self.new result }
     {
         if rlo && !self.set_edge {
             match bcd_to_unsigned(u32::from(word), 3) {
@@ -101,9 +101,9 @@ impl Counter {
     }
 
     /// `FR`.
-    #[tactic(auto, unfolding(crate::specs::Counter::freed_counter))]
+    #[tactic(auto, unfolding(crate::specs::Counter::free_counter))]
     pub fn free(&mut self, rlo: bool)
-        ensures { self.new ≡ freed_counter rlo self.old }
+        ensures { self.new ≡ free_counter rlo self.old }
     {
         if rlo && !self.free_edge {
             self.up_edge = false;

@@ -1,8 +1,8 @@
 ghost use Rattle.plc_base.specs.Profiles.{timer_count};
 ghost use Rattle.std.specs.Prelude.{◌++◌, ◌+◌, slice_set, ◌≡◌, ◌≤◌, ◌<◌, ◌↔◌, Some, None, Err, MatchResult, map, slice_get, replicate, length};
 ghost use Rattle.std.specs.Fn.{iterate};
-ghost use Rattle.timers_counters.specs.Numbered.{Leaves, change, change_always, reading};
-ghost use Rattle.timers_counters.specs.Timer.{timer_at_rest, started, reset_timer, freed_timer, one_ms, units_left, time_left, Timer as TimerValue};
+ghost use Rattle.timers_counters.specs.Numbered.{LeavesTable, change_at_number, change_always, read_at_number};
+ghost use Rattle.timers_counters.specs.Timer.{timer_at_rest, start_timer, reset_timer, free_timer, timer_after_ms, units_left, time_left, Timer as TimerValue};
 ghost use Rattle.timers_counters.specs.declared.faults.TimerFault.TheVariants.{NoNumber};
 
 use crate::faults::TimerFault;
@@ -52,7 +52,7 @@ impl Model for Timers {
 
 // Passes `n` milliseconds for each timer.
 fn pass_all(timers: &mut [Timer], n: u32)
-    ensures { timers.new ≡ iterate (map one_ms) n timers.old }
+    ensures { timers.new ≡ iterate (map timer_after_ms) n timers.old }
 {
     for timer in timers.iter_mut() {
         timer.pass_ms(n);
@@ -102,8 +102,8 @@ impl Timers {
         rlo: bool,
         value: u16,
     ) -> Result<(), TimerFault>
-        ensures outcome { Leaves self.old self.new result
-            (change (started kind rlo value) self.old number) }
+        ensures outcome { LeavesTable self.old self.new result
+            (change_at_number (start_timer kind rlo value) self.old number) }
         ensures no_number { result ≡ Err NoNumber ↔ (length self.old ≤ number) }
     {
         let mut timer = self.timer(number)?;
@@ -118,7 +118,7 @@ impl Timers {
     ///
     /// `NoNumber` exactly for a number that no timer has.
     pub fn reset(&mut self, number: u16, rlo: bool) -> Result<(), TimerFault>
-        ensures outcome { Leaves self.old self.new result
+        ensures outcome { LeavesTable self.old self.new result
             (change_always (reset_timer rlo) self.old number) }
         ensures no_number { result ≡ Err NoNumber ↔ (length self.old ≤ number) }
     {
@@ -135,8 +135,8 @@ impl Timers {
     ///
     /// `NoNumber` exactly for a number that no timer has.
     pub fn free(&mut self, number: u16, rlo: bool) -> Result<(), TimerFault>
-        ensures outcome { Leaves self.old self.new result
-            (change_always (freed_timer rlo) self.old number) }
+        ensures outcome { LeavesTable self.old self.new result
+            (change_always (free_timer rlo) self.old number) }
         ensures no_number { result ≡ Err NoNumber ↔ (length self.old ≤ number) }
     {
         let mut timer = self.timer(number)?;
@@ -151,7 +151,7 @@ impl Timers {
     ///
     /// `NoNumber` exactly for a number that no timer has.
     pub fn output(&self, number: u16) -> Result<bool, TimerFault>
-        ensures value { result ≡ reading (λ (timer : TimerValue). timer.output) self.now number }
+        ensures value { result ≡ read_at_number (λ (timer : TimerValue). timer.output) self.now number }
         ensures no_number { result ≡ Err NoNumber ↔ (length self.now ≤ number) }
     {
         Ok(self.timer(number)?.output())
@@ -163,7 +163,7 @@ impl Timers {
     ///
     /// `NoNumber` exactly for a number that no timer has.
     pub fn value(&self, number: u16) -> Result<u16, TimerFault>
-        ensures value { result ≡ reading (units_left) self.now number }
+        ensures value { result ≡ read_at_number (units_left) self.now number }
         ensures no_number { result ≡ Err NoNumber ↔ (length self.now ≤ number) }
     {
         Ok(self.timer(number)?.value())
@@ -175,7 +175,7 @@ impl Timers {
     ///
     /// `NoNumber` exactly for a number that no timer has.
     pub fn bcd(&self, number: u16) -> Result<u16, TimerFault>
-        ensures value { result ≡ reading (time_left) self.now number }
+        ensures value { result ≡ read_at_number (time_left) self.now number }
         ensures no_number { result ≡ Err NoNumber ↔ (length self.now ≤ number) }
     {
         Ok(self.timer(number)?.bcd())
@@ -183,7 +183,7 @@ impl Timers {
 
     /// Passes `n` milliseconds.
     pub fn pass_ms(&mut self, n: u32)
-        ensures { self.new ≡ iterate (map one_ms) n self.old }
+        ensures { self.new ≡ iterate (map timer_after_ms) n self.old }
     {
         pass_all(self.timers.as_mut_slice(), n);
     }

@@ -1,7 +1,7 @@
 ghost use Rattle.std.specs.Prelude.{◌≡◌, ◌≤◌, IsTrue};
 ghost use Rattle.std.specs.Fn.{iterate};
 ghost use Rattle.plc_base.specs.Changes.{ChangesOrStays};
-ghost use Rattle.timers_counters.specs.Timer.{timer_at_rest, output_at_end, run, ended, stopped, acted, started, reset_timer, freed_timer, one_ms, units_left, time_left};
+ghost use Rattle.timers_counters.specs.Timer.{timer_at_rest, output_at_end, run_timer, end_timer, stop_timer, start_effect, start_timer, reset_timer, free_timer, timer_after_ms, units_left, time_left};
 
 use plc_base::{BadBcd, MOST_UNITS, TimeBase, TimerKind, ms_of_s5time};
 use std::marker::Model;
@@ -67,7 +67,7 @@ impl Timer {
 
     /// Starts the timer with an S5TIME and the output. With a time of 0 it ends at once.
     fn run(&mut self, kind: TimerKind, value: u16, output: bool) -> Result<(), BadBcd>
-        ensures { ChangesOrStays (run kind value output self.old) self.old self.new result }
+        ensures { ChangesOrStays (run_timer kind value output self.old) self.old self.new result }
     {
         let left = ms_of_s5time(value)?;
         self.kind = kind;
@@ -84,7 +84,7 @@ impl Timer {
 
     /// Ends the time of the timer.
     fn end(&mut self)
-        ensures { self.new ≡ ended self.old }
+        ensures { self.new ≡ end_timer self.old }
     {
         self.left = 0;
         self.running = false;
@@ -93,7 +93,7 @@ impl Timer {
 
     /// Stops the timer. The milliseconds left stay.
     fn stop(&mut self, output: bool)
-        ensures { self.new ≡ stopped output self.old }
+        ensures { self.new ≡ stop_timer output self.old }
     {
         self.running = false;
         self.output = output;
@@ -101,7 +101,7 @@ impl Timer {
 
     /// A start instruction but for its edge.
     fn act(&mut self, kind: TimerKind, rlo: bool, value: u16) -> Result<(), BadBcd>
-        ensures { ChangesOrStays (acted kind rlo value self.old) self.old self.new result }
+        ensures { ChangesOrStays (start_effect kind rlo value self.old) self.old self.new result }
     {
         let rising = rlo && !self.start_edge;
         let falling = !rlo && self.start_edge;
@@ -123,9 +123,9 @@ impl Timer {
     }
 
     /// A start instruction.
-    #[tactic(auto, unfolding(crate::specs::Timer::started))]
+    #[tactic(auto, unfolding(crate::specs::Timer::start_timer))]
     pub fn start(&mut self, kind: TimerKind, rlo: bool, value: u16) -> Result<(), BadBcd>
-        ensures { ChangesOrStays (started kind rlo value self.old) self.old self.new result }
+        ensures { ChangesOrStays (start_timer kind rlo value self.old) self.old self.new result }
     {
         self.act(kind, rlo, value)?;
         self.start_edge = rlo;
@@ -146,9 +146,9 @@ impl Timer {
     }
 
     /// `FR`.
-    #[tactic(auto, unfolding(crate::specs::Timer::freed_timer))]
+    #[tactic(auto, unfolding(crate::specs::Timer::free_timer))]
     pub fn free(&mut self, rlo: bool)
-        ensures { self.new ≡ freed_timer rlo self.old }
+        ensures { self.new ≡ free_timer rlo self.old }
     {
         if rlo && !self.free_edge {
             self.start_edge = false;
@@ -180,7 +180,7 @@ impl Timer {
 
     /// Passes `n` milliseconds.
     pub fn pass_ms(&mut self, n: u32)
-        ensures { self.new ≡ iterate one_ms n self.old }
+        ensures { self.new ≡ iterate timer_after_ms n self.old }
     {
         if !self.running {
             return;

@@ -76,6 +76,7 @@ abbrev pub is_number_class : TokenClass → Bool
 is_number_class class.Number = true
 is_number_class _ = false
 
+-- a closing parenthesis
 abbrev pub is_closing_class : TokenClass → Bool
 is_closing_class class.CloseParen = true
 is_closing_class _ = false
@@ -175,6 +176,7 @@ pub record BodiesHaveRoles : Type 0 where
 abbrev pub place_outside : TokenClass → TokenClass → List ℕ → Place
 place_outside before c word = if is_keyword_of code_openings before c word then place.Head else place.Outside
 
+-- the place behind a token of a block's head
 abbrev pub place_in_head : TokenClass → TokenClass → List ℕ → Place
 place_in_head before c word =
     if is_keyword_of begin_words before c word then place.Start

@@ -1,6 +1,6 @@
 ghost use Rattle.std.specs.Prelude.{◌≡◌, IfOk};
 ghost use Rattle.std.specs.List.{flat_map};
-ghost use Rattle.plc_base.specs.Folding.{folded};
+ghost use Rattle.plc_base.specs.Folding.{upper_case_name};
 ghost use Rattle.plc_base.specs.Least.{least};
 ghost use Rattle.block_layout.specs.Operands.{in_body, operands_of};
 ghost use Rattle.block_layout.specs.Paths.{folded_path, leaves_local};
@@ -25,7 +25,7 @@ fn leaves_own(
     steps: &[PathStep],
 ) -> Result<bool, AllocError>
     ensures { IfOk result (λ b. b
-        ≡ leaves_local layouts.now block (folded name.now) (folded_path steps.now)) }
+        ≡ leaves_local layouts.now block (upper_case_name name.now) (folded_path steps.now)) }
 {
     let name = name.as_bytes().to_ascii_uppercase(alloc)?;
     let path = Path::new(alloc, steps)?;

@@ -14,13 +14,13 @@ use Rattle.std.proofs.lemmas.Bool.Decides.{nat_tests}
 use Rattle.std.proofs.lemmas.Option.{slice_get-map}
 use Rattle.plc_base.specs.declared.Profile.{Profile}
 use Rattle.plc_mem.specs.Areas.{Areas}
-use Rattle.plc_mem.specs.Fresh.{fresh}
+use Rattle.plc_mem.specs.Fresh.{initial_memory}
 use Rattle.flat_code.specs.Programs.{DataBlock, Program}
 use Rattle.flat_code.specs.Loading.{Verifies}
-use Rattle.image_file.specs.Readers.{bytes_of}
+use Rattle.image_file.specs.Readers.{data_bytes_of}
 use Rattle.machine.specs.Fitting.{IsMemoryOf}
 use Rattle.machine.specs.Flat.{code_of, numbered_bytes}
-use Rattle.controller.specs.Starting.{numbers_of}
+use Rattle.controller.specs.Starting.{data_block_numbers}
 use Rattle.controller.proofs.StartLemmas.{Rise, numbers_rise}
 
 abbrev Blocks : Type 0
@@ -118,32 +118,32 @@ same_lens m n same =
     (λ q. lens_get n q ∙ same q ∙ sym (lens_get m q)))
     ∙ entries-from_sorted nat_cmp (lens (finmap.entries m)) (lens_of_map m)
 
-lens_numbers : (es : Blocks) → map (λ (e : ℕ × ℕ). e.0) (lens es) ≡ numbers_of es
+lens_numbers : (es : Blocks) → map (λ (e : ℕ × ℕ). e.0) (lens es) ≡ data_block_numbers es
 unfolding lens
 lens_numbers [] = refl
 lens_numbers (e ∷ es) = ap (λ (ns : List ℕ). e.0 ∷ ns) (lens_numbers es)
 
 same_numbers : (m n : BlockMap) → ((q : ℕ) → option_map length (finmap.get n q) ≡ option_map length (finmap.get m q))
-    → numbers_of (finmap.entries n) ≡ numbers_of (finmap.entries m)
+    → data_block_numbers (finmap.entries n) ≡ data_block_numbers (finmap.entries m)
 same_numbers m n same =
     sym (lens_numbers (finmap.entries n))
     ∙ ap (λ (es : List (ℕ × ℕ)). map (λ (e : ℕ × ℕ). e.0) es) (same_lens m n same)
     ∙ lens_numbers (finmap.entries m)
 
 fresh_numbers : (profile : Profile) (p : Program) → Verifies p
-    → numbers_of (finmap.entries (fresh profile (numbered_bytes p.data_blocks)).data_blocks) ≡ numbers_of (numbered_bytes p.data_blocks)
-unfolding fresh
-fresh_numbers profile p h = ap numbers_of (rising_entries 0 p.data_blocks (numbers_rise p h))
+    → data_block_numbers (finmap.entries (initial_memory profile (numbered_bytes p.data_blocks)).data_blocks) ≡ data_block_numbers (numbered_bytes p.data_blocks)
+unfolding initial_memory
+fresh_numbers profile p h = ap data_block_numbers (rising_entries 0 p.data_blocks (numbers_rise p h))
 
 -- the numbers of the data blocks of a memory are those of its program
 pub memory_numbers : (p : Program) (m : Areas) → Verifies p → IsMemoryOf (code_of p) m
-    → numbers_of (finmap.entries m.data_blocks) ≡ numbers_of (numbered_bytes p.data_blocks)
+    → data_block_numbers (finmap.entries m.data_blocks) ≡ data_block_numbers (numbered_bytes p.data_blocks)
 memory_numbers p m h is =
-    same_numbers (fresh is.profile (numbered_bytes p.data_blocks)).data_blocks m.data_blocks is.sizes.data_blocks ∙ fresh_numbers is.profile p h
+    same_numbers (initial_memory is.profile (numbered_bytes p.data_blocks)).data_blocks m.data_blocks is.sizes.data_blocks ∙ fresh_numbers is.profile p h
 
 -- ---- an entry by its place
 
-key_above : (x k : ℕ) (es : Blocks) (i : ℕ) → below_all nat_cmp x es ≡ true → slice_get (numbers_of es) i ≡ Some k → x < k
+key_above : (x k : ℕ) (es : Blocks) (i : ℕ) → below_all nat_cmp x es ≡ true → slice_get (data_block_numbers es) i ≡ Some k → x < k
 key_above x k [] i below found = absurd cc
 key_above x k (e ∷ es) zero below found =
     let first : x < e.0 = lower x e.0 (and_parts (is_lt (nat_cmp x e.0)) (below_all nat_cmp x es) below).0 in
@@ -155,7 +155,7 @@ key_above x k (e ∷ es) zero below found =
 key_above x k (e ∷ es) (suc i) below found =
     key_above x k es i (and_parts (is_lt (nat_cmp x e.0)) (below_all nat_cmp x es) below).1 found
 
-entry_at : (es : Blocks) (i k : ℕ) → is_sorted nat_cmp es ≡ true → slice_get (numbers_of es) i ≡ Some k
+entry_at : (es : Blocks) (i k : ℕ) → is_sorted nat_cmp es ≡ true → slice_get (data_block_numbers es) i ≡ Some k
     → slice_get es i ≡ option_map (λ (bytes : List ℕ). (k, bytes)) (find nat_cmp k es)
 entry_at [] i k sorted found = absurd cc
 entry_at (e ∷ es) zero k sorted found = first e.0 k (same_some e.0 k found)
@@ -170,7 +170,7 @@ entry_at (e ∷ es) (suc i) k sorted found =
     let above : nat_cmp k e.0 ≡ Greater = more k e.0 (key_above e.0 k es i parts.0 found) in
     rw above (entry_at es i k parts.1 found)
 
-none_at : (es : Blocks) (i : ℕ) → slice_get (numbers_of es) i ≡ None → slice_get es i ≡ None
+none_at : (es : Blocks) (i : ℕ) → slice_get (data_block_numbers es) i ≡ None → slice_get es i ≡ None
 none_at es i none = by (slice_get es i) (sym (slice_get-map (λ (e : ℕ × List ℕ). e.0) es i) ∙ none)
   where
     by : (o : Option (ℕ × List ℕ)) → option_map (λ (e : ℕ × List ℕ). e.0) o ≡ None → o ≡ None
@@ -183,14 +183,14 @@ true_test false h = absurd h
 
 -- the block at a place, by its number there
 pub block_there : (m : BlockMap) (numbers : List ℕ) (place n : ℕ)
-    → numbers_of (finmap.entries m) ≡ numbers → slice_get numbers place ≡ Some n
+    → data_block_numbers (finmap.entries m) ≡ numbers → slice_get numbers place ≡ Some n
     → slice_get (finmap.entries m) place ≡ option_map (λ (bytes : List ℕ). (n, bytes)) (finmap.get m n)
 block_there m numbers place n are found =
     entry_at (finmap.entries m) place n (true_test _ (entries_sorted m)) (ap (λ (ns : List ℕ). slice_get ns place) are ∙ found)
     ∙ ap (λ (o : Option (List ℕ)). option_map (λ (bytes : List ℕ). (n, bytes)) o) (sym (get-entries m n))
 
 pub no_block_there : (m : BlockMap) (numbers : List ℕ) (place : ℕ)
-    → numbers_of (finmap.entries m) ≡ numbers → slice_get numbers place ≡ None
+    → data_block_numbers (finmap.entries m) ≡ numbers → slice_get numbers place ≡ None
     → slice_get (finmap.entries m) place ≡ None
 no_block_there m numbers place are none =
     none_at (finmap.entries m) place (ap (λ (ns : List ℕ). slice_get ns place) are ∙ none)
@@ -203,7 +203,7 @@ same_test n m = unsigned_tied n m ∙ turned n m
     turned : (a b : ℕ) → nat_eq a b ≡ nat_eq b a
     turned a b = grind (arith, nat_tests)
 
-found_by_number : (n : ℕ) (ds : List DataBlock) → find nat_cmp n (numbered_bytes ds) ≡ bytes_of n ds
+found_by_number : (n : ℕ) (ds : List DataBlock) → find nat_cmp n (numbered_bytes ds) ≡ data_bytes_of n ds
 found_by_number n [] = refl
 found_by_number n (d ∷ ds) = rw (same_test n d.number) (ap (λ (o : Option (List ℕ)). cond (nat_eq d.number n) (Some d.bytes) o) (found_by_number n ds))
 
@@ -213,14 +213,14 @@ some_by_length (Some x) (Some y) h = refl
 some_by_length None (Some y) h = absurd cc
 some_by_length (Some x) None h = absurd cc
 
-fresh_block : (profile : Profile) (p : Program) (n : ℕ) → finmap.get (fresh profile (numbered_bytes p.data_blocks)).data_blocks n ≡ bytes_of n p.data_blocks
-unfolding fresh
+fresh_block : (profile : Profile) (p : Program) (n : ℕ) → finmap.get (initial_memory profile (numbered_bytes p.data_blocks)).data_blocks n ≡ data_bytes_of n p.data_blocks
+unfolding initial_memory
 fresh_block profile p n = get-from_entries nat_cmp_total (numbered_bytes p.data_blocks) n ∙ found_by_number n p.data_blocks
 
 pub loaded_there : (p : Program) (m : Areas) (n : ℕ) → IsMemoryOf (code_of p) m
-    → is_some (finmap.get m.data_blocks n) ≡ is_some (bytes_of n p.data_blocks)
+    → is_some (finmap.get m.data_blocks n) ≡ is_some (data_bytes_of n p.data_blocks)
 loaded_there p m n is =
-    some_by_length (finmap.get m.data_blocks n) (finmap.get (fresh is.profile (numbered_bytes p.data_blocks)).data_blocks n) (is.sizes.data_blocks n)
+    some_by_length (finmap.get m.data_blocks n) (finmap.get (initial_memory is.profile (numbered_bytes p.data_blocks)).data_blocks n) (is.sizes.data_blocks n)
     ∙ ap (λ (o : Option (List ℕ)). is_some o) (fresh_block is.profile p n)
 
 pub copied_some : (o : Option (Bor (List ℕ))) → is_some (option_copied o) ≡ is_some o

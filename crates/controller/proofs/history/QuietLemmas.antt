@@ -12,18 +12,18 @@ use Rattle.var_access.specs.declared.What.TheVariants.{Step}
 use Rattle.controller.specs.Fitting.{EntriesKeepFit, IsFit}
 use Rattle.controller.specs.Quiet.{ShowNothing}
 use Rattle.controller.specs.Replay.{ContinuesByMore, SeenByMore, happens, last_seen, replay, run_from, seen_from}
-use Rattle.controller.specs.Shown.{Watched, nothing_shown, watched}
+use Rattle.controller.specs.Shown.{Watched, nothing_shown, watched_state}
 use Rattle.controller.specs.State.{State}
 use Rattle.controller.specs.declared.observing.Observed.{Observed}
-use Rattle.controller.specs.Replayed.{events}
+use Rattle.controller.specs.Replayed.{entry_events}
 
 -- ---- entries behind others
 
 pub replay-more : ContinuesByMore → (profile : Profile) (code : Code) (history more : List Entry)
-    → replay profile code (events (history ++ more)) ≡ run_from code (replay profile code (events history)) (events more)
+    → replay profile code (entry_events (history ++ more)) ≡ run_from code (replay profile code (entry_events history)) (entry_events more)
 replay-more continues profile code history more =
     ap (λ (es : List What). replay profile code es) (map-append (λ (e : Entry). e.what) history more)
-    ∙ continues profile code (events history) (events more)
+    ∙ continues profile code (entry_events history) (entry_events more)
 
 -- ---- what is seen after them
 
@@ -46,11 +46,11 @@ none-now code s seen (suc n) quiet some =
 -- ---- steps
 
 -- what an entry does, so often
-same-entries : (e : Entry) (n : ℕ) → events (replicate n e) ≡ replicate n e.what
+same-entries : (e : Entry) (n : ℕ) → entry_events (replicate n e) ≡ replicate n e.what
 same-entries e zero = refl
 same-entries e (suc n) = ap (λ (whats : List What). e.what ∷ whats) (same-entries e n)
 
-pub steps-are : (e : Entry) (n : ℕ) → e.what ≡ Step → events (replicate n e) ≡ replicate n Step
+pub steps-are : (e : Entry) (n : ℕ) → e.what ≡ Step → entry_events (replicate n e) ≡ replicate n Step
 steps-are e n step = same-entries e n ∙ ap (λ (what : What). replicate n what) step
 
 fits-steps : (p : Program) (s : State) (n : ℕ) → EntriesKeepFit → Verifies p → IsFit p s
@@ -63,36 +63,36 @@ pub fits-behind : (p : Program) (s t : State) (n : ℕ) → EntriesKeepFit → V
     → t ≡ run_from (code_of p) s (replicate n Step) → IsFit p t
 fits-behind p s t n keeps h fit after = subst (IsFit p) (sym after) (fits-steps p s n keeps h fit)
 
-pub quiet-behind : (profile : Profile) (code : Code) (history : List Entry) (s : State) (n : ℕ) → s ≡ replay profile code (events history)
+pub quiet-behind : (profile : Profile) (code : Code) (history : List Entry) (s : State) (n : ℕ) → s ≡ replay profile code (entry_events history)
     → ShowNothing code s (replicate n Step)
-    → ShowNothing code (replay profile code (events history)) (replicate n Step)
+    → ShowNothing code (replay profile code (entry_events history)) (replicate n Step)
 quiet-behind profile code history s n before quiet =
     subst (λ (u : State). ShowNothing code u (replicate n Step)) before quiet
 
-pub state-behind : ContinuesByMore → (profile : Profile) (code : Code) (history more : List Entry) (s t : State) (n : ℕ) → s ≡ replay profile code (events history)
-    → events more ≡ replicate n Step → t ≡ run_from code s (replicate n Step)
-    → t ≡ replay profile code (events (history ++ more))
+pub state-behind : ContinuesByMore → (profile : Profile) (code : Code) (history more : List Entry) (s t : State) (n : ℕ) → s ≡ replay profile code (entry_events history)
+    → entry_events more ≡ replicate n Step → t ≡ run_from code s (replicate n Step)
+    → t ≡ replay profile code (entry_events (history ++ more))
 state-behind continues profile code history more s t n before steps after =
     after
     ∙ ap (λ (u : State). run_from code u (replicate n Step)) before
-    ∙ ap (λ (whats : List What). run_from code (replay profile code (events history)) whats) (sym steps)
+    ∙ ap (λ (whats : List What). run_from code (replay profile code (entry_events history)) whats) (sym steps)
     ∙ sym (replay-more continues profile code history more)
 
-pub seen-behind : SeenByMore → (profile : Profile) (code : Code) (history more : List Entry) (s : State) (n : ℕ) → s ≡ replay profile code (events history)
-    → events more ≡ replicate n Step → ShowNothing code s (replicate n Step) → 1 ≤ n
-    → nothing_shown ≡ last_seen profile code (events (history ++ more))
+pub seen-behind : SeenByMore → (profile : Profile) (code : Code) (history more : List Entry) (s : State) (n : ℕ) → s ≡ replay profile code (entry_events history)
+    → entry_events more ≡ replicate n Step → ShowNothing code s (replicate n Step) → 1 ≤ n
+    → nothing_shown ≡ last_seen profile code (entry_events (history ++ more))
 seen-behind continues profile code history more s n before steps quiet some = sym (
     ap (λ (es : List What). last_seen profile code es) (map-append (λ (e : Entry). e.what) history more)
-    ∙ continues profile code (events history) (events more)
-    ∙ ap (λ (u : State). seen_from code u (last_seen profile code (events history)) (events more)) (sym before)
-    ∙ ap (λ (whats : List What). seen_from code s (last_seen profile code (events history)) whats) steps
-    ∙ none-now code s (last_seen profile code (events history)) n quiet some)
+    ∙ continues profile code (entry_events history) (entry_events more)
+    ∙ ap (λ (u : State). seen_from code u (last_seen profile code (entry_events history)) (entry_events more)) (sym before)
+    ∙ ap (λ (whats : List What). seen_from code s (last_seen profile code (entry_events history)) whats) steps
+    ∙ none-now code s (last_seen profile code (entry_events history)) n quiet some)
 
 -- outputs and mode are as before
-pub observer-behind : (s t : State) (w w' : Watched) (seen : Observed) → w ≡ watched s seen
+pub observer-behind : (s t : State) (w w' : Watched) (seen : Observed) → w ≡ watched_state s seen
     → w' ≡ record w { seen = nothing_shown }
     → t.world.memory.peripheral_outputs ≡ s.world.memory.peripheral_outputs → t.mode ≡ s.mode
-    → w' ≡ watched t nothing_shown
+    → w' ≡ watched_state t nothing_shown
 observer-behind s t w w' seen before passed outputs mode =
     passed
     ∙ ap (λ (v : Watched). record v { seen = nothing_shown }) before

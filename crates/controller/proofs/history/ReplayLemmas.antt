@@ -11,11 +11,11 @@ use Rattle.var_access.specs.declared.What.{What}
 use Rattle.var_access.specs.Entry.{IsInRange}
 use Rattle.controller.specs.Fitting.{EntriesKeepFit, IsFit, StartIsFit}
 use Rattle.controller.specs.Replay.{ContinuesReplay, ContinuesSeen, happens, last_seen, replay}
-use Rattle.controller.specs.Shown.{Watched, changes, nothing_shown, shown, watched, watched_on}
+use Rattle.controller.specs.Shown.{Watched, observed_changes, nothing_shown, entry_shown, watched_state, watched_next}
 use Rattle.controller.specs.Start.{start}
 use Rattle.controller.specs.State.{State}
 use Rattle.controller.specs.declared.observing.Observed.{Observed}
-use Rattle.controller.specs.Replayed.{events}
+use Rattle.controller.specs.Replayed.{entry_events}
 
 -- ---- at the start
 
@@ -32,44 +32,44 @@ start_fits profile p s fits h is = subst (IsFit p) (sym is) (fits profile p h)
 
 -- ---- an entry more
 
-events_next : (history : List Entry) (e : Entry) → events (history ++ e ∷ []) ≡ events history ++ e.what ∷ []
+events_next : (history : List Entry) (e : Entry) → entry_events (history ++ e ∷ []) ≡ entry_events history ++ e.what ∷ []
 events_next [] e = refl
 events_next (first ∷ rest) e = ap (λ (more : List What). first.what ∷ more) (events_next rest e)
 
 pub state_next : (profile : Profile) (code : Code) (history : List Entry) (e : Entry) (s t : State) → ContinuesReplay
-    → s ≡ replay profile code (events history) → t ≡ (happens code s e.what).state
-    → t ≡ replay profile code (events (history ++ e ∷ []))
+    → s ≡ replay profile code (entry_events history) → t ≡ (happens code s e.what).state
+    → t ≡ replay profile code (entry_events (history ++ e ∷ []))
 state_next profile code history e s t continues before after =
     after
     ∙ ap (λ (u : State). (happens code u e.what).state) before
-    ∙ sym (continues profile code (events history) e.what)
+    ∙ sym (continues profile code (entry_events history) e.what)
     ∙ ap (λ (es : List What). replay profile code es) (sym (events_next history e))
 
 pub seen_next : (profile : Profile) (code : Code) (history : List Entry) (e : Entry) (s : State) → ContinuesSeen
-    → s ≡ replay profile code (events history)
-    → (happens code s e.what).seen ≡ last_seen profile code (events (history ++ e ∷ []))
+    → s ≡ replay profile code (entry_events history)
+    → (happens code s e.what).seen ≡ last_seen profile code (entry_events (history ++ e ∷ []))
 seen_next profile code history e s continues before =
     ap (λ (u : State). (happens code u e.what).seen) before
-    ∙ sym (continues profile code (events history) e.what)
+    ∙ sym (continues profile code (entry_events history) e.what)
     ∙ ap (λ (es : List What). last_seen profile code es) (sym (events_next history e))
 
 -- what it shows is what the outputs and the mode were compared for
 seen_is : (code : Code) (s : State) (what : What)
-    → changes (happens code s what).seen.mon s.world.memory.peripheral_outputs s.mode (happens code s what).state ≡ (happens code s what).seen
-unfolding happens shown
+    → observed_changes (happens code s what).seen.mon s.world.memory.peripheral_outputs s.mode (happens code s what).state ≡ (happens code s what).seen
+unfolding happens entry_shown
 seen_is code s what = refl
 
 pub observer_next : (code : Code) (s t : State) (what : What) (mon : Option MonRecord) (w w' : Watched)
-    (seen : Observed) → w ≡ watched s seen → w' ≡ watched_on w mon t
+    (seen : Observed) → w ≡ watched_state s seen → w' ≡ watched_next w mon t
     → mon ≡ (happens code s what).seen.mon → t ≡ (happens code s what).state
-    → w' ≡ watched t (happens code s what).seen
+    → w' ≡ watched_state t (happens code s what).seen
 observer_next code s t what mon w w' seen before looked recorded after =
     looked
-    ∙ ap (λ (v : Watched). watched_on v mon t) before
-    ∙ ap (λ (o : Observed). watched t o)
-    (ap (λ (r : Option MonRecord). changes r s.world.memory.peripheral_outputs s.mode t) recorded
+    ∙ ap (λ (v : Watched). watched_next v mon t) before
+    ∙ ap (λ (o : Observed). watched_state t o)
+    (ap (λ (r : Option MonRecord). observed_changes r s.world.memory.peripheral_outputs s.mode t) recorded
     ∙ ap
-    (λ (u : State). changes (happens code s what).seen.mon s.world.memory.peripheral_outputs s.mode u)
+    (λ (u : State). observed_changes (happens code s what).seen.mon s.world.memory.peripheral_outputs s.mode u)
     after
     ∙ seen_is code s what)
 

@@ -7,7 +7,7 @@ use Rattle.plc_base.specs.declared.places.Area.{Area}
 use Rattle.plc_base.specs.declared.places.Area.TheVariants as area
 use Rattle.plc_base.specs.declared.places.Width.{Width}
 use Rattle.plc_base.specs.declared.places.Width.TheVariants as width
-use Rattle.flat_code.specs.Blocks.{Around, is_bad_actual, is_input, lacks_own, literal_fits, own_parameter}
+use Rattle.flat_code.specs.Blocks.{Around, is_bad_actual, is_in_parameter, lacks_own, literal_fits, parameter_meant}
 use Rattle.flat_code.specs.declared.image_fields.ParameterRecord.{ParameterRecord}
 use Rattle.flat_code.specs.declared.operands.Passed.TheVariants as passed
 use Rattle.stl_ast.specs.declared.blocks.PartKind.TheVariants as part
@@ -73,13 +73,13 @@ fitting_listed a c own f r (passed.Direct g w byte bit) h few right fits backed 
 fitting_listed a c own f r (passed.InBlock number g w byte bit) h few right fits backed =
     (width_is f r w h fits, in_block_is a number g w byte bit right, backed.0, backed.1)
 fitting_listed a c own f r (passed.Parameter index w) h few right fits backed =
-    let parts = or_parts (not (r.width == width_number w)) (not (r.section == 1) && is_input (own_parameter a index)) fits in (
+    let parts = or_parts (not (r.width == width_number w)) (not (r.section == 1) && is_in_parameter (parameter_meant a index)) fits in (
       backed.0,
       width_is backed.0 backed.1 w backed.3 (ap (λ o. lacks_own o w) (sym backed.2) ∙ right),
       backed.4,
       taken (is_input_section f.section) (is_input_section backed.0.section)
           (ap (λ (t : Bool). not t && is_input_section backed.0.section) (section_is f r h)
           ∙ ap (λ (t : Bool). not (r.section == 1) && t) (section_is backed.0 backed.1 backed.3)
-          ∙ ap (λ o. not (r.section == 1) && is_input o) (sym backed.2) ∙ parts.1),
+          ∙ ap (λ o. not (r.section == 1) && is_in_parameter o) (sym backed.2) ∙ parts.1),
       backed.5,
     )

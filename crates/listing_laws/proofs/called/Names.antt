@@ -8,7 +8,7 @@ use Rattle.std.proofs.lemmas.Bool.Decides.{nat_tests}
 use Rattle.std.proofs.lemmas.Fmt.{decimal_injective}
 use Rattle.std.proofs.lemmas.Option.{same_Some, slice_get_within}
 use Rattle.std.proofs.lemmas.Slice.Eq.{bytes_eq-Decides}
-use Rattle.plc_base.specs.Folding.{folded}
+use Rattle.plc_base.specs.Folding.{upper_case_name}
 use Rattle.flat_code.specs.declared.image_fields.TheConstants.{SECTION_OUT}
 use Rattle.flat_code.specs.declared.programs.Param.{Param}
 use Rattle.stl_ast.specs.declared.declarations.Simple.TheVariants as simple
@@ -23,7 +23,7 @@ use Rattle.listing_laws.specs.Passings.{AreNamedApart}
 
 -- ---- names by numbers
 
-digits_stay : (text : List ℕ) → list_all is_ascii_digit text ≡ true → folded text ≡ text
+digits_stay : (text : List ℕ) → list_all is_ascii_digit text ≡ true → upper_case_name text ≡ text
 digits_stay [] h = refl
 digits_stay (b ∷ text) h =
     let parts = and_parts (is_ascii_digit b) (list_all is_ascii_digit text) h in
@@ -32,7 +32,7 @@ digits_stay (b ∷ text) h =
     stays : (b : ℕ) → is_ascii_digit b ≡ true → to_ascii_uppercase b ≡ b
     stays b e = grind (arith, nat_tests)
 
-folded_name : (n : ℕ) → n < 18446744073709551616 → folded (parameter_name n) ≡ 80 ∷ decimal n
+folded_name : (n : ℕ) → n < 18446744073709551616 → upper_case_name (parameter_name n) ≡ 80 ∷ decimal n
 folded_name n h = ap (λ (xs : List ℕ). 80 ∷ xs) (digits_stay (decimal n) (numeral n h).digits)
 
 itself : (xs : List ℕ) → bytes_eq xs xs ≡ true
@@ -42,7 +42,7 @@ other : (xs ys : List ℕ) → (xs ≡ ys → ⊥) → bytes_eq xs ys ≡ false
 other xs ys apart = false_from_ne_true (bytes_eq xs ys) (λ e. apart ((bytes_eq-Decides xs ys).0 e))
 
 numbers_apart : (m n : ℕ) → m < 18446744073709551616 → n < 18446744073709551616
-    → bytes_eq (folded (parameter_name m)) (folded (parameter_name n)) ≡ (m == n)
+    → bytes_eq (upper_case_name (parameter_name m)) (upper_case_name (parameter_name n)) ≡ (m == n)
 numbers_apart m n h k = ap₂ bytes_eq (folded_name m h) (folded_name n k) ∙ by (m == n) refl
   where
     by : (t : Bool) → (m == n) ≡ t → bytes_eq (80 ∷ decimal m) (80 ∷ decimal n) ≡ t
@@ -51,10 +51,10 @@ numbers_apart m n h k = ap₂ bytes_eq (folded_name m h) (folded_name n k) ∙ b
         other (80 ∷ decimal m) (80 ∷ decimal n)
         (λ same. let equal : m ≡ n = decimal_injective m n h k (ap (drop 1) same) in let yes = eq-eqb m n equal in absurd cc)
 
-return_apart : (n : ℕ) → bytes_eq (folded (parameter_name n)) (folded return_name) ≡ false
+return_apart : (n : ℕ) → bytes_eq (upper_case_name (parameter_name n)) (upper_case_name return_name) ≡ false
 return_apart n = refl
 
-return_other : (n : ℕ) → bytes_eq (folded return_name) (folded (parameter_name n)) ≡ false
+return_other : (n : ℕ) → bytes_eq (upper_case_name return_name) (upper_case_name (parameter_name n)) ≡ false
 return_other n = refl
 
 -- ---- the parameters of a block
@@ -108,7 +108,7 @@ own_names_apart c back first ps few h i j f g e k =
     low_j = let within = slice_get_within (formals_from c back false 0 first ps) j g k in let long = formals_long c back false 0 first ps in omega (arith, within, long, few)
 
     no_return : (n : ℕ) → parameter_name n ≡ return_name → ⊥
-    no_return n same = let no = return_apart n in let yes = ap (λ (x : List ℕ). bytes_eq (folded x) (folded return_name)) same ∙ itself (folded return_name) in absurd cc
+    no_return n same = let no = return_apart n in let yes = ap (λ (x : List ℕ). bytes_eq (upper_case_name x) (upper_case_name return_name)) same ∙ itself (upper_case_name return_name) in absurd cc
 
     one : i ≡ j → f ≡ g
     one same = same_Some f g (sym e ∙ ap (slice_get (formals_from c back false 0 first ps)) same ∙ k)
@@ -116,34 +116,34 @@ own_names_apart c back first ps few h i j f g e k =
     plain : (0 + i == 0 + j) ≡ (i == j)
     plain = let a : 0 + i ≡ i = omega arith in let b : 0 + j ≡ j = omega arith in ap₂ (λ (x y : ℕ). x == y) a b
 
-    by : NameAt (0 + length ps) (0 + i) f.name → NameAt (0 + length ps) (0 + j) g.name → bytes_eq (folded f.name) (folded g.name) ≡ (i == j)
-    by (inl a) (inl b) = ap₂ (λ (x y : List ℕ). bytes_eq (folded x) (folded y)) a b ∙ numbers_apart (0 + i) (0 + j) low_i low_j ∙ plain
+    by : NameAt (0 + length ps) (0 + i) f.name → NameAt (0 + length ps) (0 + j) g.name → bytes_eq (upper_case_name f.name) (upper_case_name g.name) ≡ (i == j)
+    by (inl a) (inl b) = ap₂ (λ (x y : List ℕ). bytes_eq (upper_case_name x) (upper_case_name y)) a b ∙ numbers_apart (0 + i) (0 + j) low_i low_j ∙ plain
     by (inl a) (inr b) =
-        ap₂ (λ (x y : List ℕ). bytes_eq (folded x) (folded y)) a b.0 ∙ return_apart (0 + i)
+        ap₂ (λ (x y : List ℕ). bytes_eq (upper_case_name x) (upper_case_name y)) a b.0 ∙ return_apart (0 + i)
         ∙ sym (ne_eqb i j (λ same. no_return (0 + i) (sym a ∙ ap (λ (z : Formal). z.name) (one same) ∙ b.0)))
     by (inr a) (inl b) =
-        ap₂ (λ (x y : List ℕ). bytes_eq (folded x) (folded y)) a.0 b ∙ return_other (0 + j)
+        ap₂ (λ (x y : List ℕ). bytes_eq (upper_case_name x) (upper_case_name y)) a.0 b ∙ return_other (0 + j)
         ∙ sym (ne_eqb i j (λ same. no_return (0 + j) (sym b ∙ ap (λ (z : Formal). z.name) (sym (one same)) ∙ a.0)))
     by (inr a) (inr b) =
         let first = a.1 in
         let second = b.1 in
         let same : i ≡ j = omega (arith, first, second) in
-        ap₂ (λ (x y : List ℕ). bytes_eq (folded x) (folded y)) a.0 b.0 ∙ itself (folded return_name) ∙ sym (eq-eqb i j same)
+        ap₂ (λ (x y : List ℕ). bytes_eq (upper_case_name x) (upper_case_name y)) a.0 b.0 ∙ itself (upper_case_name return_name) ∙ sym (eq-eqb i j same)
 
 -- ---- system functions
 
 abbrev AreOthers : Formal → List Formal → Type 0
-AreOthers f fs = AllByRecursion (λ (g : Formal). (bytes_eq (folded f.name) (folded g.name) ≡ false) × (bytes_eq (folded g.name) (folded f.name) ≡ false)) fs
+AreOthers f fs = AllByRecursion (λ (g : Formal). (bytes_eq (upper_case_name f.name) (upper_case_name g.name) ≡ false) × (bytes_eq (upper_case_name g.name) (upper_case_name f.name) ≡ false)) fs
 
 abbrev AreDistinct : List Formal → Type 0
 AreDistinct [] = Unit {0}
 AreDistinct (f ∷ fs) = AreOthers f fs × AreDistinct fs
 
 others_at : (f : Formal) (fs : List Formal) → AreOthers f fs → (i : ℕ) (g : Formal) → slice_get fs i ≡ Some g
-    → (bytes_eq (folded f.name) (folded g.name) ≡ false) × (bytes_eq (folded g.name) (folded f.name) ≡ false)
+    → (bytes_eq (upper_case_name f.name) (upper_case_name g.name) ≡ false) × (bytes_eq (upper_case_name g.name) (upper_case_name f.name) ≡ false)
 others_at f [] h i g e = absurd cc
 others_at f (x ∷ fs) h zero g e =
-    subst (λ (z : Formal). (bytes_eq (folded f.name) (folded z.name) ≡ false) × (bytes_eq (folded z.name) (folded f.name) ≡ false)) (same_Some x g e) h.0
+    subst (λ (z : Formal). (bytes_eq (upper_case_name f.name) (upper_case_name z.name) ≡ false) × (bytes_eq (upper_case_name z.name) (upper_case_name f.name) ≡ false)) (same_Some x g e) h.0
 others_at f (x ∷ fs) h (suc i) g e = others_at f fs h.1 i g e
 
 next : (i j : ℕ) → (i == j) ≡ (suc i == suc j)
@@ -156,11 +156,11 @@ next i j = by (i == j) refl
 apart : (fs : List Formal) → AreDistinct fs → AreNamedApart fs
 apart [] d i j f g e k = absurd cc
 apart (x ∷ fs) d zero zero f g e k =
-    ap₂ (λ (y z : Formal). bytes_eq (folded y.name) (folded z.name)) (sym (same_Some x f e)) (sym (same_Some x g k)) ∙ itself (folded x.name)
+    ap₂ (λ (y z : Formal). bytes_eq (upper_case_name y.name) (upper_case_name z.name)) (sym (same_Some x f e)) (sym (same_Some x g k)) ∙ itself (upper_case_name x.name)
 apart (x ∷ fs) d zero (suc j) f g e k =
-    ap (λ (y : Formal). bytes_eq (folded y.name) (folded g.name)) (sym (same_Some x f e)) ∙ (others_at x fs d.0 j g k).0 ∙ sym (ne_eqb 0 (suc j) (λ e. absurd (omega (arith, e))))
+    ap (λ (y : Formal). bytes_eq (upper_case_name y.name) (upper_case_name g.name)) (sym (same_Some x f e)) ∙ (others_at x fs d.0 j g k).0 ∙ sym (ne_eqb 0 (suc j) (λ e. absurd (omega (arith, e))))
 apart (x ∷ fs) d (suc i) zero f g e k =
-    ap (λ (y : Formal). bytes_eq (folded f.name) (folded y.name)) (sym (same_Some x g k)) ∙ (others_at x fs d.0 i f e).1 ∙ sym (ne_eqb (suc i) 0 (λ e. absurd (omega (arith, e))))
+    ap (λ (y : Formal). bytes_eq (upper_case_name f.name) (upper_case_name y.name)) (sym (same_Some x g k)) ∙ (others_at x fs d.0 i f e).1 ∙ sym (ne_eqb (suc i) 0 (λ e. absurd (omega (arith, e))))
 apart (x ∷ fs) d (suc i) (suc j) f g e k = apart fs d.1 i j f g e k ∙ next i j
 
 abbrev formals_by : (a b c d e f g h i : Bool) → Option (List Formal)

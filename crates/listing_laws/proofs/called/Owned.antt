@@ -2,7 +2,7 @@
 use Rattle.std.proofs.Common.{◌≡◌, ℕ, zero, suc, ◌+◌, ◌-◌, ◌/◌, Bool, true, false, not, nat_eq, is_some, List, [], ◌∷◌, ◌++◌, length, map, Option, Some, None, slice_get, refl, sym, ap, subst, ◌∙◌, arith, if◌then◌else◌, leb, ne_eqb}
 use Rattle.std.specs.List.{AllByRecursion}
 use Rattle.std.proofs.lemmas.Option.{same_Some}
-use Rattle.plc_base.specs.Folding.{folded}
+use Rattle.plc_base.specs.Folding.{upper_case_name}
 use Rattle.plc_base.specs.declared.blocks.BlockId.{BlockId}
 use Rattle.plc_base.specs.declared.places.Area.{Area}
 use Rattle.plc_base.specs.declared.places.Area.TheVariants as area
@@ -311,7 +311,7 @@ module _ (c : Context) (own : in_function c ≡ true → AllByRecursion IsParame
   target_own (target.Block id) = tt
 
   path_own : (p : PathHead) (steps : List PathStep) → SeenOwn (path_seen c p steps)
-  path_own (head.Local name) steps = variable_own (folded name) (folded_path steps)
+  path_own (head.Local name) steps = variable_own (upper_case_name name) (folded_path steps)
   path_own (head.InBlock name) steps = data_own name (folded_path steps)
   path_own (head.Symbol name) steps = by (symbol_named name c.symbols)
     where

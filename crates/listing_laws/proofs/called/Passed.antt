@@ -2,7 +2,7 @@
 use Rattle.std.proofs.Common.{◌≡◌, ℕ, suc, Bool, true, false, not, List, [], ◌∷◌, ◌++◌, length, map, append_assoc, find, bytes_eq, Option, Some, None, slice_get, refl, sym, ap, subst, ◌∙◌, cond, eqb-true, if◌then◌else◌}
 use Rattle.std.specs.List.{AllByRecursion}
 use Rattle.std.proofs.lemmas.Option.{same_Some}
-use Rattle.plc_base.specs.Folding.{folded}
+use Rattle.plc_base.specs.Folding.{upper_case_name}
 use Rattle.plc_base.proofs.ListLemmas.{all_append}
 use Rattle.plc_base.proofs.TruthLemmas.{and_first}
 use Rattle.plc_base.specs.declared.blocks.BlockId.{BlockId}
@@ -139,9 +139,9 @@ module _ (c : Context) (own : List Simple) (own_seen : SeesOwn c own) (all : Lis
       one : (o : Option Actual) → supplied actuals f ≡ o → AreHanded (passed_actual c i o)
       one None is = tt
       one (Some a) is =
-          let k = found_fits (λ (a : Actual). bytes_eq (folded a.name) f.name) (λ (a : Actual). misfits c a (formal_named formals a.name) ≡ false) actuals fits a is in
+          let k = found_fits (λ (a : Actual). bytes_eq (upper_case_name a.name) f.name) (λ (a : Actual). misfits c a (formal_named formals a.name) ≡ false) actuals fits a is in
           seen_handed f i a.value (seen c a.value) refl
-          (not_not (fits_operand c f a.value) (ap (misfits c a) (sym (found.0 (folded a.name) k.1)) ∙ k.0))
+          (not_not (fits_operand c f a.value) (ap (misfits c a) (sym (found.0 (upper_case_name a.name) k.1)) ∙ k.0))
           (ap (λ (z : List Formal). slice_get (map (λ (f : Formal). f.kind) z) i) e ∙ at_seam front f fs i n)
 
 pub passed_on : ArePassedOn

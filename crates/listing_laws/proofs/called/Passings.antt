@@ -5,7 +5,7 @@ use Rattle.std.specs.List.{AllByRecursion, list_all, list_any}
 use Rattle.std.proofs.lemmas.Bool.{cases_lt}
 use Rattle.std.proofs.lemmas.Bool.Decides.{nat_tests}
 use Rattle.std.proofs.lemmas.Option.{same_Some, slice_get_within}
-use Rattle.plc_base.specs.Folding.{folded}
+use Rattle.plc_base.specs.Folding.{upper_case_name}
 use Rattle.plc_base.specs.Kinds.{is_function_block}
 use Rattle.plc_base.specs.Widths.{width_number}
 use Rattle.plc_base.specs.declared.places.Area.{Area}
@@ -466,31 +466,31 @@ module _ (c : Context) (own called : List Formal) (line : ℕ) (named : AreNamed
   each_named : (fs : List Formal) (o : Option Block) → in_order o fs ≡ map upper called → (p : Passing) (f : Formal) → slice_get called p.index ≡ Some f
       → names_none fs (actual line own f p.actual) ≡ false
   each_named fs o order p f e =
-      ap not (sym (any_ordered (λ (g : Formal). bytes_eq (folded f.name) g.name) o fs)
-      ∙ ap (list_any (λ (g : Formal). bytes_eq (folded f.name) g.name)) order
-      ∙ any_there (λ (g : Formal). bytes_eq (folded f.name) g.name) (map upper called) p.index (upper f) (at_upper called p.index f e) (named p.index p.index f f e e ∙ itself p.index))
+      ap not (sym (any_ordered (λ (g : Formal). bytes_eq (upper_case_name f.name) g.name) o fs)
+      ∙ ap (list_any (λ (g : Formal). bytes_eq (upper_case_name f.name) g.name)) order
+      ∙ any_there (λ (g : Formal). bytes_eq (upper_case_name f.name) g.name) (map upper called) p.index (upper f) (at_upper called p.index f e) (named p.index p.index f f e e ∙ itself p.index))
 
   each_fits : (fs : List Formal) (o : Option Block) → in_order o fs ≡ map upper called → (p : Passing) (f : Formal) → slice_get called p.index ≡ Some f
       → FitsListed c own f p.actual → misfits c (actual line own f p.actual) (formal_named fs f.name) ≡ false
   each_fits fs o order p f e h = by (formal_named fs f.name) refl
     where
-      is_own : (g : Formal) → (bytes_eq (folded f.name) g.name ≡ true) × Stands fs g → upper f ≡ g
+      is_own : (g : Formal) → (bytes_eq (upper_case_name f.name) g.name ≡ true) × Stands fs g → upper f ≡ g
       is_own g found =
           let there = subst (λ (z : List Formal). Stands z g) order (stands_ordered o fs g found.1) in
           let raw = from_upper called there.0 g there.1 in
-          let test : bytes_eq (folded f.name) (folded raw.0.name) ≡ true = ap (λ (z : Formal). bytes_eq (folded f.name) z.name) raw.2 ∙ found.0 in
+          let test : bytes_eq (upper_case_name f.name) (upper_case_name raw.0.name) ≡ true = ap (λ (z : Formal). bytes_eq (upper_case_name f.name) z.name) raw.2 ∙ found.0 in
           let at : p.index ≡ there.0 = eqb-true p.index there.0 (sym (named p.index there.0 f raw.0 e raw.1) ∙ test) in
           ap upper (same_Some f raw.0 (sym e ∙ ap (slice_get called) at ∙ raw.1)) ∙ raw.2
 
       by : (x : Option Formal) → formal_named fs f.name ≡ x → misfits c (actual line own f p.actual) x ≡ false
       by None is = refl
       by (Some g) is =
-          ap (λ (z : Formal). not (fits_operand c z (passed_operand own f p.actual))) (sym (is_own g (found_stands (λ (z : Formal). bytes_eq (folded f.name) z.name) fs g is)))
+          ap (λ (z : Formal). not (fits_operand c z (passed_operand own f p.actual))) (sym (is_own g (found_stands (λ (z : Formal). bytes_eq (upper_case_name f.name) z.name) fs g is)))
           ∙ ap not (fitted c own f p.actual h)
 
   -- names that come later are new
   abbrev AreNew : ℕ → List (List ℕ) → Type 0
-  AreNew i before = (j : ℕ) (g : Formal) → i ≤ j → slice_get called j ≡ Some g → place_of (folded g.name) before ≡ None
+  AreNew i before = (j : ℕ) (g : Formal) → i ≤ j → slice_get called j ≡ Some g → place_of (upper_case_name g.name) before ≡ None
 
   absent_both : (n : List ℕ) (xs : List (List ℕ)) (y : List ℕ) → place_of n xs ≡ None → bytes_eq n y ≡ false → place_of n (xs ++ y ∷ []) ≡ None
   absent_both n [] y e f = ap (λ (t : Bool). if t then Some 0 else option_map (λ k. suc k) (place_of n [])) f
@@ -507,9 +507,9 @@ module _ (c : Context) (own called : List Formal) (line : ℕ) (named : AreNamed
       by false h more = ap (λ (o : Option ℕ). option_map (λ k. suc k) o) (more (none_suc (place_of n xs) h))
 
   new_more : (p : Passing) (f : Formal) (i : ℕ) (before : List (List ℕ)) → slice_get called p.index ≡ Some f → i ≤ p.index → AreNew i before
-      → AreNew (suc p.index) (before ++ folded f.name ∷ [])
+      → AreNew (suc p.index) (before ++ upper_case_name f.name ∷ [])
   new_more p f i before e low new j g le there =
-      absent_both (folded g.name) before (folded f.name) (new j g (omega (arith, le, low)) there)
+      absent_both (upper_case_name g.name) before (upper_case_name f.name) (new j g (omega (arith, le, low)) there)
       (named j p.index g f there e ∙ ne_eqb j p.index (λ same. omega (arith, same, le)))
 
   once_from : (fs : List Formal) (i : ℕ) (before : List (List ℕ)) (ps : List Passing) → AllByRecursion (IsPassable c own called) ps → AreRising i ps
@@ -517,8 +517,8 @@ module _ (c : Context) (own called : List Formal) (line : ℕ) (named : AreNamed
   once_from fs i before [] h rising new = refl
   once_from fs i before (p ∷ ps) h rising new =
       ap (supplied_twice fs before) (one_more line own called p ps h.0.formal h.0.there)
-      ∙ ap (λ (t : Bool). (if t then record { line = line; rule = 35 } ∷ [] else []) ++ supplied_twice fs (before ++ folded h.0.formal.name ∷ []) (listed line own called ps)) not_twice
-      ∙ once_from fs (suc p.index) (before ++ folded h.0.formal.name ∷ []) ps h.1 rising.1 (new_more p h.0.formal i before h.0.there rising.0 new)
+      ∙ ap (λ (t : Bool). (if t then record { line = line; rule = 35 } ∷ [] else []) ++ supplied_twice fs (before ++ upper_case_name h.0.formal.name ∷ []) (listed line own called ps)) not_twice
+      ∙ once_from fs (suc p.index) (before ++ upper_case_name h.0.formal.name ∷ []) ps h.1 rising.1 (new_more p h.0.formal i before h.0.there rising.0 new)
     where
       no_second : (t : Bool) → (t && false) ≡ false
       no_second true = refl
@@ -531,11 +531,11 @@ module _ (c : Context) (own called : List Formal) (line : ℕ) (named : AreNamed
 
   -- each parameter that is passed is supplied
   place_there : (i : ℕ) (f : Formal) → slice_get called i ≡ Some f → (ps : List Passing) → AllByRecursion (IsPassable c own called) ps
-      → list_any (λ (p : Passing). p.index == i) ps ≡ true → is_some (place_of (folded f.name) (supplied_names (listed line own called ps))) ≡ true
+      → list_any (λ (p : Passing). p.index == i) ps ≡ true → is_some (place_of (upper_case_name f.name) (supplied_names (listed line own called ps))) ≡ true
   place_there i f e [] h passes = absurd cc
   place_there i f e (p ∷ ps) h passes =
-      ap (λ (xs : List Actual). is_some (place_of (folded f.name) (supplied_names xs))) (one_more line own called p ps h.0.formal h.0.there)
-      ∙ ap (λ (t : Bool). is_some (if t then Some 0 else option_map (λ k. suc k) (place_of (folded f.name) (supplied_names (listed line own called ps))))) test
+      ap (λ (xs : List Actual). is_some (place_of (upper_case_name f.name) (supplied_names xs))) (one_more line own called p ps h.0.formal h.0.there)
+      ∙ ap (λ (t : Bool). is_some (if t then Some 0 else option_map (λ k. suc k) (place_of (upper_case_name f.name) (supplied_names (listed line own called ps))))) test
       ∙ by (p.index == i) passes (place_there i f e ps h.1)
     where
       turned : (a b : ℕ) → (a == b) ≡ (b == a)
@@ -545,7 +545,7 @@ module _ (c : Context) (own called : List Formal) (line : ℕ) (named : AreNamed
           by true h = sym (eq-eqb b a (sym (eqb-true a b h)))
           by false h = sym (ne_eqb b a (λ same. let yes = eq-eqb a b (sym same) in absurd cc))
 
-      test : bytes_eq (folded f.name) (folded h.0.formal.name) ≡ (p.index == i)
+      test : bytes_eq (upper_case_name f.name) (upper_case_name h.0.formal.name) ≡ (p.index == i)
       test = named i p.index f h.0.formal e h.0.there ∙ turned i p.index
 
       some_suc : (o : Option ℕ) → is_some o ≡ true → is_some (option_map (λ k. suc k) o) ≡ true
@@ -553,10 +553,10 @@ module _ (c : Context) (own called : List Formal) (line : ℕ) (named : AreNamed
       some_suc (Some m) h = refl
 
       by : (t : Bool) → (t || list_any (λ (p : Passing). p.index == i) ps) ≡ true
-          → (list_any (λ (p : Passing). p.index == i) ps ≡ true → is_some (place_of (folded f.name) (supplied_names (listed line own called ps))) ≡ true)
-          → is_some (if t then Some 0 else option_map (λ k. suc k) (place_of (folded f.name) (supplied_names (listed line own called ps)))) ≡ true
+          → (list_any (λ (p : Passing). p.index == i) ps ≡ true → is_some (place_of (upper_case_name f.name) (supplied_names (listed line own called ps))) ≡ true)
+          → is_some (if t then Some 0 else option_map (λ k. suc k) (place_of (upper_case_name f.name) (supplied_names (listed line own called ps)))) ≡ true
       by true any more = refl
-      by false any more = some_suc (place_of (folded f.name) (supplied_names (listed line own called ps))) (more any)
+      by false any more = some_suc (place_of (upper_case_name f.name) (supplied_names (listed line own called ps))) (more any)
 
   all_supplied : (fs : List Formal) (o : Option Block) → in_order o fs ≡ map upper called → (ps : List Passing) → AllByRecursion (IsPassable c own called) ps
       → AreAllPassed called ps → list_all (is_supplied (supplied_names (listed line own called ps))) fs ≡ true

@@ -11,7 +11,7 @@ use Rattle.plc_base.specs.declared.blocks.BlockKind.{BlockKind}
 use Rattle.plc_base.specs.declared.blocks.BlockKind.TheVariants as kinds
 use Rattle.flat_code.specs.Blocks.{Around, block_faults}
 use Rattle.flat_code.specs.Image.{record_of_block}
-use Rattle.flat_code.specs.Loading.{AreVerified, around, lens_of}
+use Rattle.flat_code.specs.Loading.{AreVerified, around_block, lens_of}
 use Rattle.flat_code.specs.Programs.{CodeBlock, DataBlock}
 use Rattle.flat_code.specs.Records.{BlockRecord}
 use Rattle.flat_code.specs.declared.programs.Param.{Param}
@@ -500,7 +500,7 @@ all_again : (c : Chains) (ss : List Signature) (lens : List (ℕ × ℕ)) (all :
     → AllByRecursion IsSourced bs → AllByRecursion (IsKnown c ss) bs → AllByRecursion (IsDeclaredAgain ss) bs
 all_again c ss lens all [] clean h k = tt
 all_again c ss lens all (b ∷ bs) (clean, cleans) (one, more) (known, knowns) =
-    (declared_again c ss (around (Some lens) all (record_of_block b)) b refl clean one known, all_again c ss lens all bs cleans more knowns)
+    (declared_again c ss (around_block (Some lens) all (record_of_block b)) b refl clean one known, all_again c ss lens all bs cleans more knowns)
 
 pub all_compiled : (P : CodeBlock → Type 0) (xs : List StatedBlock) → AllByRecursion (λ x. P (compiled x)) xs → AllByRecursion P (map compiled xs)
 all_compiled P [] h = tt

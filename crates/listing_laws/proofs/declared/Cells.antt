@@ -2,7 +2,7 @@
 use Rattle.std.proofs.Common.{◌≡◌, ℕ, suc, ◌+◌, ◌-◌, ◌<◌, ◌^◌, Bool, true, false, List, [], ◌∷◌, length, map, pos, is_some, refl, ap, subst, ◌∙◌, arith}
 use Rattle.std.specs.Prelude.{◌==◌, if◌then◌else◌, int_lt, unsigned_abs, ◌-ℤ◌}
 use Rattle.plc_base.proofs.ListLemmas.{all_append}
-use Rattle.plc_base.specs.Folding.{folded}
+use Rattle.plc_base.specs.Folding.{upper_case_name}
 use Rattle.stl_ast.specs.declared.blocks.PartKind.{PartKind}
 use Rattle.stl_ast.specs.declared.declarations.Declaration.{Declaration}
 use Rattle.stl_ast.specs.declared.declarations.Simple.TheVariants as simple
@@ -25,7 +25,7 @@ use Rattle.listing_laws.proofs.declared.Apart.{AreTaken, IsTaken, Numbered, para
 -- the cell of a parameter that is declared in a section, the first of it or not
 abbrev pub plain_cell : (opens : Bool) → PartKind → Formal → Cell
 plain_cell opens section f = record {
-  name = folded f.name;
+  name = upper_case_name f.name;
   section = section;
   level = 0;
   opens = opens;
@@ -47,7 +47,7 @@ AreNumbered i (f ∷ fs) = (f.name ≡ parameter_name i) × AreNumbered (suc i) 
 pub plain_new : (o : Outside) (before : List Declaration) (line i : ℕ) (static_ : Bool) (f : Formal) → f.name ≡ parameter_name i → i < 2 ^ 64
     → AreTaken i static_ (names_before o.names 0 before) → IsNew o before (plain_declaration line f)
 plain_new o before line i static_ f name h taken =
-    (ap (λ n. is_some (place_of (folded n) (names_before o.names 0 before))) name ∙ parameter_new i static_ (names_before o.names 0 before) h taken, refl)
+    (ap (λ n. is_some (place_of (upper_case_name n) (names_before o.names 0 before))) name ∙ parameter_new i static_ (names_before o.names 0 before) h taken, refl)
 
 pub plain_sound : (y : Types) (o : Outside) (before : List Declaration) (line : ℕ) (f : Formal) → o.depth ≡ 0 → IsNew o before (plain_declaration line f)
     → is_sound y o before (plain_declaration line f) ≡ true
@@ -57,9 +57,9 @@ plain_sound y o before line f shallow new =
 pub taken_next : (outer : List (List ℕ)) (before : List Declaration) (line i : ℕ) (static_ : Bool) (f : Formal) → f.name ≡ parameter_name i → i < 2 ^ 64
     → AreTaken i static_ (names_before outer 0 before) → AreTaken (suc i) static_ (names_before outer 0 (plain_declaration line f ∷ before))
 taken_next outer before line i static_ f name h taken =
-    all_append (IsTaken (suc i) static_) (names_before outer 0 before) (folded f.name ∷ [])
+    all_append (IsTaken (suc i) static_) (names_before outer 0 before) (upper_case_name f.name ∷ [])
     (taken_more i (suc i) static_ (names_before outer 0 before) (omega arith) taken)
-    (Numbered i (omega arith) h (ap folded name), tt)
+    (Numbered i (omega arith) h (ap upper_case_name name), tt)
 
 -- parameters that stand behind some declarations, of which they have the next numbers
 pub plain_listed : (y : Types) (o : Outside) (section : PartKind) (before : List Declaration) (line i : ℕ) (static_ : Bool) (fs : List Formal) → o.depth ≡ 0
@@ -74,7 +74,7 @@ plain_listed y o section before line i static_ (f ∷ fs) shallow (name, named) 
     let more = plain_listed y o section (d ∷ before) line (suc i) static_ fs shallow named (omega (arith, h)) (taken_next o.names before line i static_ f name (omega (arith, h)) taken) in
     let further : suc i + length fs ≡ i + suc (length fs) = omega arith in (
       (λ j. record {
-        name = folded f.name;
+        name = upper_case_name f.name;
         section = section;
         level = 0;
         opens = false;
@@ -95,7 +95,7 @@ plain_opened section (f ∷ fs) = refl
 -- the cell of an array of bytes
 abbrev pub byte_cell : PartKind → (name : List ℕ) → (bytes : ℕ) → Cell
 byte_cell section name bytes = record {
-  name = folded name;
+  name = upper_case_name name;
   section = section;
   level = 0;
   opens = true;
@@ -117,7 +117,7 @@ bytes_gap n h = grind arith
 pub bytes_count : (n : ℕ) → 0 < n → count (record { low = pos 0; high = pos (n - 1) }) ≡ n
 bytes_count n h = let up = not_upside (n - 1) in rw up (bytes_gap n h)
 
-bytes_sound : (y : Types) (o : Outside) (before : List Declaration) (line : ℕ) (name : List ℕ) (bytes : ℕ) → o.depth ≡ 0 → is_some (place_of (folded name) (names_before o.names 0 before)) ≡ false
+bytes_sound : (y : Types) (o : Outside) (before : List Declaration) (line : ℕ) (name : List ℕ) (bytes : ℕ) → o.depth ≡ 0 → is_some (place_of (upper_case_name name) (names_before o.names 0 before)) ≡ false
     → is_sound y o before (byte_array line name bytes []) ≡ true
 bytes_sound y o before line name bytes shallow new =
     let up = not_upside (bytes - 1) in
@@ -125,7 +125,7 @@ bytes_sound y o before line name bytes shallow new =
     rw new (rw up (rw none (rw shallow refl)))
 
 pub bytes_listed : (y : Types) (o : Outside) (section : PartKind) (before : List Declaration) (line : ℕ) (name : List ℕ) (bytes : ℕ) → o.depth ≡ 0
-    → is_some (place_of (folded name) (names_before o.names 0 before)) ≡ false
+    → is_some (place_of (upper_case_name name) (names_before o.names 0 before)) ≡ false
     → opened (cells_of y o section before (bytes_here line name bytes [])) ≡ byte_cells section name bytes
 unfolding cell_of
 bytes_listed y o section before line name bytes shallow new = by (bytes == 0)

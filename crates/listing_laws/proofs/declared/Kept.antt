@@ -9,7 +9,7 @@ use Rattle.plc_base.proofs.ListLemmas.{all_append}
 use Rattle.plc_base.specs.Kinds.{is_code, is_function, is_function_block}
 use Rattle.plc_base.specs.declared.blocks.BlockKind.{BlockKind}
 use Rattle.plc_base.specs.declared.blocks.BlockKind.TheVariants as kinds
-use Rattle.plc_base.specs.Folding.{folded}
+use Rattle.plc_base.specs.Folding.{upper_case_name}
 use Rattle.flat_code.specs.Programs.{CodeBlock}
 use Rattle.flat_code.specs.declared.programs.Param.{Param}
 use Rattle.stl_ast.specs.Blocks.{is_parameter}
@@ -292,7 +292,7 @@ length_again cs vs ds bytes alike total is_even short = by (bytes == 0) refl
 -- cells with the names and the types of parameters
 abbrev pub AreCellsOf : List Cell → List Formal → Type 0
 AreCellsOf [] [] = Unit {0}
-AreCellsOf (c ∷ cs) (f ∷ fs) = (c.name ≡ folded f.name) × (c.of ≡ Plain f.kind) × AreCellsOf cs fs
+AreCellsOf (c ∷ cs) (f ∷ fs) = (c.name ≡ upper_case_name f.name) × (c.of ≡ Plain f.kind) × AreCellsOf cs fs
 AreCellsOf _ _ = ⊥
 
 later_cells : (kind : PartKind) (fs : List Formal) → AreCellsOf (map (plain_cell false kind) fs) fs

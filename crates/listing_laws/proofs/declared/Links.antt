@@ -14,13 +14,13 @@ use Rattle.plc_base.specs.declared.blocks.BlockKind.{BlockKind}
 use Rattle.plc_base.specs.declared.blocks.BlockKind.TheVariants as kinds
 use Rattle.plc_base.specs.declared.places.Width.{Width}
 use Rattle.plc_base.specs.declared.places.Width.TheVariants as width
-use Rattle.flat_code.specs.Blocks.{Around, Callee, Signature, at_offset, block_faults, block_with, call_fault, call_fault_among, callee, faults_over, is_bad_actual, is_bad_call, is_stray_pass, lacks_own, misfits_call, misfits_callee, misfits_index, op_faults, operand_fault, own_parameter, seven_if, signature_of, system_function, system_params}
+use Rattle.flat_code.specs.Blocks.{Around, CalleeSeen, BlockSignature, at_offset, block_faults, block_with, call_fault, call_fault_among, callee, faults_over, is_bad_actual, is_bad_call, is_stray_pass, lacks_own, misfits_call, misfits_callee, misfits_index, op_faults, operand_fault, parameter_meant, seven_if, signature_of, callee_of_system, system_params}
 use Rattle.flat_code.specs.Codes.{size}
 use Rattle.flat_code.specs.Image.{record_of_block, record_of_param}
-use Rattle.flat_code.specs.Loading.{AreVerified, Verifies, around, lens_of}
-use Rattle.flat_code.specs.OpCodes.{code_of}
+use Rattle.flat_code.specs.Loading.{AreVerified, Verifies, around_block, lens_of}
+use Rattle.flat_code.specs.OpCodes.{op_code_of}
 use Rattle.flat_code.specs.Ops.{OpData}
-use Rattle.flat_code.specs.Placed.{Placed, Spot, before_next, ending, last_op, opened, placed, spots, zones_behind}
+use Rattle.flat_code.specs.Placed.{Placed, StatementSpot, before_next, ending_op, last_op, brackets_after, ops_placed, spots, zones_behind_op}
 use Rattle.flat_code.specs.Programs.{CodeBlock, Program}
 use Rattle.flat_code.specs.declared.image_fields.OpenBracket.{OpenBracket}
 use Rattle.flat_code.specs.declared.image_fields.ParameterRecord.{ParameterRecord}
@@ -45,17 +45,17 @@ use Rattle.listing_laws.proofs.declared.Chains.{IsGoodLink, widths}
 -- a parameter is passed that is there, and fits what it is passed for
 abbrev IsPassedRight : Around → (last : FlatOperand) → FlatOperand → Type 0
 IsPassedRight a last (flat.Pass index (passed.Parameter own w)) =
-    (lacks_own (own_parameter a own) w ≡ false) × (misfits_call a last index (passed.Parameter own w) ≡ false)
+    (lacks_own (parameter_meant a own) w ≡ false) × (misfits_call a last index (passed.Parameter own w) ≡ false)
 IsPassedRight a last _ = Unit {0}
 
 -- a block that is called is there
 abbrev IsCalledRight : Around → FlatOperand → Type 0
-IsCalledRight a (flat.Called kind number instance) = (s : Callee) × (callee a.blocks kind number ≡ Some s)
+IsCalledRight a (flat.Called kind number instance) = (s : CalleeSeen) × (callee a.blocks kind number ≡ Some s)
 IsCalledRight a _ = Unit {0}
 
 abbrev AreRight : Around → List OpData → Type 0
 AreRight a [] = Unit {0}
-AreRight a (op ∷ ops) = (IsPassedRight a (ending op ops).operand op.operand × IsCalledRight a op.operand) × AreRight a ops
+AreRight a (op ∷ ops) = (IsPassedRight a (ending_op op ops).operand op.operand × IsCalledRight a op.operand) × AreRight a ops
 
 no_fault : (at : ℕ) (fault : Option ℕ) → at_offset at fault ≡ [] → fault ≡ None
 no_fault at None e = refl
@@ -73,14 +73,14 @@ second_false : (a b : Bool) → a ≡ true → (a && b) ≡ false → b ≡ fals
 second_false true b e h = h
 second_false false b e h = absurd cc
 
-passed_right : (a : Around) (ss : List Spot) (lens : List (ℕ × ℕ)) (p : Placed) (o : FlatOperand) → a.data_lens ≡ Some lens → operand_fault a ss p o ≡ None
+passed_right : (a : Around) (ss : List StatementSpot) (lens : List (ℕ × ℕ)) (p : Placed) (o : FlatOperand) → a.data_lens ≡ Some lens → operand_fault a ss p o ≡ None
     → call_fault_among a lens p o ≡ None → IsPassedRight a (last_op p).operand o
 passed_right a ss lens p (flat.Pass index (passed.Parameter own w)) e h k =
     let bad = no_seven (is_stray_pass p index || is_bad_actual a (passed.Parameter own w)) h in
     let stray = or_first (is_stray_pass p index) (is_bad_actual a (passed.Parameter own w)) bad in
-    let call = not_false ((last_op p).code == code_of (operation.Call calls.Call)) (or_first (not ((last_op p).code == code_of (operation.Call calls.Call))) _ stray) in (
+    let call = not_false ((last_op p).code == op_code_of (operation.Call calls.Call)) (or_first (not ((last_op p).code == op_code_of (operation.Call calls.Call))) _ stray) in (
       or_second (is_stray_pass p index) (is_bad_actual a (passed.Parameter own w)) bad,
-      second_false ((last_op p).code == code_of (operation.Call calls.Call)) (misfits_call a (last_op p).operand index (passed.Parameter own w)) call (no_seven _ k),
+      second_false ((last_op p).code == op_code_of (operation.Call calls.Call)) (misfits_call a (last_op p).operand index (passed.Parameter own w)) call (no_seven _ k),
     )
 passed_right a ss lens p (flat.Pass index (passed.Literal value)) e h k = tt
 passed_right a ss lens p (flat.Pass index (passed.Direct x w byte bit)) e h k = tt
@@ -90,25 +90,25 @@ passed_right a ss lens p _ e h k = tt
 called_right : (a : Around) (lens : List (ℕ × ℕ)) (p : Placed) (o : FlatOperand) → call_fault_among a lens p o ≡ None → IsCalledRight a o
 called_right a lens p (flat.Called kind number instance) k = by (callee a.blocks kind number) refl (no_seven _ k)
   where
-    by : (s : Option Callee) → callee a.blocks kind number ≡ s → is_bad_call lens s instance p.before ≡ false → (s : Callee) × (callee a.blocks kind number ≡ Some s)
+    by : (s : Option CalleeSeen) → callee a.blocks kind number ≡ s → is_bad_call lens s instance p.before ≡ false → (s : CalleeSeen) × (callee a.blocks kind number ≡ Some s)
     by None e h = absurd cc
     by (Some s) e h = (s, e)
 called_right a lens p _ k = tt
 
-ops_right : (a : Around) (lens : List (ℕ × ℕ)) (ss : List Spot) (at : ℕ) (brackets : List OpenBracket) (zones : List ℕ) (before ops : List OpData) → a.data_lens ≡ Some lens
-    → faults_over a ss 0 (placed at brackets zones before ops) ≡ [] → AreRight a ops
+ops_right : (a : Around) (lens : List (ℕ × ℕ)) (ss : List StatementSpot) (at : ℕ) (brackets : List OpenBracket) (zones : List ℕ) (before ops : List OpData) → a.data_lens ≡ Some lens
+    → faults_over a ss 0 (ops_placed at brackets zones before ops) ≡ [] → AreRight a ops
 unfolding op_faults
 ops_right a lens ss at brackets zones before [] known e = tt
 ops_right a lens ss at brackets zones before (op ∷ ops) known e =
     let p : Placed = record { at = at; brackets = brackets; zones = zones; before = before; op = op; rest = ops } in
-    let behind = faults_over a ss 0 (placed (at + size op) (opened at op.code brackets) (zones_behind at op.code zones) (before_next op before) ops) in
+    let behind = faults_over a ss 0 (ops_placed (at + size op) (brackets_after at op.code brackets) (zones_behind_op at op.code zones) (before_next op before) ops) in
     let here = none_left (op_faults a ss 0 p) behind e in
     let two = none_left _ _ (none_left _ _ (none_left _ _ here)) in
     let first = no_fault (0 + at) (operand_fault a ss p op.operand) (none_left _ _ two) in
     let second = no_fault (0 + at) (call_fault a a.data_lens p) (none_right _ _ two) in
     let among : call_fault_among a lens p op.operand ≡ None = sym (ap (λ z. call_fault a z p) known) ∙ second in (
       (passed_right a ss lens p op.operand known first among, called_right a lens p op.operand among),
-      ops_right a lens ss (at + size op) (opened at op.code brackets) (zones_behind at op.code zones) (before_next op before) ops known (none_right (op_faults a ss 0 p) behind e),
+      ops_right a lens ss (at + size op) (brackets_after at op.code brackets) (zones_behind_op at op.code zones) (before_next op before) ops known (none_right (op_faults a ss 0 p) behind e),
     )
 
 -- ---- statements
@@ -118,28 +118,28 @@ abbrev IsRightRun : Around → Run → Type 0
 IsRightRun a r = AllByRecursion (λ op. IsPassedRight a r.op.operand op.operand) r.before × IsCalledRight a r.op.operand
 
 -- the op that ends a statement, of which these are left
-ends_here : (op : OpData) (ops : List OpData) → op.last ≡ true → ending op ops ≡ op
+ends_here : (op : OpData) (ops : List OpData) → op.last ≡ true → ending_op op ops ≡ op
 ends_here op [] e = refl
-ends_here op (x ∷ ops) e = ap (λ (t : Bool). if t then op else ending x ops) e
+ends_here op (x ∷ ops) e = ap (λ (t : Bool). if t then op else ending_op x ops) e
 
-ends_later : (op next : OpData) (ops : List OpData) → op.last ≡ false → ending op (next ∷ ops) ≡ ending next ops
-ends_later op next ops e = ap (λ (t : Bool). if t then op else ending next ops) e
+ends_later : (op next : OpData) (ops : List OpData) → op.last ≡ false → ending_op op (next ∷ ops) ≡ ending_op next ops
+ends_later op next ops e = ap (λ (t : Bool). if t then op else ending_op next ops) e
 
 abbrev FitsNext : Around → (before ops : List OpData) → Type 0
 FitsNext a before [] = Unit {0}
-FitsNext a before (op ∷ ops) = AllByRecursion (λ x. IsPassedRight a (ending op ops).operand x.operand) before
+FitsNext a before (op ∷ ops) = AllByRecursion (λ x. IsPassedRight a (ending_op op ops).operand x.operand) before
 
 runs_right : (a : Around) (before ops : List OpData) → FitsNext a before ops → AreRight a ops → AllByRecursion (IsRightRun a) (runs_from before ops)
 runs_right a before [] fits h = tt
 runs_right a before (op ∷ ops) fits ((passes, calls_), more) =
     by op.last refl (runs_right a [] ops (none_before ops) more) (λ f. runs_right a (before ++ op ∷ []) ops f more)
   where
-    later : (ops : List OpData) → op.last ≡ false → AllByRecursion (λ x. IsPassedRight a (ending op ops).operand x.operand) before → IsPassedRight a (ending op ops).operand op.operand
+    later : (ops : List OpData) → op.last ≡ false → AllByRecursion (λ x. IsPassedRight a (ending_op op ops).operand x.operand) before → IsPassedRight a (ending_op op ops).operand op.operand
         → FitsNext a (before ++ op ∷ []) ops
     later [] e fits one = tt
     later (next ∷ rest) e fits one =
         let same = ends_later op next rest e in
-        all_append (λ x. IsPassedRight a (ending next rest).operand x.operand) before (op ∷ [])
+        all_append (λ x. IsPassedRight a (ending_op next rest).operand x.operand) before (op ∷ [])
         (subst (λ z. AllByRecursion (λ x. IsPassedRight a z.operand x.operand) before) same fits) (subst (λ z. IsPassedRight a z.operand op.operand) same one, tt)
 
     none_before : (ops : List OpData) → FitsNext a [] ops
@@ -215,11 +215,11 @@ same_kinds kinds.Fb kinds.Fc c d = refl
 same_kinds kinds.Fb kinds.Fb c d = refl
 same_kinds j k c d = absurd cc
 
-signature_in : CodeBlock → Signature
+signature_in : CodeBlock → BlockSignature
 signature_in b = signature_of (record_of_block b)
 
 -- the kind of a block that is found
-found_kind : (kind number : ℕ) (bs : List CodeBlock) (s : Callee) → AllByRecursion (λ b. is_code b.id.kind ≡ true) bs → block_with kind number (map signature_of (map record_of_block bs)) ≡ Some s
+found_kind : (kind number : ℕ) (bs : List CodeBlock) (s : CalleeSeen) → AllByRecursion (λ b. is_code b.id.kind ≡ true) bs → block_with kind number (map signature_of (map record_of_block bs)) ≡ Some s
     → (k : BlockKind) × (is_code k ≡ true) × (kind ≡ kind_number k)
 found_kind kind number [] s codes e = absurd cc
 found_kind kind number (b ∷ bs) s (code, codes) e = by (kind_number b.id.kind == kind && b.id.number == number) refl e (λ f. found_kind kind number bs s codes f)
@@ -232,7 +232,7 @@ found_kind kind number (b ∷ bs) s (code, codes) e = by (kind_number b.id.kind 
     by false t f more = more f
 
 -- a parameter of the block that is found, among those of all blocks
-found_there : (k : BlockKind) (number : ℕ) (bs : List CodeBlock) (s : Callee) (index : ℕ) (r : ParameterRecord) (w : Width) → is_code k ≡ true → AllByRecursion (λ b. is_code b.id.kind ≡ true) bs
+found_there : (k : BlockKind) (number : ℕ) (bs : List CodeBlock) (s : CalleeSeen) (index : ℕ) (r : ParameterRecord) (w : Width) → is_code k ≡ true → AllByRecursion (λ b. is_code b.id.kind ≡ true) bs
     → block_with (kind_number k) number (map signature_of (map record_of_block bs)) ≡ Some s → slice_get s.2 index ≡ Some r → r.width ≡ width_number w
     → slice_get (widths bs) (first_of bs (record { kind = k; number = number }) + index) ≡ Some w
 found_there k number [] s index r w is codes e there wide = absurd cc
@@ -262,7 +262,7 @@ found_there k number (b ∷ bs) s index r w is (code, codes) e there wide =
 
 -- ---- links
 
-own_width : (a : Around) (ps : List Param) (own : ℕ) (w : Width) → a.params ≡ map record_of_param ps → lacks_own (own_parameter a own) w ≡ false → slice_get (map (λ p. p.width) ps) own ≡ Some w
+own_width : (a : Around) (ps : List Param) (own : ℕ) (w : Width) → a.params ≡ map record_of_param ps → lacks_own (parameter_meant a own) w ≡ false → slice_get (map (λ p. p.width) ps) own ≡ Some w
 own_width a ps own w params e = by (a.kind == kind_number kinds.Fc) e
   where
     by : (t : Bool) → lacks_own (if t then slice_get a.params own else None) w ≡ false → slice_get (map (λ (p : Param). p.width) ps) own ≡ Some w
@@ -272,7 +272,7 @@ own_width a ps own w params e = by (a.kind == kind_number kinds.Fc) e
 -- what each passing of a parameter comes to
 abbrev Joined : List Width → Around → (last : FlatOperand) → (first other : ℕ) → Type 0
 Joined ws a last first other =
-    (index own : ℕ) (w : Width) → lacks_own (own_parameter a own) w ≡ false → misfits_call a last index (passed.Parameter own w) ≡ false
+    (index own : ℕ) (w : Width) → lacks_own (parameter_meant a own) w ≡ false → misfits_call a last index (passed.Parameter own w) ≡ false
     → slice_get ws (first + own) ≡ slice_get ws (other + index)
 
 joined_good : (ws : List Width) (a : Around) (last : FlatOperand) (first other : ℕ) (v : FlatOperand) → Joined ws a last first other → IsPassedRight a last v
@@ -293,7 +293,7 @@ all_joined ws a last first other (op ∷ ops) f (one, more) =
 -- and of a system function
 abbrev Typed : List Width → Around → (last : FlatOperand) → (first : ℕ) → List Formal → Type 0
 Typed ws a last first formals =
-    (index own : ℕ) (w : Width) (f : Formal) → lacks_own (own_parameter a own) w ≡ false → misfits_call a last index (passed.Parameter own w) ≡ false → slice_get formals index ≡ Some f
+    (index own : ℕ) (w : Width) (f : Formal) → lacks_own (parameter_meant a own) w ≡ false → misfits_call a last index (passed.Parameter own w) ≡ false → slice_get formals index ≡ Some f
     → slice_get ws (first + own) ≡ Some (width_of f.kind)
 
 typed_good : (ws : List Width) (own : ℕ) (o : Option Formal) → ((f : Formal) → o ≡ Some f → slice_get ws own ≡ Some (width_of f.kind)) → AllByRecursion (IsGoodLink ws) (typed_link own o)
@@ -352,15 +352,15 @@ call_good a blocks first b kind number instance before among (s, found) h = by (
     last : FlatOperand
     last = flat.Called kind number instance
 
-    by : (t : Bool) → nat_eq kind 5 ≡ t → (if t then option_map system_function (system_params number) else block_with kind number a.blocks) ≡ Some s
+    by : (t : Bool) → nat_eq kind 5 ≡ t → (if t then option_map callee_of_system (system_params number) else block_with kind number a.blocks) ≡ Some s
         → AllByRecursion (IsGoodLink ws) (call_links blocks (called_id kind number) first before)
     by true e f = system
       where
         is : is_system_function (called_kind kind) ≡ true
         is = ap (λ n. is_system_function (called_kind n)) (eqb-true kind 5 e)
 
-        there : callee a.blocks kind number ≡ option_map system_function (system_params number)
-        there = ap (λ (t : Bool). if t then option_map system_function (system_params number) else block_with kind number a.blocks) e
+        there : callee a.blocks kind number ≡ option_map callee_of_system (system_params number)
+        there = ap (λ (t : Bool). if t then option_map callee_of_system (system_params number) else block_with kind number a.blocks) e
 
         typed : Typed ws a last first (system_parameters number)
         typed index own w x lacks fits at = whether (system_formals number) refl at
@@ -369,7 +369,7 @@ call_good a blocks first b kind number instance before among (s, found) h = by (
             whether None g k = absurd cc
             whether (Some formals) g k =
                 let m = system_matched number formals g in
-                let whole : callee a.blocks kind number ≡ Some (system_function m.params) = there ∙ ap (option_map system_function) m.is in
+                let whole : callee a.blocks kind number ≡ Some (callee_of_system m.params) = there ∙ ap (option_map callee_of_system) m.is in
                 let r = fits_width a (slice_get m.params index) own w (ap (λ z. misfits_callee a z index (passed.Parameter own w)) (sym whole) ∙ fits) in
                 let same : width_number w ≡ width_number (width_of x.kind) = sym r.2 ∙ matched_width formals m.params index x r.0 m.matched k r.1 in
                 among.own own w (own_width a b.params own w among.params lacks) ∙ ap Some (width_same w (width_of x.kind) (grind (arith, nat_tests)))
@@ -439,7 +439,7 @@ all_good : (lens : List (ℕ × ℕ)) (blocks : List CodeBlock) (first : ℕ) (f
 all_good lens blocks first front [] codes h e are = tt
 all_good lens blocks first front (b ∷ bs) codes (one, more) e are =
     all_append (IsGoodLink (widths blocks)) (block_links blocks first b.code) (links_from blocks (first + length b.params) bs)
-    (block_good (around (Some lens) (map record_of_block blocks) (record_of_block b)) lens blocks first b refl
+    (block_good (around_block (Some lens) (map record_of_block blocks) (record_of_block b)) lens blocks first b refl
     (record { params = refl; others = refl; codes = codes; own = own_place }) one)
     (all_good lens blocks (first + length b.params) (front ++ own) bs codes more (omega (arith, e, size, few)) (are ∙ sym (append_assoc front own (widths bs))))
   where

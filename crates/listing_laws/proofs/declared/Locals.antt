@@ -12,7 +12,7 @@ use Rattle.flat_code.specs.Blocks.{Around, at_offset, block_faults, faults_over,
 use Rattle.flat_code.specs.Operations.{operation_of}
 use Rattle.flat_code.specs.Ops.{OpData}
 use Rattle.flat_code.specs.Codes.{size}
-use Rattle.flat_code.specs.Placed.{Placed, Spot, before_next, opened, placed, spots, zones_behind}
+use Rattle.flat_code.specs.Placed.{Placed, StatementSpot, before_next, brackets_after, ops_placed, spots, zones_behind_op}
 use Rattle.flat_code.specs.declared.image_fields.OpenBracket.{OpenBracket}
 use Rattle.flat_code.specs.Programs.{CodeBlock}
 use Rattle.flat_code.specs.declared.operands.Operand.TheVariants as flat
@@ -90,24 +90,24 @@ actual_near around (passed.InBlock number area.M w byte bit) e = tt
 actual_near around (passed.InBlock number area.Di w byte bit) e = tt
 actual_near around (passed.InBlock number area.P w byte bit) e = tt
 
-operand_near : (around : Around) (ss : List Spot) (p : Placed) (o : FlatOperand) → operand_fault around ss p o ≡ None → NearOperand around.local_len o
+operand_near : (around : Around) (ss : List StatementSpot) (p : Placed) (o : FlatOperand) → operand_fault around ss p o ≡ None → NearOperand around.local_len o
 operand_near around ss p (flat.Direct a w byte bit) e =
     place_near around a w byte bit (or_second (lacks_width p.op w) (is_bad_place around a w byte bit) (no_seven (lacks_width p.op w || is_bad_place around a w byte bit) e))
 operand_near around ss p (flat.Pass index actual) e =
     actual_near around actual (or_second (is_stray_pass p index) (is_bad_actual around actual) (no_seven (is_stray_pass p index || is_bad_actual around actual) e))
 operand_near around ss p _ e = tt
 
-ops_near : (around : Around) (ss : List Spot) (at : ℕ) (brackets : List OpenBracket) (zones : List ℕ) (before ops : List OpData)
-    → faults_over around ss 0 (placed at brackets zones before ops) ≡ [] → AllByRecursion (NearOp around.local_len) ops
+ops_near : (around : Around) (ss : List StatementSpot) (at : ℕ) (brackets : List OpenBracket) (zones : List ℕ) (before ops : List OpData)
+    → faults_over around ss 0 (ops_placed at brackets zones before ops) ≡ [] → AllByRecursion (NearOp around.local_len) ops
 unfolding op_faults
 ops_near around ss at brackets zones before [] e = tt
 ops_near around ss at brackets zones before (op ∷ ops) e =
     let p : Placed = record { at = at; brackets = brackets; zones = zones; before = before; op = op; rest = ops } in
-    let behind = faults_over around ss 0 (placed (at + size op) (opened at op.code brackets) (zones_behind at op.code zones) (before_next op before) ops) in
+    let behind = faults_over around ss 0 (ops_placed (at + size op) (brackets_after at op.code brackets) (zones_behind_op at op.code zones) (before_next op before) ops) in
     let here = none_left (op_faults around ss 0 p) behind e in
     let first = none_left _ _ (none_left _ _ (none_left _ _ (none_left _ _ here))) in (
       operand_near around ss p op.operand (no_fault (0 + at) (operand_fault around ss p op.operand) first),
-      ops_near around ss (at + size op) (opened at op.code brackets) (zones_behind at op.code zones) (before_next op before) ops (none_right (op_faults around ss 0 p) behind e),
+      ops_near around ss (at + size op) (brackets_after at op.code brackets) (zones_behind_op at op.code zones) (before_next op before) ops (none_right (op_faults around ss 0 p) behind e),
     )
 
 pub code_near : (around : Around) (ops : List OpData) → block_faults around 0 ops ≡ [] → AllByRecursion (NearOp around.local_len) ops

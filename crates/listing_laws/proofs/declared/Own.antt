@@ -6,7 +6,7 @@ use Rattle.std.specs.List.{AllByRecursion, fold, list_all, range_with_len}
 use Rattle.std.proofs.lemmas.Bool.{and_from, and_parts, eqb-true}
 use Rattle.std.proofs.lemmas.Bool.Decides.{nat_tests}
 use Rattle.std.proofs.lemmas.List.Sums.{sum_by-cons}
-use Rattle.plc_base.specs.Folding.{folded}
+use Rattle.plc_base.specs.Folding.{upper_case_name}
 use Rattle.stl_ast.specs.declared.blocks.PartKind.TheVariants as part
 use Rattle.stl_ast.specs.declared.declarations.Init.{Init}
 use Rattle.stl_ast.specs.declared.declarations.Simple.TheVariants as simple
@@ -190,7 +190,7 @@ written_again bytes small near =
 -- the cell of the array that a data block has
 unfoldable pub own_cell : ℕ → List Init → Cell
 own_cell n values = record {
-  name = folded data_name;
+  name = upper_case_name data_name;
   section = part.Static;
   level = 0;
   opens = false;

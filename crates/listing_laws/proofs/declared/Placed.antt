@@ -3,7 +3,7 @@ use Rattle.std.proofs.Common.{◌≡◌, ℕ, suc, ◌+◌, ◌-◌, ◌/◌, �
 use Rattle.std.specs.Prelude.{if◌then◌else◌, nat_eq}
 use Rattle.std.specs.List.{AllByRecursion}
 use Rattle.std.specs.Str.{bytes_eq}
-use Rattle.plc_base.specs.Folding.{folded}
+use Rattle.plc_base.specs.Folding.{upper_case_name}
 use Rattle.plc_base.specs.Widths.{bit_count}
 use Rattle.flat_code.specs.declared.programs.Param.{Param}
 use Rattle.stl_ast.specs.Blocks.{is_parameter}
@@ -154,15 +154,15 @@ params_made look all (c ∷ cs) (p ∷ ps) (d ∷ ds) (one, more) e =
 
 abbrev pub AreNamed : ℕ → List Cell → Type 0
 AreNamed i [] = Unit {0}
-AreNamed i (c ∷ cs) = (c.name ≡ folded (parameter_name i)) × AreNamed (suc i) cs
+AreNamed i (c ∷ cs) = (c.name ≡ upper_case_name (parameter_name i)) × AreNamed (suc i) cs
 
 named_later : (kind : PartKind) (i : ℕ) (fs : List Formal) → AreNumbered i fs → AreNamed i (map (plain_cell false kind) fs)
 named_later kind i [] h = tt
-named_later kind i (f ∷ fs) (name, more) = (ap folded name, named_later kind (suc i) fs more)
+named_later kind i (f ∷ fs) (name, more) = (ap upper_case_name name, named_later kind (suc i) fs more)
 
 pub named_section : (kind : PartKind) (i : ℕ) (fs : List Formal) → AreNumbered i fs → AreNamed i (plain_cells kind fs)
 named_section kind i [] h = tt
-named_section kind i (f ∷ fs) (name, more) = (ap folded name, named_later kind (suc i) fs more)
+named_section kind i (f ∷ fs) (name, more) = (ap upper_case_name name, named_later kind (suc i) fs more)
 
 pub named_append : (i : ℕ) (cs ds : List Cell) → AreNamed i cs → AreNamed (i + length cs) ds → AreNamed i (cs ++ ds)
 named_append i [] ds h k = let e : i + 0 ≡ i = omega arith in subst (λ n. AreNamed n ds) e k
@@ -170,7 +170,7 @@ named_append i (c ∷ cs) ds (one, more) k =
     let e : i + suc (length cs) ≡ suc i + length cs = omega arith in
     (one, named_append (suc i) cs ds more (subst (λ n. AreNamed n ds) e k))
 
-apart_later : (n i : ℕ) (name : List ℕ) (cs : List Cell) → name ≡ folded (parameter_name n) → n < i → i + length cs < 2 ^ 64 → AreNamed i cs → AllByRecursion (λ d. bytes_eq d.name name ≡ false) cs
+apart_later : (n i : ℕ) (name : List ℕ) (cs : List Cell) → name ≡ upper_case_name (parameter_name n) → n < i → i + length cs < 2 ^ 64 → AreNamed i cs → AllByRecursion (λ d. bytes_eq d.name name ≡ false) cs
 apart_later n i name [] e less h named = tt
 apart_later n i name (c ∷ cs) e less h (one, more) =
     ((λ j. bytes_eq (one j) (e j)) ∙ parameters_apart i n (omega (arith, h)) less, apart_later n (suc i) name cs e (omega (arith, less)) (omega (arith, h)) more)

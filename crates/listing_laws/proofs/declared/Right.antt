@@ -3,8 +3,8 @@ use Rattle.std.proofs.Common.{◌≡◌, ℕ, suc, ◌+◌, ◌-◌, ◌<◌, �
 use Rattle.std.specs.Prelude.{◌==◌, ◌&&◌, if◌then◌else◌, int_lt, nat_le, nat_lt}
 use Rattle.std.proofs.lemmas.Bool.Decides.{nat_tests}
 use Rattle.plc_base.proofs.ListLemmas.{all_append}
-use Rattle.plc_base.specs.Folding.{folded}
-use Rattle.plc_base.specs.Gathered.{gathered}
+use Rattle.plc_base.specs.Folding.{upper_case_name}
+use Rattle.plc_base.specs.Gathered.{refusals_along}
 use Rattle.plc_base.specs.Least.{broken_if}
 use Rattle.flat_code.specs.Programs.{CodeBlock}
 use Rattle.stl_ast.specs.declared.blocks.Block.{Block}
@@ -60,7 +60,7 @@ plain_right y o before line f shallow new = record { twice = new.0; known = refl
 not_upside : (n : ℕ) → int_lt (pos n) (pos 0) ≡ false
 not_upside n = grind arith
 
-pub bytes_right : (y : Types) (o : Outside) (before : List Declaration) (line : ℕ) (name : List ℕ) (n : ℕ) (values : List Init) → (o.depth ≤ 1) → is_some (place_of (folded name) (names_before o.names 0 before)) ≡ false
+pub bytes_right : (y : Types) (o : Outside) (before : List Declaration) (line : ℕ) (name : List ℕ) (n : ℕ) (values : List Init) → (o.depth ≤ 1) → is_some (place_of (upper_case_name name) (names_before o.names 0 before)) ≡ false
     → init_fits (byte_array line name n values) ≡ true → IsRight y o before (byte_array line name n values)
 bytes_right y o before line name n values shallow new fit = record { twice = new; known = refl; fit = ap not fit; upside = upside; deep = deep }
   where
@@ -76,7 +76,7 @@ bytes_right y o before line name n values shallow new fit = record { twice = new
 -- ---- lists of declarations
 
 none_gathered : (breaks : List Declaration → Declaration → Bool) (rule : ℕ) (before ds : List Declaration) → AllBefore (λ before d. breaks before d ≡ false) before ds
-    → gathered (λ d. false) (λ before d. broken_if (breaks before d) d.line rule) (λ before d. d ∷ before) before ds ≡ []
+    → refusals_along (λ d. false) (λ before d. broken_if (breaks before d) d.line rule) (λ before d. d ∷ before) before ds ≡ []
 none_gathered breaks rule before [] h = refl
 none_gathered breaks rule before (d ∷ ds) (one, more) = rw one (none_gathered breaks rule (d ∷ before) ds more)
 
@@ -234,7 +234,7 @@ sections_right y o line fs g b shallow taken =
         by : (t : Bool) → AreTaken size true (names_before o.names 0 (onto before (if t then [] else byte_array line static_name (static_bytes b) [] ∷ [])))
         by true = taken_static size (names_before o.names 0 before) three.1
         by false =
-            all_append (IsTaken size true) (names_before o.names 0 before) (folded static_name ∷ []) (taken_static size (names_before o.names 0 before) three.1)
+            all_append (IsTaken size true) (names_before o.names 0 before) (upper_case_name static_name ∷ []) (taken_static size (names_before o.names 0 before) three.1)
             (StaticTaken refl refl, tt)
 
 pub code_right : (y : Types) (ss : List Signature) (reached : ℕ) (b : CodeBlock) (g : AreGrouped (formals_of ss b.id)) → AreDeclarationsRight y (listed_block ss reached b)

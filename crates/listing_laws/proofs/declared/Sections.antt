@@ -8,7 +8,7 @@ use Rattle.std.proofs.lemmas.Bool.{and_from}
 use Rattle.std.proofs.lemmas.Bool.Decides.{nat_tests}
 use Rattle.std.proofs.lemmas.Grind.{flat_map-append}
 use Rattle.plc_base.proofs.ListLemmas.{all_append}
-use Rattle.plc_base.specs.Folding.{folded}
+use Rattle.plc_base.specs.Folding.{upper_case_name}
 use Rattle.flat_code.specs.Programs.{CodeBlock}
 use Rattle.stl_ast.specs.Blocks.{part_rank}
 use Rattle.stl_ast.specs.declared.blocks.Part.{Part}
@@ -300,7 +300,7 @@ sections_cells y o line fs g b shallow taken = record {
         by : (t : Bool) → AreTaken count true (names_before o.names 0 (onto before (if t then [] else byte_array line static_name (static_bytes b) [] ∷ [])))
         by true = taken_static count (names_before o.names 0 before) three.1
         by false =
-            all_append (IsTaken count true) (names_before o.names 0 before) (folded static_name ∷ []) (taken_static count (names_before o.names 0 before) three.1)
+            all_append (IsTaken count true) (names_before o.names 0 before) (upper_case_name static_name ∷ []) (taken_static count (names_before o.names 0 before) three.1)
             (StaticTaken refl refl, tt)
 
     fifth : opened (cells_of y o part.Temp (onto (onto (onto (onto [] i) q) both) s) t) ≡ byte_cells part.Temp temporary_name b.local_len

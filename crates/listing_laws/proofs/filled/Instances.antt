@@ -5,7 +5,7 @@ use Rattle.std.specs.List.{AllByRecursion, flat_map, fold}
 use Rattle.std.specs.Option.{option_and_then}
 use Rattle.std.proofs.lemmas.Bool.Decides.{nat_tests}
 use Rattle.plc_base.proofs.ListLemmas.{all_append}
-use Rattle.plc_base.specs.Folding.{folded}
+use Rattle.plc_base.specs.Folding.{upper_case_name}
 use Rattle.plc_base.specs.Kinds.{is_same_block, is_same_kind}
 use Rattle.plc_base.specs.declared.blocks.BlockId.{BlockId}
 use Rattle.plc_base.specs.declared.blocks.BlockKind.TheVariants as kinds
@@ -334,7 +334,7 @@ module _ (others : List Symbol) (t : Tree) (ss : List Signature) (n : ℕ) (b : 
 
     indices_lead : IndicesLead ls k line bytes are start count
     indices_lead i less =
-        subst (λ o. LeadsTo ls k (step.Named (folded static_name) ∷ step.Index (pos i) ∷ []) (o + 8 * i) simple.Byte) (sym shared.begins)
+        subst (λ o. LeadsTo ls k (step.Named (upper_case_name static_name) ∷ step.Index (pos i) ∷ []) (o + 8 * i) simple.Byte) (sym shared.begins)
         (index_leads ls k h.place structure setting count (up (end_of 0 0 second) 16) (0 + length second) (second ++ bytes_cell ∷ []) i (cells_are ∙ ap (λ vs. second ++ vs) some)
         (static_found 0 0 0 second b.params bytes_cell h.both.named placed refl refl refl) at less few)
       where

@@ -8,7 +8,7 @@ use Rattle.std.proofs.lemmas.Bool.Decides.{nat_tests}
 use Rattle.std.proofs.lemmas.Grind.{flat_map-append}
 use Rattle.std.proofs.lemmas.Nat.Bits.{bit_at-zero}
 use Rattle.plc_base.proofs.ListLemmas.{all_append}
-use Rattle.plc_base.specs.Folding.{folded}
+use Rattle.plc_base.specs.Folding.{upper_case_name}
 use Rattle.plc_base.specs.Widths.{bit_count}
 use Rattle.flat_code.specs.declared.programs.Param.{Param}
 use Rattle.stl_ast.specs.declared.blocks.PathStep.TheVariants as step
@@ -95,7 +95,7 @@ AllSettable bytes _ _ = ⊥
 module _ (l : List BlockLayout) (k line : ℕ) (bytes : List ℕ) (are : AllByRecursion (λ b. b < 256) bytes) where
   -- ---- parameters
 
-  parameter_right : (f : Formal) (p : Param) → LeadsTo l k (step.Named (folded f.name) ∷ []) (8 * p.byte + p.bit) f.kind → IsSettable bytes f p
+  parameter_right : (f : Formal) (p : Param) → LeadsTo l k (step.Named (upper_case_name f.name) ∷ []) (8 * p.byte + p.bit) f.kind → IsSettable bytes f p
       → IsRight l k bytes (parameter_setting line f (value_in bytes p.width p.byte p.bit))
   parameter_right f p leads h =
       right_setting l k bytes (parameter_setting line f (value_in bytes p.width p.byte p.bit)) (8 * p.byte + p.bit) f.kind (value_write bytes p) leads
@@ -116,7 +116,7 @@ module _ (l : List BlockLayout) (k line : ℕ) (bytes : List ℕ) (are : AllByRe
       by true = tt
       by false = (parameter_right f p lead one, tt)
 
-  parameter_reached : (f : Formal) (p : Param) (j i : ℕ) → LeadsTo l k (step.Named (folded f.name) ∷ []) (8 * p.byte + p.bit) f.kind → IsSettable bytes f p → Reaches (bare p) j i
+  parameter_reached : (f : Formal) (p : Param) (j i : ℕ) → LeadsTo l k (step.Named (upper_case_name f.name) ∷ []) (8 * p.byte + p.bit) f.kind → IsSettable bytes f p → Reaches (bare p) j i
       → bit_in bytes j i ≡ 1 → OneReaches (setting_writes l k (parameter_here line f (value_in bytes p.width p.byte p.bit))) j i
   parameter_reached f p j i lead h r set = by (value == 0) refl
     where
@@ -150,7 +150,7 @@ module _ (l : List BlockLayout) (k line : ℕ) (bytes : List ℕ) (are : AllByRe
   -- ---- the bytes of VAR
 
   abbrev pub IndicesLead : (start count : ℕ) → Type 0
-  IndicesLead start count = (n : ℕ) → n < count → LeadsTo l k (step.Named (folded static_name) ∷ step.Index (pos n) ∷ []) (8 * start + 8 * n) simple.Byte
+  IndicesLead start count = (n : ℕ) → n < count → LeadsTo l k (step.Named (upper_case_name static_name) ∷ step.Index (pos n) ∷ []) (8 * start + 8 * n) simple.Byte
 
   byte_write : (start n : ℕ) → Write
   byte_write start n = record { offset = 8 * start + 8 * n; width = 8; value = byte_at bytes (start + n) }

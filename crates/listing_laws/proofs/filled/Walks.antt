@@ -5,7 +5,7 @@ use Rattle.std.specs.List.{AllByRecursion}
 use Rattle.std.specs.Str.{bytes_eq}
 use Rattle.std.proofs.lemmas.Bool.{eq-eqb}
 use Rattle.std.proofs.lemmas.Bool.Decides.{nat_tests}
-use Rattle.plc_base.specs.Folding.{folded}
+use Rattle.plc_base.specs.Folding.{upper_case_name}
 use Rattle.flat_code.specs.declared.programs.Param.{Param}
 use Rattle.stl_ast.specs.declared.blocks.PartKind.TheVariants as part
 use Rattle.stl_ast.specs.declared.blocks.PathStep.{PathStep}
@@ -43,7 +43,7 @@ pub record LeadsTo (l : List BlockLayout) (k : ℕ) (path : List PathStep) (offs
 -- so do the names of parameters
 abbrev pub AllLead : (l : List BlockLayout) → (k : ℕ) → List Formal → List Param → Type 0
 AllLead l k [] [] = Unit {0}
-AllLead l k (f ∷ fs) (p ∷ ps) = LeadsTo l k (step.Named (folded f.name) ∷ []) (8 * p.byte + p.bit) f.kind × AllLead l k fs ps
+AllLead l k (f ∷ fs) (p ∷ ps) = LeadsTo l k (step.Named (upper_case_name f.name) ∷ []) (8 * p.byte + p.bit) f.kind × AllLead l k fs ps
 AllLead l k _ _ = ⊥
 
 -- what the outermost names find, from a place among the cells on
@@ -62,8 +62,8 @@ all_look all [] = tt
 all_look all (c ∷ cs) = (refl, all_look all cs)
 
 -- VAR stands behind the parameters
-pub static_found : (at place i : ℕ) (ds : List Cell) (ps : List Param) (c : Cell) → AreNamed i ds → ArePlaced at ds ps → c.name ≡ folded static_name → c.level ≡ 0 → c.opens ≡ true
-    → component 0 at place (folded static_name) (ds ++ c ∷ []) ≡ Some (record { place = place + length ds; offset = up (end_of 0 at ds) 16 })
+pub static_found : (at place i : ℕ) (ds : List Cell) (ps : List Param) (c : Cell) → AreNamed i ds → ArePlaced at ds ps → c.name ≡ upper_case_name static_name → c.level ≡ 0 → c.opens ≡ true
+    → component 0 at place (upper_case_name static_name) (ds ++ c ∷ []) ≡ Some (record { place = place + length ds; offset = up (end_of 0 at ds) 16 })
 unfolding end_of
 static_found at place i [] [] c named h name outer opens =
     ap (λ n. component 0 at place n (c ∷ [])) (sym name) ∙ found_here at place c [] outer
@@ -74,9 +74,9 @@ static_found at place i [] [] c named h name outer opens =
 static_found at place i [] (p ∷ ps) c named h name outer opens = absurd h
 static_found at place i (d ∷ ds) [] c named h name outer opens = absurd h
 static_found at place i (d ∷ ds) (p ∷ ps) c (one, more) (here, others) name outer opens =
-    let other : bytes_eq (folded static_name) d.name ≡ false = ap (λ n. bytes_eq (folded static_name) n) one in
-    passed_by at place (folded static_name) d (ds ++ c ∷ []) (not_both (nat_eq d.level 0) (bytes_eq (folded static_name) d.name) (λ e. other))
-    ∙ ap (λ n. component 0 n (place + 1) (folded static_name) (ds ++ c ∷ [])) (past_any at d (ds ++ c ∷ []) here.kind here.cell)
+    let other : bytes_eq (upper_case_name static_name) d.name ≡ false = ap (λ n. bytes_eq (upper_case_name static_name) n) one in
+    passed_by at place (upper_case_name static_name) d (ds ++ c ∷ []) (not_both (nat_eq d.level 0) (bytes_eq (upper_case_name static_name) d.name) (λ e. other))
+    ∙ ap (λ n. component 0 n (place + 1) (upper_case_name static_name) (ds ++ c ∷ [])) (past_any at d (ds ++ c ∷ []) here.kind here.cell)
     ∙ static_found (past_cell at d) (place + 1) (suc i) ds ps c more others name outer opens
     ∙ (λ j. Some (record { place = further place (length ds) j; offset = up (sym (end_past at d ds here.kind here.cell) j) 16 }))
   where
@@ -140,12 +140,12 @@ module _ (l : List BlockLayout) (k q : ℕ) (structure : structure_of l k ≡ So
   all_lead whole at place (d ∷ ds) vs (f ∷ fs) [] are near short h of apart looks there = absurd h
   all_lead whole at place (d ∷ ds) vs (f ∷ fs) (p ∷ ps) are near short (one, more) (name, of, others) (apart, aparts) (look, looks) there =
       let end = end_past at d ds one.kind one.cell in
-      let found : component 0 0 0 (folded f.name) whole ≡ Some (record { place = place; offset = 8 * p.byte + p.bit }) =
+      let found : component 0 0 0 (upper_case_name f.name) whole ≡ Some (record { place = place; offset = 8 * p.byte + p.bit }) =
       ap (λ n. component 0 0 0 n whole) (sym name) ∙ look ∙ found_here at place d (ds ++ vs) one.cell.level ∙ ap (λ n. Some (record { place = place; offset = n })) one.offset in
       let is : IsElementary d f.kind = record { level = one.cell.level; sound = one.cell.sound; bounds = one.cell.bounds; of = of } in
       let inside = here_within 0 at d ds near (never_less d.level) (eq-eqb d.level 0 one.cell.level) one.cell.sound short in
       let none : place ≡ place + 0 = omega arith in (
-        name_leads whole (folded f.name) place (8 * p.byte + p.bit) d f.kind are found (ap (slice_get whole) none ∙ there 0) is
+        name_leads whole (upper_case_name f.name) place (8 * p.byte + p.bit) d f.kind are found (ap (slice_get whole) none ∙ there 0) is
             (begins (up at (alignment d)) (cell_bits d ds) (end_of 0 at ds_here) (8 * p.byte + p.bit) one.offset inside short),
         all_lead whole (past_cell at d) (place + 1) ds vs fs ps are (past_near at d near) (subst (λ n. n < largest) end short) more others aparts
             (looks_later (λ n. component 0 0 0 n whole) at place d one.kind (ds ++ vs) ds one.cell apart looks) later,
@@ -164,11 +164,11 @@ module _ (l : List BlockLayout) (k q : ℕ) (structure : structure_of l k ≡ So
 
   -- an index of VAR leads to a byte
   pub index_leads : (count offset place : ℕ) (cells : List Cell) (i : ℕ) → cells_at l q false ≡ cells
-      → component 0 0 0 (folded static_name) cells ≡ Some (record { place = place; offset = offset }) → slice_get cells place ≡ Some (byte_cell part.Static static_name count)
-      → i < count → offset + i * 8 ≤ largest → LeadsTo l k (step.Named (folded static_name) ∷ step.Index (pos i) ∷ []) (offset + 8 * i) simple.Byte
+      → component 0 0 0 (upper_case_name static_name) cells ≡ Some (record { place = place; offset = offset }) → slice_get cells place ≡ Some (byte_cell part.Static static_name count)
+      → i < count → offset + i * 8 ≤ largest → LeadsTo l k (step.Named (upper_case_name static_name) ∷ step.Index (pos i) ∷ []) (offset + 8 * i) simple.Byte
   unfolding step_of indexed element_of
   index_leads count offset place cells i are found there less few =
-      let name = folded static_name in
+      let name = upper_case_name static_name in
       let c = byte_cell part.Static static_name count in
       let path = step.Named name ∷ step.Index (pos i) ∷ [] in
       let spot = outer_spot q place offset in

@@ -6,7 +6,7 @@ use Rattle.std.specs.Option.{is_none, IfSome}
 use Rattle.std.specs.Str.{bytes_eq}
 use Rattle.std.proofs.lemmas.Bool.{false≢true}
 use Rattle.plc_base.proofs.ListLemmas.{all_append}
-use Rattle.plc_base.specs.Folding.{folded}
+use Rattle.plc_base.specs.Folding.{upper_case_name}
 use Rattle.plc_base.specs.Kinds.{is_code, is_function_block, kind_number}
 use Rattle.plc_base.specs.declared.blocks.BlockId.{BlockId}
 use Rattle.plc_base.specs.declared.blocks.BlockKind.{BlockKind}
@@ -16,7 +16,7 @@ use Rattle.plc_base.specs.declared.places.Area.TheVariants as area
 use Rattle.plc_base.specs.declared.places.Place.{Place}
 use Rattle.plc_base.specs.declared.places.Width.{Width}
 use Rattle.flat_code.specs.Instr.{Calls, Does, Instr, Jumps, JumpsByList, Passing, Returns}
-use Rattle.flat_code.specs.OpCodes.{code_of}
+use Rattle.flat_code.specs.OpCodes.{op_code_of}
 use Rattle.flat_code.specs.Ops.{OpData}
 use Rattle.flat_code.specs.declared.kinds.JumpOperation.TheVariants as jump
 use Rattle.flat_code.specs.declared.kinds.JumpOperation.{JumpOperation}
@@ -167,7 +167,7 @@ symbol_plain None h = tt
 symbol_plain (Some s) h = target_plain s.target h
 
 path_plain : (c : Context) (p : PathHead) (steps : List PathStep) → AreNoBits c.symbols → SeenIsNoBit (path_seen c p steps)
-path_plain c (head.Local name) steps h = own_plain c (folded name) (folded_path steps)
+path_plain c (head.Local name) steps h = own_plain c (upper_case_name name) (folded_path steps)
 path_plain c (head.InBlock name) steps h = data_plain c name (folded_path steps)
 path_plain c (head.Symbol name) steps h = symbol_plain (symbol_named name c.symbols) (named_no_bit name c.symbols h)
 
@@ -229,7 +229,7 @@ all_passed : (c : Context) (actuals : List Actual) (index : ℕ) (fs : List Form
 all_passed c actuals index [] h k = tt
 all_passed c actuals index (f ∷ fs) h k =
     all_append (λ p. PassedIsNoBit p.actual) (passed_actual c index (supplied actuals f)) (passings_from c actuals (suc index) fs)
-    (actual_passed c index (supplied actuals f) h (found_among ActualIsNoBit (λ a. bytes_eq (folded a.name) f.name) actuals k)) (all_passed c actuals (suc index) fs h k)
+    (actual_passed c index (supplied actuals f) h (found_among ActualIsNoBit (λ a. bytes_eq (upper_case_name a.name) f.name) actuals k)) (all_passed c actuals (suc index) fs h k)
 
 to_passed : (c : Context) (s : Statement) (o : Option Callee) → AreNoBits c.symbols → AllByRecursion ActualIsNoBit s.actuals → ArePassed (passings_to c s o)
 to_passed c s None h k = tt
@@ -297,7 +297,7 @@ OperandActs (flat.Called kind number instance) = ⊥
 OperandActs _ = Unit {0}
 
 abbrev IsCallTo : (how : CallOperation) (id : BlockId) (instance : Option ℕ) → List Passing → Type 0
-IsCallTo how id instance ps = IsCallBy (passing ps) (code_of (operation.Call how)) (kind_number id.kind) (instance_number instance)
+IsCallTo how id instance ps = IsCallBy (passing ps) (op_code_of (operation.Call how)) (kind_number id.kind) (instance_number instance)
 
 abbrev InstrIsNamed : Instr → Type 0
 InstrIsNamed (Does use_db w o) = OperandActs o
@@ -458,8 +458,8 @@ passing_prepares [] h = tt
 passing_prepares (p ∷ ps) (one, more) = (one, passing_prepares ps more)
 
 run_named : (f : ℕ → ℕ) (i : Instr) → InstrIsNamed i → RunIsNoBit (run_of f i)
-run_named f (Does None w o) h = record { prepares = tt; acts = aimed_acts f [] (code_of w) o h }
-run_named f (Does (Some n) w o) h = record { prepares = (tt, tt); acts = aimed_acts f _ (code_of w) o h }
+run_named f (Does None w o) h = record { prepares = tt; acts = aimed_acts f [] (op_code_of w) o h }
+run_named f (Does (Some n) w o) h = record { prepares = (tt, tt); acts = aimed_acts f _ (op_code_of w) o h }
 run_named f (Jumps how to) h = record { prepares = tt; acts = tt }
 run_named f (JumpsByList targets otherwise) h = record { prepares = tt; acts = tt }
 run_named f (Calls how id instance passings) h = record { prepares = passing_prepares passings h.1; acts = h.0 }

@@ -4,7 +4,7 @@ use Rattle.std.specs.Prelude.{◌==◌}
 use Rattle.std.specs.List.{AllByRecursion}
 use Rattle.std.proofs.lemmas.Bool.{eqb-true}
 use Rattle.plc_base.proofs.ListLemmas.{all_back}
-use Rattle.plc_base.specs.Folding.{folded}
+use Rattle.plc_base.specs.Folding.{upper_case_name}
 use Rattle.plc_base.specs.Kinds.{is_function}
 use Rattle.plc_base.specs.declared.blocks.BlockId.{BlockId}
 use Rattle.flat_code.specs.Programs.{CodeBlock}
@@ -52,7 +52,7 @@ returned_output c returns behind index first [] = tt
 returned_output c returns behind index first (p ∷ ps) = (by behind (p.section == 2) refl, returned_output c returns (is_behind returns behind p) (suc index) (suc first) ps)
   where
     other : parameter_name index ≡ return_name → ⊥
-    other e = let no : false ≡ true = ap (λ n. bytes_eq (folded n) (folded return_name)) e in absurd cc
+    other e = let no : false ≡ true = ap (λ n. bytes_eq (upper_case_name n) (upper_case_name return_name)) e in absurd cc
 
     by : (t s : Bool) → (p.section == 2) ≡ s → name_of (t && s) index ≡ return_name → section_of p.section ≡ part.Output
     by true true is e = ap section_of (eqb-true p.section 2 is)

@@ -9,7 +9,7 @@ use Rattle.plc_base.specs.Widths.{width_number}
 use Rattle.plc_base.specs.declared.blocks.BlockId.{BlockId}
 use Rattle.plc_base.specs.declared.blocks.BlockKind.{BlockKind}
 use Rattle.plc_base.specs.declared.blocks.BlockKind.TheVariants as kinds
-use Rattle.flat_code.specs.Blocks.{Signature as FlatSignature, block_with, callee as flat_callee, signature_of, system_function, system_params}
+use Rattle.flat_code.specs.Blocks.{BlockSignature as FlatSignature, block_with, callee as flat_callee, signature_of, callee_of_system, system_params}
 use Rattle.flat_code.specs.Image.{record_of_block, record_of_param}
 use Rattle.flat_code.specs.Programs.{CodeBlock, DataBlock, Program}
 use Rattle.flat_code.specs.declared.image_fields.ParameterRecord.{ParameterRecord}
@@ -164,7 +164,7 @@ system_kind kinds.Udt e = absurd cc
 system_flat : (blocks : List FlatSignature) (k : BlockKind) (n : ℕ) (params : List ParameterRecord) → k ≡ kinds.Sfc → system_params n ≡ Some params
     → flat_callee blocks (kind_number k) n ≡ Some (kind_number kinds.Sfc, 0, params)
 unfolding flat_callee
-system_flat blocks k n params is e = ap (λ j. flat_callee blocks (kind_number j) n) is ∙ ap (option_map system_function) e
+system_flat blocks k n params is e = ap (λ j. flat_callee blocks (kind_number j) n) is ∙ ap (option_map callee_of_system) e
 
 pub system_again : (symbols : List Symbol) (t : Tree) (others : List Symbol) (again : ℕ) (id : BlockId) (fs : List Formal) → is_system_function id.kind ≡ true → system_formals id.number ≡ Some fs
     → IsCalleeAgain symbols t others again id

@@ -6,14 +6,14 @@ use Rattle.std.specs.Option.{is_none}
 use Rattle.std.proofs.lemmas.Bool.{eqb-true, or_parts}
 use Rattle.std.proofs.lemmas.List.{length-map}
 use Rattle.std.proofs.lemmas.Option.{same_Some}
-use Rattle.plc_base.specs.Folding.{folded}
+use Rattle.plc_base.specs.Folding.{upper_case_name}
 use Rattle.plc_base.specs.Kinds.{is_callable, is_code, is_data_type, is_function, is_function_block, is_system_function, kind_number}
 use Rattle.plc_base.specs.Widths.{width_number}
 use Rattle.plc_base.specs.declared.blocks.BlockId.{BlockId}
 use Rattle.plc_base.specs.declared.blocks.BlockKind.{BlockKind}
 use Rattle.plc_base.specs.declared.blocks.BlockKind.TheVariants as kinds
 use Rattle.plc_base.specs.declared.places.Width.{Width}
-use Rattle.flat_code.specs.Blocks.{Around, Callee as FlatCallee, are_passed, is_bad_actual, is_bad_call, is_input, lacks_own, misfits_index, misfits_parameter, own_parameter, signature_of}
+use Rattle.flat_code.specs.Blocks.{Around, CalleeSeen as FlatCallee, are_passed, is_bad_actual, is_bad_call, is_in_parameter, lacks_own, misfits_index, misfits_parameter, parameter_meant, signature_of}
 use Rattle.flat_code.specs.Forms.{actual_fits}
 use Rattle.flat_code.specs.Image.{record_of_block, record_of_param}
 use Rattle.flat_code.specs.Instr.{Calls, Instr, Passing}
@@ -179,7 +179,7 @@ known_function id e sys = by (system_formals id.number) refl (sym (ap (λ (t : B
     by None is k = absurd cc
     by (Some fs) is k = (fs, is)
 
-own_seen : (c : Context) (own : List Formal) (index : ℕ) → seen c (own_named own index) ≡ own_variable c (folded (name_at own index)) []
+own_seen : (c : Context) (own : List Formal) (index : ℕ) → seen c (own_named own index) ≡ own_variable c (upper_case_name (name_at own index)) []
 unfolding seen
 own_seen c own index = refl
 
@@ -267,7 +267,7 @@ module _ (source file : List ℕ) (symbols : List Symbol) (t : Tree) (accepted :
     as_listed : IsListedAs formal r
     sees : seen listed (own_named own index) ≡ Resolved (view.Parameter index formal.section formal.kind)
 
-  own_there : (index : ℕ) (r : ParameterRecord) → own_parameter here index ≡ Some r → IsOwn index r
+  own_there : (index : ℕ) (r : ParameterRecord) → parameter_meant here index ≡ Some r → IsOwn index r
   own_there index r e = by (kind_number b.kind == kind_number kinds.Fc) refl e
     where
       by : (t' : Bool) → (kind_number b.kind == kind_number kinds.Fc) ≡ t' → (if t' then slice_get here.params index else None) ≡ Some r → IsOwn index r
@@ -279,7 +279,7 @@ module _ (source file : List ℕ) (symbols : List Symbol) (t : Tree) (accepted :
             formal = found.0;
             there = found.1;
             as_listed = found.2;
-            sees = own_seen listed own index ∙ ap (λ n. own_variable listed (folded n) []) (name_there own index found.0 found.1)
+            sees = own_seen listed own index ∙ ap (λ n. own_variable listed (upper_case_name n) []) (name_there own index found.0 found.1)
                 ∙ formal_again symbols t others again (compiled sb) here_listed function index found.0 found.1;
           }
 
@@ -459,9 +459,9 @@ module _ (source file : List ℕ) (symbols : List Symbol) (t : Tree) (accepted :
                 let zero_is : number ≡ 0 = eqb-true number 0 z in
                 absurd (no_zero listed (subst (λ n. data_number listed (data_block_name n) ≡ Some n) zero_is store))
         backed (passed.Parameter number w) is right k store =
-            let record_there = no_own (own_parameter here number) w right in
+            let record_there = no_own (parameter_meant here number) w right in
             let mine = own_there number record_there.0 record_there.1 in
-            let parts = or_parts (not (q.0.width == width_number w)) (not (q.0.section == 1) && is_input (own_parameter here number)) k in
+            let parts = or_parts (not (q.0.width == width_number w)) (not (q.0.section == 1) && is_in_parameter (parameter_meant here number)) k in
             let wide : width_of mine.formal.kind ≡ width_of asks.0.kind
             = same_kinds_wide asks.0 mine.formal q.0 record_there.0 w asks.2 mine.as_listed parts.0 (ap (λ o. lacks_own o w) (sym record_there.1) ∙ right) in
             let on = passes_on lower p.index number w higher (e ∙ ap (λ (x : Passed). lower ++ record { index = p.index; actual = x } ∷ higher) is) in

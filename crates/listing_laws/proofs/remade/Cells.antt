@@ -5,7 +5,7 @@ use Rattle.std.specs.List.{AllByRecursion, list_all}
 use Rattle.std.proofs.lemmas.List.{map-append}
 use Rattle.std.proofs.lemmas.Grind.{flat_map-append}
 use Rattle.plc_base.proofs.ListLemmas.{all_append}
-use Rattle.plc_base.specs.Folding.{folded}
+use Rattle.plc_base.specs.Folding.{upper_case_name}
 use Rattle.plc_base.specs.Kinds.{is_function_block}
 use Rattle.flat_code.specs.Programs.{CodeBlock}
 use Rattle.stl_ast.specs.Blocks.{is_parameter}
@@ -35,8 +35,8 @@ AreIn kind fs = AllByRecursion (λ f. f.section ≡ kind) fs
 plain_here : (kind : PartKind) (opens : Bool) (f : Formal) → is_parameter kind ≡ true → f.section ≡ kind → formal_here (plain_cell opens kind f) ≡ upper f ∷ []
 plain_here kind opens f is section =
     let s = sym section in
-    ap (λ (t : Bool). if t then record { name = folded f.name; section = kind; kind = f.kind } ∷ [] else []) is
-    ∙ (λ i. record { name = folded f.name; section = s i; kind = f.kind } ∷ [])
+    ap (λ (t : Bool). if t then record { name = upper_case_name f.name; section = kind; kind = f.kind } ∷ [] else []) is
+    ∙ (λ i. record { name = upper_case_name f.name; section = s i; kind = f.kind } ∷ [])
 
 plain_later : (kind : PartKind) (fs : List Formal) → is_parameter kind ≡ true → AreIn kind fs → formals_in (map (plain_cell false kind) fs) ≡ map upper fs
 plain_later kind [] is h = refl
@@ -66,7 +66,7 @@ returned_last last rest fs (NoLast e) h made =
     ap (λ z. return_last (last_result z) (formals_in (returned_cells (last_result z) ++ rest))) e ∙ made ∙ sym (append-nil fs) ∙ ap (λ z. fs ++ map upper z) (sym e)
 returned_last last rest fs (LastReturned f name e) h made =
     ap (λ z. return_last (last_result z) (formals_in (returned_cells (last_result z) ++ rest))) e
-    ∙ (λ i. made i ++ record { name = folded (back i); section = section i; kind = f.kind } ∷ [])
+    ∙ (λ i. made i ++ record { name = upper_case_name (back i); section = section i; kind = f.kind } ∷ [])
     ∙ ap (λ z. fs ++ map upper z) (sym e)
   where
     back : return_name ≡ f.name

@@ -2,7 +2,7 @@
 use Rattle.std.proofs.Common.{◌≡◌, ◌⊎◌, inl, inr, ℕ, zero, suc, ◌-◌, ◌<◌, Bool, false, List, [], ◌∷◌, ◌++◌, length, map, take, bytes_eq, Option, Some, None, slice_get, refl, sym, ap, ap₂, subst, ◌∙◌, arith, if◌then◌else◌, ne_eqb}
 use Rattle.std.specs.List.{AllByRecursion}
 use Rattle.std.proofs.lemmas.Option.{same_Some, slice_get_within}
-use Rattle.plc_base.specs.Folding.{folded}
+use Rattle.plc_base.specs.Folding.{upper_case_name}
 use Rattle.stl_ast.specs.declared.blocks.Block.{Block}
 use Rattle.stl_ast.specs.declared.declarations.Simple.{Simple}
 use Rattle.block_layout.specs.declared.blocks.BlockLayout.{BlockLayout}
@@ -118,7 +118,7 @@ module _ (c : Context) (b : Block) (l : BlockLayout) (at : IsFunctionAt c b l) (
   fs = formals_of l.components
 
   -- no component before it has its name
-  firsts : (index j : ℕ) (f : Formal) (name : List ℕ) → slice_get called index ≡ Some f → name ≡ folded f.name → behind_others (length fs) j b.result ≡ index → j < length fs
+  firsts : (index j : ℕ) (f : Formal) (name : List ℕ) → slice_get called index ≡ Some f → name ≡ upper_case_name f.name → behind_others (length fs) j b.result ≡ index → j < length fs
       → AllByRecursion (λ d. bytes_eq name d.name ≡ false) (take j l.components)
   firsts index j f name there is place within = all_taken (λ d. bytes_eq name d.name ≡ false) l.components j other
     where
@@ -132,7 +132,7 @@ module _ (c : Context) (b : Block) (l : BlockLayout) (at : IsFunctionAt c b l) (
           ∙ named index (behind_others (length fs) k b.result) f found.0 there found.1
           ∙ ne_eqb index (behind_others (length fs) k b.result) (λ same. places_apart b.result (length fs) j k within less (place ∙ same))
 
-  pub own_again : (index : ℕ) (f : Formal) → slice_get called index ≡ Some f → own_variable c (folded f.name) [] ≡ Resolved (view.Parameter index f.section f.kind)
+  pub own_again : (index : ℕ) (f : Formal) → slice_get called index ≡ Some f → own_variable c (upper_case_name f.name) [] ≡ Resolved (view.Parameter index f.section f.kind)
   own_again index f there =
       ap (λ (n : List ℕ). own_variable c n []) (sym name)
       ∙ own_parameters_found c b l spot.0 found.cell found.plain.kind at (levels l.components cells)
@@ -151,7 +151,7 @@ module _ (c : Context) (b : Block) (l : BlockLayout) (at : IsFunctionAt c b l) (
       found : IsOfCell l.components spot.0 (upper f)
       found = cell_from l.components cells spot.0 (upper f) spot.1
 
-      name : found.cell.name ≡ folded f.name
+      name : found.cell.name ≡ upper_case_name f.name
       name = ap (λ (z : Formal). z.name) found.is
 
       section : found.cell.section ≡ f.section

@@ -2,7 +2,7 @@
 use Rattle.std.proofs.Common.{◌≡◌, ℕ, zero, suc, Bool, true, false, List, [], ◌∷◌, map, Option, Some, slice_get, refl, sym, ap, subst, ◌∙◌}
 use Rattle.std.specs.List.{AllByRecursion}
 use Rattle.std.proofs.lemmas.Option.{same_Some}
-use Rattle.plc_base.specs.Folding.{folded}
+use Rattle.plc_base.specs.Folding.{upper_case_name}
 use Rattle.plc_base.specs.Kinds.{is_function, is_function_block}
 use Rattle.plc_base.specs.declared.blocks.BlockId.{BlockId}
 use Rattle.plc_base.specs.declared.blocks.BlockKind.{BlockKind}
@@ -121,7 +121,7 @@ function_no_block kinds.Sfc e = refl
 
 pub formal_again : (symbols : List Symbol) (t : Tree) (others : List Symbol) (again : ℕ) (b : CodeBlock) → IsListedCode symbols t others again b → is_function b.id.kind ≡ true
     → (index : ℕ) (f : Formal) → slice_get (formals_of (signatures_in (program_in symbols t)) b.id) index ≡ Some f
-    → own_variable (again_at symbols t others again) (folded f.name) [] ≡ Resolved (view.Parameter index f.section f.kind)
+    → own_variable (again_at symbols t others again) (upper_case_name f.name) [] ≡ Resolved (view.Parameter index f.section f.kind)
 formal_again symbols t others again b h function index f there =
     own_again (again_at symbols t others again) (listed_block (signatures_in (program_in symbols t)) h.reached b) h.layout
     (record { block = h.block; kind = function; layout = h.there; whole = h.whole })
@@ -145,7 +145,7 @@ pub parameters_again : AreParametersAgain
 parameters_again source file symbols t accepted bytes file_bytes others clean again place b l id made name steps index section kind e = record {
   section_again = found.formal.section;
   kind_again = found.formal.kind;
-  named = ap (λ n. own_variable (again_at symbols t others again) (folded n) []) (name_there formals index found.formal found.there)
+  named = ap (λ n. own_variable (again_at symbols t others again) (upper_case_name n) []) (name_there formals index found.formal found.there)
       ∙ formal_again symbols t others again cb listed function index found.formal found.there;
   wide = found.width ∙ param.width ∙ ap width_of own.2;
   input = input_again index param.param.section own.0.section section found.formal.section found.formal.kind kind own.3 param.parameter param.section found.section;

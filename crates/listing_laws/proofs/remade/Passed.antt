@@ -5,10 +5,10 @@ use Rattle.std.specs.List.{AllByRecursion, list_any}
 use Rattle.std.specs.Option.{IfSome}
 use Rattle.std.proofs.lemmas.Bool.{and_parts, ltb-true}
 use Rattle.plc_base.proofs.ListLemmas.{all_append}
-use Rattle.flat_code.specs.Blocks.{Around, Callee, are_passed, is_above, is_bad_actual, is_passed, misfits_callee}
-use Rattle.flat_code.specs.Forms.{actual as actual_coding, actual_fits, payload_fits}
+use Rattle.flat_code.specs.Blocks.{Around, CalleeSeen, are_passed, is_above, is_bad_actual, is_passed, misfits_callee}
+use Rattle.flat_code.specs.Forms.{passed_coding as actual_coding, actual_fits, payload_fits}
 use Rattle.flat_code.specs.Instr.{Passing}
-use Rattle.flat_code.specs.OpCodes.{code_of}
+use Rattle.flat_code.specs.OpCodes.{op_code_of}
 use Rattle.flat_code.specs.Ops.{is_op}
 use Rattle.flat_code.specs.declared.image_fields.ParameterRecord.{ParameterRecord}
 use Rattle.flat_code.specs.declared.operands.Operand.TheVariants as flat
@@ -94,7 +94,7 @@ but_last (z ∷ xs) (w ∷ ys) x y e =
     let more = but_last xs ys x y rest in
     λ i. first i ∷ more i
 
-op_fits : (index : ℕ) (p : Passed) → is_op (code_of operation.Pass) (flat.Pass index p) ≡ true → actual_fits p ≡ true
+op_fits : (index : ℕ) (p : Passed) → is_op (op_code_of operation.Pass) (flat.Pass index p) ≡ true → actual_fits p ≡ true
 unfolding is_op actual_coding
 op_fits index p e = (and_parts _ (actual_fits p) (and_parts _ (payload_fits (flat.Pass index p)) e).1).1
 
@@ -110,11 +110,11 @@ passings_fit how id instance ps h =
 
 -- ---- what has no fault
 
-pub record IsFitting (a : Around) (s : Option Callee) (p : Passing) : Type 0 where
+pub record IsFitting (a : Around) (s : Option CalleeSeen) (p : Passing) : Type 0 where
   pub right : is_bad_actual a p.actual ≡ false
   pub fits : misfits_callee a s p.index p.actual ≡ false
 
-pub passed_all : (a : Around) (s : Option Callee) (before : Option ℕ) (ps : List Passing) → ArePassed a s before ps → AllByRecursion (IsFitting a s) ps
+pub passed_all : (a : Around) (s : Option CalleeSeen) (before : Option ℕ) (ps : List Passing) → ArePassed a s before ps → AllByRecursion (IsFitting a s) ps
 passed_all a s before [] h = tt
 passed_all a s before (p ∷ ps) h = (record { right = h.1; fits = h.2 }, passed_all a s (Some p.index) ps h.3)
 
@@ -126,7 +126,7 @@ above_from : (before : Option ℕ) (from index : ℕ) → IsBehind before from �
 above_from None from index h e = omega (arith, h)
 above_from (Some n) from index h e = let less = ltb-true n index e in omega (arith, h, less)
 
-pub rising : (a : Around) (s : Option Callee) (before : Option ℕ) (from : ℕ) (ps : List Passing) → IsBehind before from → ArePassed a s before ps → AreRising from ps
+pub rising : (a : Around) (s : Option CalleeSeen) (before : Option ℕ) (from : ℕ) (ps : List Passing) → IsBehind before from → ArePassed a s before ps → AreRising from ps
 rising a s before from [] h k = tt
 rising a s before from (p ∷ ps) h k = (above_from before from p.index h k.0, rising a s (Some p.index) (suc p.index) ps refl k.3)
 

@@ -2,7 +2,7 @@
 use Rattle.std.proofs.Common.{◌≡◌, ℕ, Bool, true, false, ◌&&◌, ◌||◌, List, [], Option, Some, None, if◌then◌else◌, refl, ap, ap₂, ◌∙◌}
 use Rattle.std.specs.Prelude.{◌==◌}
 use Rattle.std.specs.Option.{is_none, option_and_then}
-use Rattle.plc_base.specs.Folding.{folded}
+use Rattle.plc_base.specs.Folding.{upper_case_name}
 use Rattle.plc_base.specs.Kinds.{is_data_block, is_system_function}
 use Rattle.plc_base.specs.declared.blocks.BlockId.{BlockId}
 use Rattle.plc_base.specs.declared.places.Width.{Width}
@@ -142,7 +142,7 @@ and_false false b e = refl
 pub bare_inside : (y : Types) (c : Context) (o : Operand) → IsBare o → operand_is_outside y c.layouts c.block o ≡ false
 bare_inside y c (operand.Named (head.Local name) steps) h =
     ap (λ (p : List PathStep). operand_is_outside y c.layouts c.block (operand.Named (head.Local name) p)) h
-    ∙ and_false (is_judged (walked_local c.layouts c.block (folded name) [])) (further (in_sections c.layouts c.block (folded name)) (λ spot. false)) (no_further (in_sections c.layouts c.block (folded name)))
+    ∙ and_false (is_judged (walked_local c.layouts c.block (upper_case_name name) [])) (further (in_sections c.layouts c.block (upper_case_name name)) (λ spot. false)) (no_further (in_sections c.layouts c.block (upper_case_name name)))
 bare_inside y c (operand.Named (head.InBlock name) steps) h = absurd h
 bare_inside y c (operand.Named (head.Symbol name) steps) h = absurd h
 bare_inside y c _ h = refl

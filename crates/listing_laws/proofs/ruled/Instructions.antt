@@ -3,7 +3,7 @@ use Rattle.std.proofs.Common.{◌≡◌, ℕ, false, List, Option, Some, None, i
 use Rattle.std.specs.Option.{is_none}
 use Rattle.flat_code.proofs.CodeLemmas.{operation_again}
 use Rattle.flat_code.specs.Instr.{Does, Instr, Returns}
-use Rattle.flat_code.specs.OpCodes.{code_of}
+use Rattle.flat_code.specs.OpCodes.{op_code_of}
 use Rattle.flat_code.specs.declared.kinds.JumpOperation.{JumpOperation}
 use Rattle.flat_code.specs.declared.kinds.JumpOperation.TheVariants as jump
 use Rattle.flat_code.specs.declared.operands.Operand.{Operand as FlatOperand}
@@ -85,8 +85,8 @@ pub acting_word : (f : ℕ → ℕ) (m : Mnemonic) (o : Operand) (v : ResolvedOp
     → mnemonic_of (run_of f (acting m o v)).op ≡ m
 acting_word f m o v some jumps calls ends =
     same_word f (acting m o v)
-    ∙ ap (word_by (code_of (operation_for m o v))) (unaimed (operand_of o v))
-    ∙ operand_plain o v (code_of (operation_for m o v))
+    ∙ ap (word_by (op_code_of (operation_for m o v))) (unaimed (operand_of o v))
+    ∙ operand_plain o v (op_code_of (operation_for m o v))
     ∙ words_found m o v (record { some = some; jumps = jumps; calls = calls; ends = ends })
 
 -- ---- a statement that goes on

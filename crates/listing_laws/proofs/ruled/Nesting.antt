@@ -2,7 +2,7 @@
 use Rattle.std.proofs.Common.{◌≡◌, ℕ, Bool, true, false, List, [], ◌∷◌, ◌++◌, map, Option, Some, None, if◌then◌else◌, refl, sym, ap, ◌∙◌}
 use Rattle.std.specs.Prelude.{nat_eq, nat_le, is_some, length, ◌&&◌}
 use Rattle.std.specs.List.{flat_map}
-use Rattle.plc_base.specs.Gathered.{gathered}
+use Rattle.plc_base.specs.Gathered.{refusals_along}
 use Rattle.plc_base.specs.Least.{broken_if}
 use Rattle.plc_base.specs.declared.refusals.Refusal.{Refusal}
 use Rattle.stl_ast.specs.Statements.{is_empty}
@@ -39,20 +39,20 @@ record Sees {S : Type 0} (broken : S → Statement → List Refusal) (known : S 
   next : (x : S) (s : Statement) → known x s ≡ known x (stub_of s)
 
 walked : {S : Type 0} (broken : S → Statement → List Refusal) (known : S → Statement → S) → Sees broken known → (x : S) (ss : List Statement)
-    → gathered (λ s. false) broken known x ss ≡ gathered (λ s. false) broken known x (stubs ss)
+    → refusals_along (λ s. false) broken known x ss ≡ refusals_along (λ s. false) broken known x (stubs ss)
 walked broken known h x [] = refl
 walked {S} broken known h x (s ∷ ss) = by (is_empty s.code) refl (λ y. walked broken known h y ss)
   where
-    by : (b : Bool) → is_empty s.code ≡ b → ((y : S) → gathered (λ s. false) broken known y ss ≡ gathered (λ s. false) broken known y (stubs ss))
-        → broken x s ++ gathered (λ s. false) broken known (known x s) ss
-        ≡ gathered (λ s. false) broken known x (map stub ((if b then [] else record { code = s.code; line = s.line } ∷ []) ++ marks ss))
+    by : (b : Bool) → is_empty s.code ≡ b → ((y : S) → refusals_along (λ s. false) broken known y ss ≡ refusals_along (λ s. false) broken known y (stubs ss))
+        → broken x s ++ refusals_along (λ s. false) broken known (known x s) ss
+        ≡ refusals_along (λ s. false) broken known x (map stub ((if b then [] else record { code = s.code; line = s.line } ∷ []) ++ marks ss))
     by true e rest =
-        ap (λ (rs : List Refusal). rs ++ gathered (λ s. false) broken known (known x s) ss) (h.quiet x s e)
-        ∙ ap (λ (y : S). gathered (λ s. false) broken known y ss) (h.still x s e)
+        ap (λ (rs : List Refusal). rs ++ refusals_along (λ s. false) broken known (known x s) ss) (h.quiet x s e)
+        ∙ ap (λ (y : S). refusals_along (λ s. false) broken known y ss) (h.still x s e)
         ∙ rest x
     by false e rest =
-        ap (λ (rs : List Refusal). rs ++ gathered (λ s. false) broken known (known x s) ss) (h.same x s)
-        ∙ ap (λ (rs : List Refusal). broken x (stub_of s) ++ rs) (rest (known x s) ∙ ap (λ (y : S). gathered (λ s. false) broken known y (stubs ss)) (h.next x s))
+        ap (λ (rs : List Refusal). rs ++ refusals_along (λ s. false) broken known (known x s) ss) (h.same x s)
+        ∙ ap (λ (rs : List Refusal). broken x (stub_of s) ++ rs) (rest (known x s) ∙ ap (λ (y : S). refusals_along (λ s. false) broken known y (stubs ss)) (h.next x s))
 
 -- ---- brackets
 

@@ -8,9 +8,9 @@ use Rattle.plc_base.specs.declared.places.Area.TheVariants as area
 use Rattle.plc_base.specs.declared.places.Place.{Place}
 use Rattle.plc_base.specs.declared.places.Width.{Width}
 use Rattle.flat_code.proofs.CodeLemmas.{flag_again, operation_again}
-use Rattle.flat_code.specs.Kinds.{condition_of, flag_of}
+use Rattle.flat_code.specs.Kinds.{condition_number, flag_of}
 use Rattle.flat_code.specs.Operations.{operation_of}
-use Rattle.flat_code.specs.OpCodes.{code_of}
+use Rattle.flat_code.specs.OpCodes.{op_code_of}
 use Rattle.flat_code.specs.declared.operands.Operand.TheVariants as flat
 use Rattle.flat_code.specs.declared.operations.Operation.{Operation}
 use Rattle.stl_ast.specs.declared.blocks.PartKind.{PartKind}
@@ -294,7 +294,7 @@ register_seen : (c : Context) (a : Option Area) (width : Width) (register bits :
 unfolding seen
 register_seen c a width register bits = ap (λ (x : Option Area). Resolved (view.ByRegister x width register bits)) (any_area_again a)
 
-status_seen : (c : Context) (flag : Flag) → seen c (operand.OfStatus (flag_of (condition_of flag))) ≡ Resolved (view.OfStatus flag)
+status_seen : (c : Context) (flag : Flag) → seen c (operand.OfStatus (flag_of (condition_number flag))) ≡ Resolved (view.OfStatus flag)
 unfolding seen
 status_seen c flag = ap (λ (x : Flag). Resolved (view.OfStatus x)) (flag_again flag)
 
@@ -320,7 +320,7 @@ by_view c formals starts f m o (view.NumberBy what from byte) jumps calls h othe
 by_view c formals starts f m o view.Constant jumps calls h other k = absurd other
 by_view c formals starts f m o (view.Pointer a byte bit) jumps calls h other k = pointer_acts c m o a byte bit k h (taken_view (form_of m) (view.Pointer a byte bit) h)
 by_view c formals starts f m o view.Label jumps calls h other k = absurd (no_label m jumps (taken_view (form_of m) view.Label h))
-by_view c formals starts f m o (view.OfStatus flag) jumps calls h other k = unchanged c m o (operand.OfStatus (flag_of (condition_of flag))) (view.OfStatus flag) tt h refl (status_seen c flag)
+by_view c formals starts f m o (view.OfStatus flag) jumps calls h other k = unchanged c m o (operand.OfStatus (flag_of (condition_number flag))) (view.OfStatus flag) tt h refl (status_seen c flag)
 by_view c formals starts f m o (view.Register which) jumps calls h other k = register_again c m o formals starts f which h (taken_view (form_of m) (view.Register which) h)
 by_view c formals starts f m o (view.OpenBlock true number) jumps calls h other k = opened_again c m o true number h k
 by_view c formals starts f m o (view.OpenBlock false number) jumps calls h other k = opened_again c m o false number h k
@@ -387,6 +387,6 @@ by_operand c listed formals starts f m (operand.Called name instance) v jumps ca
 pub operands_kept : AreOperandsKept
 operands_kept c listed formals starts f m o v goes h sees k stands =
     moved listed m o _ (operand_by formals starts (opened_by v) (operation_for m o v) (aimed f (operand_of o v))) v
-    (ap (λ (x : Option ℕ). operand_by formals starts x (operation_of (code_of (operation_for m o v))) (aimed f (operand_of o v))) (opened_back (opened_by v))
+    (ap (λ (x : Option ℕ). operand_by formals starts x (operation_of (op_code_of (operation_for m o v))) (aimed f (operand_of o v))) (opened_back (opened_by v))
     ∙ ap (λ (w : Operation). operand_by formals starts (opened_by v) w (aimed f (operand_of o v))) (operation_again (operation_for m o v)))
     (by_operand c listed formals starts f m o v goes.jumps goes.calls h sees k stands)

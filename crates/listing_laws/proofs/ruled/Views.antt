@@ -1,7 +1,7 @@
 -- What an operand of a source names stands in the tree of its listing.
 use Rattle.std.proofs.Common.{◌≡◌, ℕ, Bool, true, false, List, Option, Some, None, if◌then◌else◌, refl, sym, subst, ◌/◌}
 use Rattle.std.specs.Prelude.{length, nat_eq, nat_le, not, slice_get, ◌&&◌}
-use Rattle.plc_base.specs.Folding.{folded}
+use Rattle.plc_base.specs.Folding.{upper_case_name}
 use Rattle.plc_base.specs.declared.blocks.BlockId.{BlockId}
 use Rattle.plc_base.specs.declared.places.Area.{Area}
 use Rattle.plc_base.specs.declared.places.Area.TheVariants as area
@@ -245,8 +245,8 @@ both_own : (c listed : Context) (formals : List Formal) (name : List ℕ) (steps
     → Both listed formals (operand.Named (head.Local name) steps) v
 unfolding seen
 both_own c listed formals name steps v has e =
-    let is : IsSeen true listed v = seen_is true listed (own_variable c (folded name) (folded_path steps)) v e (own_walk_seen c listed (is_temporary c (folded name)) (walked_local c.layouts c.block (folded name) (folded_path steps))) in
-    (own_stands c listed formals (folded name) (folded_path steps) v has e is, other_by true listed (operand.Named (head.Local name) steps) v tt is)
+    let is : IsSeen true listed v = seen_is true listed (own_variable c (upper_case_name name) (folded_path steps)) v e (own_walk_seen c listed (is_temporary c (upper_case_name name)) (walked_local c.layouts c.block (upper_case_name name) (folded_path steps))) in
+    (own_stands c listed formals (upper_case_name name) (folded_path steps) v has e is, other_by true listed (operand.Named (head.Local name) steps) v tt is)
 
 both_constant : (c listed : Context) (formals : List Formal) (value : Literal) (v : ResolvedOperand) → IsCoded value → seen c (operand.Constant value) ≡ Resolved v → Both listed formals (operand.Constant value) v
 unfolding seen

@@ -1,7 +1,7 @@
 -- Heads and declarations that break no rule: their blocks are whole, and no rule refuses them.
 use Rattle.std.proofs.Common.{◌≡◌, ℕ, Bool, false, List, [], ◌∷◌, ◌++◌, refl, sym, ap, ◌∙◌}
 use Rattle.std.specs.List.{AllByRecursion}
-use Rattle.plc_base.specs.Gathered.{gathered}
+use Rattle.plc_base.specs.Gathered.{refusals_along}
 use Rattle.plc_base.specs.Least.{broken_if}
 use Rattle.plc_base.specs.declared.refusals.Refusal.{Refusal}
 use Rattle.stl_ast.specs.declared.blocks.Block.{Block}
@@ -58,15 +58,15 @@ heads_weaker P Q f before [] h = tt
 heads_weaker P Q f before (b ∷ bs) h = (f before b h.0, heads_weaker P Q f (b ∷ before) bs h.1)
 
 none_refused : (breaks : List Block → Block → Bool) (rule : ℕ) (before bs : List Block) → AllHeads (λ before b. breaks before b ≡ false) before bs
-    → gathered (λ b. false) (λ before b. broken_if (breaks before b) b.line rule) (λ before b. b ∷ before) before bs ≡ []
+    → refusals_along (λ b. false) (λ before b. broken_if (breaks before b) b.line rule) (λ before b. b ∷ before) before bs ≡ []
 none_refused breaks rule before [] h = refl
 none_refused breaks rule before (b ∷ bs) h =
-    ap (λ (t : Bool). broken_if t b.line rule ++ gathered (λ b. false) (λ before b. broken_if (breaks before b) b.line rule) (λ before b. b ∷ before) (b ∷ before) bs) h.0
+    ap (λ (t : Bool). broken_if t b.line rule ++ refusals_along (λ b. false) (λ before b. broken_if (breaks before b) b.line rule) (λ before b. b ∷ before) (b ∷ before) bs) h.0
     ∙ none_refused breaks rule (b ∷ before) bs h.1
 
 -- of all heads, by what each has
 by_head : (P : List Block → Block → Type 0) (breaks : List Block → Block → Bool) (rule : ℕ) (bs : List Block) → ((before : List Block) (b : Block) → P before b → breaks before b ≡ false) → AllHeads P [] bs
-    → gathered (λ b. false) (λ before b. broken_if (breaks before b) b.line rule) (λ before b. b ∷ before) [] bs ≡ []
+    → refusals_along (λ b. false) (λ before b. broken_if (breaks before b) b.line rule) (λ before b. b ∷ before) [] bs ≡ []
 by_head P breaks rule bs f h = none_refused breaks rule [] bs (heads_weaker P (λ before b. breaks before b ≡ false) f [] bs h)
 
 -- ---- no refusal of a declaration

@@ -18,7 +18,7 @@ use Rattle.var_access.specs.declared.Request.{Request}
 use Rattle.var_access.specs.declared.Run.{Run}
 use Rattle.var_access.specs.declared.What.{What}
 use Rattle.var_access.specs.declared.What.TheVariants.{Ask, Step}
-use Rattle.controller.specs.Asking.{answered}
+use Rattle.controller.specs.Asking.{request_reply}
 use Rattle.controller.specs.declared.Observed.{Observed}
 use Rattle.controller.specs.Quiet.{ShowNothing}
 use Rattle.controller.specs.Replay.{ContinuesByMore, happens, replay, reply_to, run_from}
@@ -26,7 +26,7 @@ use Rattle.event_text.specs.Replies.{reply_text}
 use Rattle.controller.specs.Shown.{nothing_shown}
 use Rattle.controller.specs.State.{State}
 use Rattle.controller.specs.Recording.{Recording}
-use Rattle.controller.specs.Replayed.{events, next_happens, replayed}
+use Rattle.controller.specs.Replayed.{entry_events, next_happens, final_state}
 use Rattle.s7_cli.specs.run_text.Behind.{closing_of, lines_behind, with_entries}
 use Rattle.s7_cli.specs.run_text.RunText.{closing_text, entry_text, lines_from, replied_text, run_text, shown_text}
 use Rattle.s7_cli.proofs.run.WritingLemmas.{GoesOn, goes-cut, goes-end, goes-first, goes-next}
@@ -53,25 +53,25 @@ with-both r front back =
 
 -- the state is that of the further entries
 replayed-on : ContinuesByMore → (r : Recording) (es : List Entry)
-    → replayed (with_entries r es) ≡ run_from (code_of r.program) (replayed r) (events es)
+    → final_state (with_entries r es) ≡ run_from (code_of r.program) (final_state r) (entry_events es)
 replayed-on continues r es =
     ap (λ (ws : List What). replay r.profile (code_of r.program) ws) (map-append (λ (e : Entry). e.what) r.history es)
-    ∙ continues r.profile (code_of r.program) (events r.history) (events es)
+    ∙ continues r.profile (code_of r.program) (entry_events r.history) (entry_events es)
 
 -- ---- lines of entries in two parts
 
 lines-split : (code : Code) (n : ℕ) (s : State) (front back : List Entry)
     → lines_from code n s (front ++ back)
-    ≡ lines_from code n s front ++ lines_from code (n + length front) (run_from code s (events front)) back
+    ≡ lines_from code n s front ++ lines_from code (n + length front) (run_from code s (entry_events front)) back
 lines-split code n s [] back = ap (λ (m : ℕ). lines_from code m s back) none
   where
     none : n ≡ n + length {A = Entry} []
     none = omega arith
 lines-split code n s (e ∷ front) back =
     ap (λ (text : List ℕ). first ++ text) (lines-split code (n + 1) t front back)
-    ∙ ap (λ (m : ℕ). first ++ (lines_from code (n + 1) t front ++ lines_from code m (run_from code t (events front)) back)) count
+    ∙ ap (λ (m : ℕ). first ++ (lines_from code (n + 1) t front ++ lines_from code m (run_from code t (entry_events front)) back)) count
     ∙ sym (append_assoc first (lines_from code (n + 1) t front)
-    (lines_from code (n + length (e ∷ front)) (run_from code t (events front)) back))
+    (lines_from code (n + length (e ∷ front)) (run_from code t (entry_events front)) back))
   where
     first : List ℕ
     first = entry_text (n + 1) e (happens code s e.what)
@@ -86,8 +86,8 @@ lines-split code n s (e ∷ front) back =
 lines-behind : ContinuesByMore → (r : Recording) (front back : List Entry)
     → lines_behind r (front ++ back) ≡ lines_behind r front ++ lines_behind (with_entries r front) back
 lines-behind continues r front back =
-    lines-split code (length r.history) (replayed r) front back
-    ∙ ap (λ (m : ℕ). lines_behind r front ++ lines_from code m (run_from code (replayed r) (events front)) back)
+    lines-split code (length r.history) (final_state r) front back
+    ∙ ap (λ (m : ℕ). lines_behind r front ++ lines_from code m (run_from code (final_state r) (entry_events front)) back)
     (sym (length-append r.history front))
     ∙ ap (λ (s : State). lines_behind r front ++ lines_from code (length (r.history ++ front)) s back)
     (sym (replayed-on continues r front))
@@ -98,7 +98,7 @@ lines-behind continues r front back =
 -- what a request shows, and then its reply, which is that of the state before it
 pub request-lines : (r : Recording) (e : Entry) (request : Request) (n m : ℕ) (shown : Observed) (answer : Reply) (before middle : List ℕ)
     → e.what ≡ Ask request → n ≡ m → shown ≡ (next_happens r e).seen
-    → answer ≡ answered (code_of r.program) request (replayed r) → middle ≡ before ++ shown_text n shown
+    → answer ≡ request_reply (code_of r.program) request (final_state r) → middle ≡ before ++ shown_text n shown
     → middle ++ reply_text n e.who request answer ≡ before ++ entry_text m e (next_happens r e)
 unfolding happens
 request-lines r e request n m shown answer before middle asks count is replies appended =
@@ -107,7 +107,7 @@ request-lines r e request n m shown answer before middle asks count is replies a
     ∙ ap (λ (k : ℕ). before ++ (shown_text k shown ++ reply_text k e.who request answer)) count
     ∙ ap (λ (o : Observed). before ++ (shown_text m o ++ reply_text m e.who request answer)) is
     ∙ ap (λ (a : Reply). before ++ (shown_text m (next_happens r e).seen ++ reply_text m e.who request a)) replies
-    ∙ ap (λ (w : What). before ++ (shown_text m (next_happens r e).seen ++ replied_text m e.who w (reply_to (code_of r.program) (replayed r) w)))
+    ∙ ap (λ (w : What). before ++ (shown_text m (next_happens r e).seen ++ replied_text m e.who w (reply_to (code_of r.program) (final_state r) w)))
     (sym asks)
 
 -- entries that show nothing have no line
@@ -172,7 +172,7 @@ follows-written continues s0 s1 s2 es rest piece more a b c u so_far splits on w
 pub follows-quiet : ContinuesByMore → (s0 s1 s2 : Recording) (es : List Entry) (e : Entry) (k left more : ℕ) (a b : SinkAt)
     → Follows s0 es (replicate left e) s1 a b → e.what ≡ Step → k ≤ left → more ≡ left - k
     → s2 ≡ record s1 { history = s1.history ++ replicate k e; spare = s1.spare - k }
-    → ShowNothing (code_of s1.program) (replayed s1) (replicate k Step)
+    → ShowNothing (code_of s1.program) (final_state s1) (replicate k Step)
     → Follows s0 es (replicate more e) s2 a b
 follows-quiet continues s0 s1 s2 es e k left more a b so_far is few fewer on nothing = record {
   front = so_far.front ++ replicate k e;
@@ -191,7 +191,7 @@ follows-quiet continues s0 s1 s2 es e k left more a b so_far is few fewer on not
     lines =
         rest-lines continues s1 s2 (replicate left e) (replicate k e) (replicate more e) splits entered
         ∙ ap (λ (t : List ℕ). t ++ lines_behind s2 (replicate more e))
-        (quiet-steps (code_of s1.program) (length s1.history) (replayed s1) e k is nothing)
+        (quiet-steps (code_of s1.program) (length s1.history) (final_state s1) e k is nothing)
 
 -- the part of the rest whose lines are being written ends so
 pub follows-cut : ContinuesByMore → (s0 s1 : Recording) (es rest piece more : List Entry) (a b c : SinkAt) (fault : IoFault)
@@ -313,7 +313,7 @@ pub run-splits : (l : LoadedProgram) (s s' : Recording) (es : List Entry) → Be
     → run_text l.profile (code_of l.program) es ≡ lines_behind s es ++ closing_of s'
 unfolding run_text replay
 run-splits l s s' es begins has_run =
-    ap (λ (r : Recording). lines_behind r es ++ closing_text (length es) (replay l.profile (code_of l.program) (events es))) (sym begins)
+    ap (λ (r : Recording). lines_behind r es ++ closing_text (length es) (replay l.profile (code_of l.program) (entry_events es))) (sym begins)
     ∙ ap (λ (r : Recording). lines_behind s es ++ closing_of r) (sym ended)
   where
     ended : s' ≡ record { program = l.program; profile = l.profile; history = es; spare = length es - length es }
@@ -321,7 +321,7 @@ run-splits l s s' es begins has_run =
 
 -- its lines stand before something, whatever is left
 pub cut-run : (l : LoadedProgram) (s : Recording) (es : List Entry) → Begins l es s
-    → run_text l.profile (code_of l.program) es ≡ lines_behind s es ++ closing_text (length es) (replay l.profile (code_of l.program) (events es))
+    → run_text l.profile (code_of l.program) es ≡ lines_behind s es ++ closing_text (length es) (replay l.profile (code_of l.program) (entry_events es))
 unfolding run_text replay
 cut-run l s es begins =
-    ap (λ (r : Recording). lines_behind r es ++ closing_text (length es) (replay l.profile (code_of l.program) (events es))) (sym begins)
+    ap (λ (r : Recording). lines_behind r es ++ closing_text (length es) (replay l.profile (code_of l.program) (entry_events es))) (sym begins)

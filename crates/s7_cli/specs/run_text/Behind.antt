@@ -4,7 +4,7 @@ use Rattle.image_file.specs.Loaded.{LoadedProgram}
 use Rattle.var_access.specs.declared.Entry.{Entry}
 use Rattle.machine.specs.Flat.{code_of}
 use Rattle.controller.specs.Recording.{Recording}
-use Rattle.controller.specs.Replayed.{replayed}
+use Rattle.controller.specs.Replayed.{final_state}
 use Rattle.s7_cli.specs.run_text.RunText.{closing_text, lines_from}
 
 -- a controller with further entries in its history
@@ -14,11 +14,11 @@ with_entries r entries =
 
 -- the lines of further entries, which are counted on from those of its history
 abbrev pub lines_behind : Recording → List Entry → List ℕ
-lines_behind r entries = lines_from (code_of r.program) (length r.history) (replayed r) entries
+lines_behind r entries = lines_from (code_of r.program) (length r.history) (final_state r) entries
 
 -- the lines at the end of its history
 abbrev pub closing_of : Recording → List ℕ
-closing_of r = closing_text (length r.history) (replayed r)
+closing_of r = closing_text (length r.history) (final_state r)
 
 -- its program, with the profile
 abbrev pub program_of : Recording → LoadedProgram

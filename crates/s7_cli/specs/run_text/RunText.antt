@@ -17,7 +17,7 @@ use Rattle.controller.specs.declared.Observed.{Observed}
 use Rattle.controller.specs.Replay.{Happened, happens, replay}
 use Rattle.controller.specs.Start.{start}
 use Rattle.controller.specs.State.{State}
-use Rattle.controller.specs.Replayed.{events}
+use Rattle.controller.specs.Replayed.{entry_events}
 use Rattle.monitor.specs.LineText.{end_text, mode_text, mon_text, output_text, row_text}
 use Rattle.event_text.specs.Replies.{reply_text}
 
@@ -74,4 +74,4 @@ closing_text n s = end_text n s.mode ++ blocks_text s.world
 unfoldable pub run_text : Profile → Code → List Entry → List ℕ
 run_text profile code entries =
     lines_from code 0 (start profile code) entries
-    ++ closing_text (length entries) (replay profile code (events entries))
+    ++ closing_text (length entries) (replay profile code (entry_events entries))

@@ -15,7 +15,7 @@ use Rattle.stl_ast.specs.declared.operands.Operand.{Operand}
 use Rattle.stl_ast.specs.declared.statements.Actual.{Actual}
 use Rattle.stl_ast.specs.declared.statements.Statement.{Statement}
 use Rattle.stl_parser.proofs.SizeLemmas.{well_formed}
-use Rattle.plc_base.specs.Gathered.{gathered}
+use Rattle.plc_base.specs.Gathered.{refusals_along}
 use Rattle.plc_base.specs.Least.{broken_if}
 use Rattle.stl_symbols.specs.Symbol.{Symbol}
 use Rattle.plc_base.proofs.LeastLemmas.{least_none}
@@ -317,18 +317,18 @@ places_none broken k (b ∷ bs) e = (
 
 -- a rule of heads
 pub heads_none : (breaks : List Block → Block → Bool) (rule : ℕ) (before bs : List Block)
-    → gathered (λ b. false) (λ before b. broken_if (breaks before b) b.line rule)
+    → refusals_along (λ b. false) (λ before b. broken_if (breaks before b) b.line rule)
     (λ before b. b ∷ before) before bs ≡ []
     → AllHeads (λ before b. breaks before b ≡ false) before bs
 heads_none breaks rule before [] e = tt
 heads_none breaks rule before (b ∷ bs) e = (
   not_broken (breaks before b) b.line rule
       (none_left (broken_if (breaks before b) b.line rule)
-      (gathered (λ b. false) (λ before b. broken_if (breaks before b) b.line rule)
+      (refusals_along (λ b. false) (λ before b. broken_if (breaks before b) b.line rule)
       (λ before b. b ∷ before) (b ∷ before) bs) e),
   heads_none breaks rule (b ∷ before) bs
       (none_right (broken_if (breaks before b) b.line rule)
-      (gathered (λ b. false) (λ before b. broken_if (breaks before b) b.line rule)
+      (refusals_along (λ b. false) (λ before b. broken_if (breaks before b) b.line rule)
       (λ before b. b ∷ before) (b ∷ before) bs) e),
 )
 

@@ -5,7 +5,7 @@ use Rattle.std.specs.List.{AllByRecursion, count_by}
 use Rattle.std.proofs.lemmas.Bool.{and_from, eq-eqb, ltb-false}
 use Rattle.plc_base.specs.declared.blocks.BlockId.{BlockId}
 use Rattle.plc_base.proofs.ListLemmas.{all_append}
-use Rattle.flat_code.specs.Codes.{are_ops, code_bytes, code_of, is_nowhere, stop_at}
+use Rattle.flat_code.specs.Codes.{are_ops, code_bytes, code_layout, is_nowhere, stop_at}
 use Rattle.flat_code.specs.declared.operations.EndOperation.TheVariants as end
 use Rattle.stl_ast.specs.Statements.{is_empty}
 use Rattle.stl_ast.specs.declared.blocks.Block.{Block}
@@ -113,7 +113,7 @@ are_coded source file symbols t accepted bytes =
     sound.block_there)))
 
 pub coded_is_good : CodedIsGood
-unfolding code_of
+unfolding code_layout
 coded_is_good judged b coded =
     let n = length (code_bytes b.code) in
     and_from (are_ops b.code && is_nowhere (stop_at judged b.code [])) (eqb n n)

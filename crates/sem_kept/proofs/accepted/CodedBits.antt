@@ -3,7 +3,7 @@ use Rattle.std.proofs.Common.{◌≡◌, ℕ, ◌+◌, ◌*◌, ◌/◌, ◌%◌
 use Rattle.std.specs.Option.{option_map}
 use Rattle.std.proofs.lemmas.Bool.{eqb-true, leb-true, le-leb}
 use Rattle.plc_base.specs.Bcd.{bcd_digits}
-use Rattle.plc_base.specs.S5Time.{s5time_of, s5time_of_units, smallest_base, unit_of}
+use Rattle.plc_base.specs.S5Time.{s5time_of_ms, s5time_of_units, smallest_base, unit_of}
 use Rattle.plc_base.specs.declared.s5times.TimeBase.{TimeBase}
 use Rattle.plc_base.specs.declared.s5times.TimeBase.TheVariants as base
 use Rattle.flat_code.specs.Table.{admits, takes_of_operation}
@@ -38,8 +38,8 @@ based_small base.HundredMs n = let h = digits_small n in omega (arith, h)
 based_small base.OneSecond n = let h = digits_small n in omega (arith, h)
 based_small base.TenSeconds n = let h = digits_small n in omega (arith, h)
 
-time_small : (ms : ℕ) → or_0 (s5time_of ms) ≤ 65535
-unfolding s5time_of
+time_small : (ms : ℕ) → or_0 (s5time_of_ms ms) ≤ 65535
+unfolding s5time_of_ms
 time_small ms = by (smallest_base ms)
   where
     by : (b : Option TimeBase)

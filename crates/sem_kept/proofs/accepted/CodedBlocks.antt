@@ -5,8 +5,8 @@ use Rattle.std.specs.List.{AllByRecursion}
 use Rattle.std.proofs.lemmas.Bool.{and_from, ne_eqb}
 use Rattle.std.proofs.lemmas.List.{map-append}
 use Rattle.plc_base.proofs.ListLemmas.{all_append}
-use Rattle.flat_code.specs.Codes.{are_ops, code_fault, ends, first_of, last_place, only, overlong, size}
-use Rattle.flat_code.specs.Forms.{actual, direct}
+use Rattle.flat_code.specs.Codes.{are_ops, code_fault, ends_by_be, first_found, last_place, only, overlong, size}
+use Rattle.flat_code.specs.Forms.{passed_coding, direct_coding}
 use Rattle.flat_code.specs.Instr.{Returns}
 use Rattle.flat_code.specs.Ops.{OpData, is_op, op_bytes}
 use Rattle.flat_code.specs.declared.operands.Operand.{Operand as FlatOperand}
@@ -99,26 +99,26 @@ not_overlong f (s ∷ ss) at h =
 
 -- ---- the last one is BE
 
-ends_behind : (xs ys : List OpData) → ends ys ≡ true → ends (xs ++ ys) ≡ true
+ends_behind : (xs ys : List OpData) → ends_by_be ys ≡ true → ends_by_be (xs ++ ys) ≡ true
 ends_behind [] ys h = h
 ends_behind (x ∷ []) [] h = absurd cc
 ends_behind (x ∷ []) (y ∷ ys) h = h
 ends_behind (x ∷ z ∷ xs) ys h = ends_behind (z ∷ xs) ys h
 
 ends_right : (f : ℕ → ℕ) (ss : List Stated) (line : ℕ)
-    → ends (map (aimed_op f) (ops_in (ss ++ returning_at line ∷ []))) ≡ true
+    → ends_by_be (map (aimed_op f) (ops_in (ss ++ returning_at line ∷ []))) ≡ true
 unfolding ops_of
 ends_right f [] line = refl
 ends_right f (s ∷ ss) line =
     let behind = ops_in (ss ++ returning_at line ∷ []) in
-    subst (λ (l : List OpData). ends l ≡ true)
+    subst (λ (l : List OpData). ends_by_be l ≡ true)
     (sym (map-append (aimed_op f) (ops_of s.instr) behind))
     (ends_behind (map (aimed_op f) (ops_of s.instr)) (map (aimed_op f) behind)
     (ends_right f ss line))
 
-no_fault : (ops : List OpData) → overlong 0 0 ops ≡ None → ends ops ≡ true → code_fault ops ≡ None
+no_fault : (ops : List OpData) → overlong 0 0 ops ≡ None → ends_by_be ops ≡ true → code_fault ops ≡ None
 no_fault ops few right =
-    ap (λ (o : Option ℕ). first_of (only true o) (only true (if ends ops then None else Some (last_place 0 ops)))) few
+    ap (λ (o : Option ℕ). first_found (only true o) (only true (if ends_by_be ops then None else Some (last_place 0 ops)))) few
     ∙ ap (λ (b : Bool). only true (if b then None else Some (last_place 0 ops))) right
 
 -- ---- offsets are small
@@ -143,7 +143,7 @@ offset_within at false (op ∷ ops) n =
 
 operand_long : (code : ℕ) (last : Bool) (o : FlatOperand)
     → size (record { code = code; last = last; operand = o }) ≤ 16
-unfolding size op_bytes direct actual
+unfolding size op_bytes direct_coding passed_coding
 operand_long code last (flat.Pass index (passed.Literal value)) = omega arith
 operand_long code last (flat.Pass index (passed.Direct area w byte bit)) = omega arith
 operand_long code last (flat.Pass index (passed.Parameter own w)) = omega arith
@@ -207,6 +207,6 @@ block_coded b inner line whole good few =
           (offsets_small b.statements good (omega (arith, few))) (all_good b.statements good);
       right = no_fault (map (aimed_op f) (ops_in b.statements))
           (not_overlong f b.statements 0 good)
-          (subst (λ (l : List Stated). ends (map (aimed_op f) (ops_in l)) ≡ true) (sym whole)
+          (subst (λ (l : List Stated). ends_by_be (map (aimed_op f) (ops_in l)) ≡ true) (sym whole)
           (ends_right f inner line));
     }

@@ -9,10 +9,10 @@ use Rattle.plc_base.specs.declared.blocks.BlockKind.{BlockKind}
 use Rattle.plc_base.specs.declared.blocks.BlockKind.TheVariants as kinds
 use Rattle.plc_base.specs.declared.places.Place.{Place}
 use Rattle.plc_base.specs.declared.places.Width.{Width}
-use Rattle.flat_code.specs.Forms.{actual, actual_fits, direct, is_callable, payload_fits}
+use Rattle.flat_code.specs.Forms.{passed_coding, actual_fits, direct_coding, is_callable_number, payload_fits}
 use Rattle.flat_code.specs.Instr.{Passing, Does, Calls, Returns}
-use Rattle.flat_code.specs.Kinds.{kind_of}
-use Rattle.flat_code.specs.OpCodes.{code_of}
+use Rattle.flat_code.specs.Kinds.{jump_number}
+use Rattle.flat_code.specs.OpCodes.{op_code_of}
 use Rattle.flat_code.specs.Ops.{OpData, is_instruction, is_op}
 use Rattle.flat_code.specs.Table.{admits, takes_of_operation}
 use Rattle.flat_code.specs.declared.kinds.JumpOperation.{JumpOperation}
@@ -38,7 +38,7 @@ use Rattle.stl_ast.specs.declared.operands.Operand.{Operand}
 use Rattle.stl_ast.specs.declared.operands.Operand.TheVariants as operand
 use Rattle.stl_ast.specs.declared.statements.Actual.{Actual}
 use Rattle.stl_ast.specs.declared.statements.Statement.{Statement}
-use Rattle.plc_base.specs.Folding.{folded}
+use Rattle.plc_base.specs.Folding.{upper_case_name}
 use Rattle.plc_base.specs.Kinds.{is_callable as is_callable_kind, kind_number}
 use Rattle.stl_types.specs.Constants.{takes_constant}
 use Rattle.stl_types.specs.Context.{Context}
@@ -91,9 +91,9 @@ pub record IsGoodStatement (ops : List OpData) : Type 0 where
 
 -- an operand that isn't a jump's
 still_good : (w : Operation) (last : Bool) (o : FlatOperand) → ((f : ℕ → ℕ) → aimed f o ≡ o)
-    → is_instruction w o ≡ true → IsGood (record { code = code_of w; last = last; operand = o })
+    → is_instruction w o ≡ true → IsGood (record { code = op_code_of w; last = last; operand = o })
 still_good w last o still h f small =
-    ap (λ (x : FlatOperand). is_op (code_of w) x) (still f) ∙ operation_is_op w o h
+    ap (λ (x : FlatOperand). is_op (op_code_of w) x) (still f) ∙ operation_is_op w o h
 
 -- one op alone
 alone : (op : OpData) → IsGood op → op.last ≡ true → IsGoodStatement (op ∷ [])
@@ -272,7 +272,7 @@ opened_good (Some n) w o h good = record {
 -- ---- calls
 
 kind_called : (k : BlockKind) → is_callable_kind k ≡ true
-    → (ltb (kind_number k) 256 && is_callable (kind_number k)) ≡ true
+    → (ltb (kind_number k) 256 && is_callable_number (kind_number k)) ≡ true
 kind_called kinds.Fc h = refl
 kind_called kinds.Fb h = refl
 kind_called kinds.Sfc h = refl
@@ -285,11 +285,11 @@ instance_small None h = omega arith
 instance_small (Some n) h = h
 
 call_takes : (how : CallOperation) (k n m : ℕ)
-    → (ltb k 256 && is_callable k) ≡ true → IsWord n → IsWord m
+    → (ltb k 256 && is_callable_number k) ≡ true → IsWord n → IsWord m
     → is_instruction (operation.Call how) (flat.Called k n m) ≡ true
 unfolding is_instruction admits
 call_takes how k n m h i j =
-    and_from (ltb k 256 && is_callable k) _ h
+    and_from (ltb k 256 && is_callable_number k) _ h
     (and_from (ltb n 65536) (ltb m 65536) (word_fits n i) (word_fits m j))
 
 call_good : (how : CallOperation) (id : BlockId) (instance : Option ℕ) → is_callable_kind id.kind ≡ true
@@ -305,7 +305,7 @@ place_passed : (place : Place) (w : Width) → PlaceFits place
     → actual_fits (passed_place place w) ≡ true
 place_passed place w fits = by (is_in_named_block place)
   where
-    inside : direct.fits (place.area, (w, (place.byte, place.bit))) ≡ true
+    inside : direct_coding.fits (place.area, (w, (place.byte, place.bit))) ≡ true
     inside = direct_fits place.area w place.byte place.bit fits.1 fits.2
 
     by : (b : Bool)
@@ -336,7 +336,7 @@ record IsGoodPassing (most : ℕ) (ps : List Passing) : Type 0 where
 
 pass_takes : (index : ℕ) (a : Passed) → index < 256 → actual_fits a ≡ true
     → is_instruction operation.Pass (flat.Pass index a) ≡ true
-unfolding is_instruction admits actual
+unfolding is_instruction admits passed_coding
 pass_takes index a lt fits = and_from (ltb index 256) (actual_fits a) (lt-ltb index 256 lt) fits
 
 pass_good : (index : ℕ) (a : Passed) → index < 256 → actual_fits a ≡ true
@@ -371,7 +371,7 @@ passed_good c actuals index [] all few = record { parts = tt; few = omega arith 
 passed_good c actuals index (f ∷ fs) all few =
     passed_one c index (supplied actuals f) (passings_from c actuals (suc index) fs) (length fs)
     (omega (arith, few))
-    (found_holds (IsActualOf c) (λ a. bytes_eq (folded a.name) f.name) actuals all)
+    (found_holds (IsActualOf c) (λ a. bytes_eq (upper_case_name a.name) f.name) actuals all)
     (passed_good c actuals (suc index) fs all (omega (arith, few)))
 
 in_order_length : (b : Option Block) (formals : List Formal)
@@ -428,7 +428,7 @@ jump_good : (how : JumpOperation) (n target : ℕ) → IsGoodStatement (ops_of (
 jump_good how n target =
     subst IsGoodStatement (sym (jump_ops how n target))
     (alone (jump_op how target)
-    (λ f small. operation_is_op operation.Jump (flat.Jump (kind_of how) (f target)) (jumps how (f target) (small target)))
+    (λ f small. operation_is_op operation.Jump (flat.Jump (jump_number how) (f target)) (jumps how (f target) (small target)))
     refl)
 
 end_takes : (how : EndOperation) → is_instruction (operation.End how) flat.Nothing ≡ true

@@ -4,7 +4,7 @@ use Rattle.std.proofs.lemmas.Bool.{ltb-true, le-leb}
 use Rattle.plc_base.specs.declared.places.Area.{Area}
 use Rattle.plc_base.specs.declared.places.Area.TheVariants as area
 use Rattle.flat_code.proofs.OpLemmas.{instruction_is_op}
-use Rattle.flat_code.specs.OpCodes.{code_of}
+use Rattle.flat_code.specs.OpCodes.{op_code_of}
 use Rattle.flat_code.specs.Ops.{is_op, is_instruction}
 use Rattle.flat_code.specs.Table.{admits, takes_of_operation}
 use Rattle.flat_code.specs.declared.operands.Operand.{Operand as FlatOperand}
@@ -38,7 +38,7 @@ use Rattle.stl_codegen.specs.Operations.{jump_of, call_of, end_of, or_operation,
 
 -- ---- operations and operands are ops
 
-code_below : (w : Operation) → ltb (code_of w) 128 ≡ true
+code_below : (w : Operation) → ltb (op_code_of w) 128 ≡ true
 code_below (operation.Relay relay.Activate) = refl
 code_below (operation.Check check.A) = refl
 code_below (operation.Nest check.A) = refl
@@ -55,8 +55,8 @@ code_below (operation.Call calls.Call) = refl
 code_below (operation.End ends.Be) = refl
 code_below _ = refl
 
-pub operation_is_op : (w : Operation) (o : FlatOperand) → is_instruction w o ≡ true → is_op (code_of w) o ≡ true
-operation_is_op w o h = instruction_is_op w o (ltb-true (code_of w) 128 (code_below w)) h
+pub operation_is_op : (w : Operation) (o : FlatOperand) → is_instruction w o ≡ true → is_op (op_code_of w) o ≡ true
+operation_is_op w o h = instruction_is_op w o (ltb-true (op_code_of w) 128 (code_below w)) h
 
 -- ---- operands by form, constants apart
 

@@ -14,8 +14,8 @@ use Rattle.plc_base.specs.declared.places.Area.TheVariants as area
 use Rattle.plc_base.specs.declared.places.Place.{Place}
 use Rattle.plc_base.specs.declared.places.Width.{Width}
 use Rattle.plc_base.specs.declared.places.Width.TheVariants as width
-use Rattle.flat_code.specs.Forms.{crosses, direct, holds_pointers, in_memory, payload_fits}
-use Rattle.flat_code.specs.Kinds.{condition_of}
+use Rattle.flat_code.specs.Forms.{is_crossing_area, direct_coding, holds_pointers, is_memory_area, payload_fits}
+use Rattle.flat_code.specs.Kinds.{condition_number}
 use Rattle.stl_ast.specs.Operands.{IsAnyName, IsBitOf, IsOperand, MayHoldPointer}
 use Rattle.stl_ast.specs.declared.blocks.Block.{Block}
 use Rattle.stl_ast.specs.declared.blocks.PathStep.{PathStep}
@@ -29,7 +29,7 @@ use Rattle.stl_ast.specs.declared.operands.Operand.{Operand}
 use Rattle.stl_ast.specs.declared.operands.Operand.TheVariants as operand
 use Rattle.stl_ast.specs.declared.operands.PathHead.{PathHead}
 use Rattle.stl_ast.specs.declared.operands.PathHead.TheVariants as head
-use Rattle.plc_base.specs.Folding.{folded, is_same_name}
+use Rattle.plc_base.specs.Folding.{upper_case_name, is_same_name}
 use Rattle.stl_symbols.specs.Symbol.{Symbol, symbol_named}
 use Rattle.stl_symbols.specs.declared.targets.Target.{Target}
 use Rattle.stl_symbols.specs.declared.targets.Target.TheVariants as target
@@ -102,29 +102,29 @@ byte_fits low high n l h small =
     (and_from (leb low n) (leb n high) (le-leb low n l) (le-leb n high h))
 
 pub direct_fits : (a : Area) (w : Width) (byte bit : ℕ) → IsWord byte → bit ≤ 7
-    → direct.fits (a, (w, (byte, bit))) ≡ true
-unfolding direct
+    → direct_coding.fits (a, (w, (byte, bit))) ≡ true
+unfolding direct_coding
 direct_fits a w byte bit k j =
     and_from (ltb byte 65536) _ (word_fits byte k)
     (byte_fits 0 7 bit (omega arith) j (omega arith))
 
 -- no pointer has the peripheral area
 memory_right : (f : OperandRule) (a : Area) (w : Width) (from : Area) (byte : ℕ)
-    → is_on_wrong_side f (view.ByMemory a w from byte) ≡ false → in_memory a ≡ true
+    → is_on_wrong_side f (view.ByMemory a w from byte) ≡ false → is_memory_area a ≡ true
 memory_right f area.P w from byte h = absurd cc
 memory_right f area.I w from byte h = refl
 memory_right f _ w from byte h = refl
 
 register_right : (f : OperandRule) (a : Option Area) (w : Width) (r bits : ℕ)
-    → is_on_wrong_side f (view.ByRegister a w r bits) ≡ false → crosses a ≡ true
+    → is_on_wrong_side f (view.ByRegister a w r bits) ≡ false → is_crossing_area a ≡ true
 register_right f None w r bits h = refl
 register_right f (Some area.P) w r bits h = absurd cc
 register_right f (Some area.I) w r bits h = refl
 register_right f (Some _) w r bits h = refl
 
 condition_fits : (flag : Flag)
-    → (ltb (condition_of flag) 256
-    && (leb 1 (condition_of flag) && leb (condition_of flag) 10)) ≡ true
+    → (ltb (condition_number flag) 256
+    && (leb 1 (condition_number flag) && leb (condition_number flag) 10)) ≡ true
 condition_fits flags.Br = refl
 condition_fits _ = refl
 
@@ -136,10 +136,10 @@ payload_right f o (view.Direct place w side declared) r fits =
 payload_right f o (view.Parameter index section declared) r fits =
     and_from (ltb index 256) true (lt-ltb index 256 fits) refl
 payload_right f o (view.ByMemory a w from byte) r fits =
-    and_from (in_memory a) _ (memory_right f a w from byte r)
+    and_from (is_memory_area a) _ (memory_right f a w from byte r)
     (and_from (holds_pointers from) _ fits.0 (word_fits byte fits.1))
 payload_right f o (view.ByRegister a w n bits) r fits =
-    and_from (crosses a) _ (register_right f a w n bits r)
+    and_from (is_crossing_area a) _ (register_right f a w n bits r)
     (and_from _ (ltb bits 4294967296) (byte_fits 1 2 n fits.0 fits.1 (omega arith))
     (lt-ltb bits 4294967296 fits.2))
 payload_right f o (view.Timer n) r fits = word_fits n fits
@@ -359,7 +359,7 @@ target_fits o (target.Block id) h = tt
 
 path_fits : (c : Context) (o : Operand) (p : PathHead) (steps : List PathStep) → IsFit c
     → SeenFits o (path_seen c p steps)
-path_fits c o (head.Local name) steps fit = own_fits c o (folded name) (folded_path steps) fit
+path_fits c o (head.Local name) steps fit = own_fits c o (upper_case_name name) (folded_path steps) fit
 path_fits c o (head.InBlock name) steps fit = data_variable_fits c o name (folded_path steps) fit
 path_fits c o (head.Symbol name) steps fit =
     by (symbol_named name c.symbols) (symbol_fits name c.symbols fit.symbols)

@@ -7,9 +7,9 @@ use Rattle.std.proofs.lemmas.Bool.Decides.{nat_tests}
 use Rattle.flat_code.specs.Blocks.{are_other, differing, is_bad_list, jump_fault, leads, same_codes, target_fault}
 use Rattle.flat_code.specs.Codes.{size}
 use Rattle.flat_code.specs.Instr.{Instr, Jumps, Returns}
-use Rattle.flat_code.specs.Kinds.{kind_of}
+use Rattle.flat_code.specs.Kinds.{jump_number}
 use Rattle.flat_code.specs.Ops.{OpData}
-use Rattle.flat_code.specs.Placed.{Placed, Spot, bracket_codes, few, open_behind, opened, placed, spot_at, spots, zones_behind as zones_past, zones_left}
+use Rattle.flat_code.specs.Placed.{Placed, StatementSpot, bracket_codes, few, open_behind, brackets_after, ops_placed, spot_at, spots, zones_behind_op as zones_past, zones_left}
 use Rattle.flat_code.specs.declared.image_fields.OpenBracket.{OpenBracket}
 use Rattle.flat_code.specs.declared.kinds.JumpOperation.{JumpOperation}
 use Rattle.flat_code.specs.declared.kinds.JumpOperation.TheVariants as jump
@@ -84,7 +84,7 @@ same_few xs = by (nat_le (length xs) 7)
     by true = ap not (same_as_itself xs)
     by false = refl
 
-no_difference : (xs : List ℕ) (codes : Option (List ℕ)) (zones : ℕ) (there : Spot)
+no_difference : (xs : List ℕ) (codes : Option (List ℕ)) (zones : ℕ) (there : StatementSpot)
     → codes ≡ few_codes xs → there.codes ≡ few_codes xs → there.zones ≡ zones
     → differing codes zones there ≡ None
 no_difference xs codes zones there here same count =
@@ -479,12 +479,12 @@ leads_from c body ret name left pre (s ∷ ss) at n e is_at is_n led =
 -- ---- the last op of a statement
 
 -- nothing but a jump has such a fault
-stays_right : (ss : List Spot) (p : Placed) (f : ℕ → ℕ) (o : FlatOperand) → is_target o ≡ false
+stays_right : (ss : List StatementSpot) (p : Placed) (f : ℕ → ℕ) (o : FlatOperand) → is_target o ≡ false
     → jump_fault_of ss p (aimed f o) ≡ None
 stays_right ss p f (flat.Jump kind target) e = absurd cc
 stays_right ss p f _ e = refl
 
-jump_right : (ss : List Spot) (p : Placed) (kind target : ℕ) (codes : List ℕ) (count : ℕ)
+jump_right : (ss : List StatementSpot) (p : Placed) (kind target : ℕ) (codes : List ℕ) (count : ℕ)
     → is_bad_list p kind target ≡ false → few p.brackets ≡ few_codes codes → length p.zones ≡ count
     → IsFound (spot_at ss target) (few_codes codes) count → jump_fault ss p kind target ≡ None
 jump_right ss p kind target codes count list here zones there =
@@ -496,7 +496,7 @@ jump_right ss p kind target codes count list here zones there =
 -- only a JL has a list
 list_right : (how : JumpOperation) (p : Placed) (target : ℕ)
     → (how ≡ jump.Jl → leads 255 target (p.at + size p.op) p.rest ≡ true)
-    → is_bad_list p (kind_of how) target ≡ false
+    → is_bad_list p (jump_number how) target ≡ false
 list_right jump.Jl p target h = rw (h refl) refl
 list_right _ p target h = refl
 
@@ -617,7 +617,7 @@ jump_lands : (c : Context) (body : List Statement) (ret : Stated) (pre : List St
     → IsRightBody body → IsHere c body pre s post at n bs zones
     → (how : JumpOperation) → jump_of s.code ≡ Some how
     → jump_fault (spots (the_code (place c body ret) (whole c body ret)))
-    (placed_end c body ret s post at n bs zones done) (kind_of how)
+    (placed_end c body ret s post at n bs zones done) (jump_number how)
     (place c body ret (target_of body s.operand))
     ≡ None
 jump_lands c body ret pre s post at n bs zones done all h how is =
@@ -628,8 +628,8 @@ jump_lands c body ret pre s post at n bs zones done all h how is =
     let ss = spots (the_code (place c body ret) (whole c body ret)) in
     let number = count_more pre s h.full in
     let same = h.stands.is_n in
-    ap (λ (o : Operand). jump_fault ss p (kind_of how) (place c body ret (target_of body o))) label.1
-    ∙ jump_right ss p (kind_of how) target (codes_of (behind_all [] pre))
+    ap (λ (o : Operand). jump_fault ss p (jump_number how) (place c body ret (target_of body o))) label.1
+    ∙ jump_right ss p (jump_number how) target (codes_of (behind_all [] pre))
     (length (zones_behind_all [] pre))
     (list_right how p target (λ jl.
     listed c body ret pre s post name (p.at + size p.op) (suc n) h.whole h.full
@@ -657,7 +657,7 @@ last_lands c body ret pre s post at n bs zones done all h = record {
     last : IsLastOf body s op
     last = last_of c body n s h.takes
 
-    ss : List Spot
+    ss : List StatementSpot
     ss = spots (the_code (place c body ret) (whole c body ret))
 
     p : Placed
@@ -672,7 +672,7 @@ last_lands c body ret pre s post at n bs zones done all h = record {
 
 -- ---- the ops of a body
 
-quiet_lands : (ss : List Spot) (q : Placed) → IsQuiet q.op → LandsRight ss q
+quiet_lands : (ss : List StatementSpot) (q : Placed) → IsQuiet q.op → LandsRight ss q
 quiet_lands ss q h = record {
   jump = by q.op.operand h.stays;
   brackets = rw h.opens (rw h.closes refl);
@@ -687,7 +687,7 @@ abbrev AllLand : Context → List Statement → Stated → (at : ℕ) → List O
     → List OpData → Type 0
 AllLand c body ret at bs zones ops =
     AllByRecursion (LandsRight (spots (the_code (place c body ret) (whole c body ret))))
-    (placed at bs zones [] ops)
+    (ops_placed at bs zones [] ops)
 
 -- behind an empty statement it is the same
 past_empty : (c : Context) (body pre : List Statement) (s : Statement) (at n : ℕ)
@@ -711,7 +711,7 @@ past_end : (c : Context) (body : List Statement) (ret : Stated) (pre : List Stat
     → IsHere c body pre s post at n bs zones
     → IsPlace c body (pre ++ s ∷ [])
     (at + total (front_of c body ret n s) + size (end_of c body ret n s)) (suc n)
-    (opened (at + total (front_of c body ret n s)) (end_of c body ret n s).code bs)
+    (brackets_after (at + total (front_of c body ret n s)) (end_of c body ret n s).code bs)
     (zones_past (at + total (front_of c body ret n s)) (end_of c body ret n s).code zones)
 past_end c body ret pre s post at n bs zones h = record {
   is_at = ends_here c body ret pre s post at n bs zones h;
@@ -754,7 +754,7 @@ next_lands c body ret pre s post at n bs zones all e h takes right more false is
     (aimed_is f (parted i) (is_statement i)).front (aimed_is f (parted i) (is_statement i)).end
     (quiet_lands (spots (the_code f (whole c body ret))))
     (λ done. last_lands c body ret pre s post at n bs zones done all here)
-    (more (from + size op) (suc n) (opened from op.code bs) (zones_past from op.code zones)
+    (more (from + size op) (suc n) (brackets_after from op.code bs) (zones_past from op.code zones)
     (past_end c body ret pre s post at n bs zones here))
   where
     f : ℕ → ℕ

@@ -7,7 +7,7 @@ use Rattle.std.specs.List.{AllByRecursion}
 use Rattle.flat_code.specs.Blocks.{bracket_fault, zone_fault}
 use Rattle.flat_code.specs.Codes.{size}
 use Rattle.flat_code.specs.Ops.{OpData}
-use Rattle.flat_code.specs.Placed.{Placed, Spot, before_next, bracket_codes, few, inner, is_empty, open_behind, opened, opens, placed, spot_at, spots_from, zones_behind, zones_left}
+use Rattle.flat_code.specs.Placed.{Placed, StatementSpot, before_next, bracket_codes, few, outer_brackets, is_empty_list, open_behind, brackets_after, is_opening, ops_placed, spot_at, spots_from, zones_behind_op, zones_left}
 use Rattle.flat_code.specs.declared.image_fields.OpenBracket.{OpenBracket}
 use Rattle.sem_kept.specs.Back.{is_target}
 use Rattle.sem_kept.proofs.compiled.Runs.{total, Parted, IsPreparing, IsStatement, AreStatements, flat, bytes_of, bytes_long, extent}
@@ -16,7 +16,7 @@ use Rattle.sem_kept.proofs.compiled.Runs.{total, Parted, IsPreparing, IsStatemen
 
 abbrev pub codes_behind : (code : ℕ) → List ℕ → List ℕ
 codes_behind code codes =
-    if opens code then codes ++ code ∷ []
+    if is_opening code then codes ++ code ∷ []
     else if code == 0x1E then take (length codes - 1) codes
     else codes
 
@@ -25,8 +25,8 @@ few_codes codes = if nat_le (length codes) 7 then Some codes else None
 
 abbrev pub codes_fault : (code : ℕ) → List ℕ → Option ℕ
 codes_fault code codes =
-    if opens code then (if nat_le 7 (length codes) then Some 8 else None)
-    else if code == 0x1E then (if is_empty codes then Some 8 else None)
+    if is_opening code then (if nat_le 7 (length codes) then Some 8 else None)
+    else if code == 0x1E then (if is_empty_list codes then Some 8 else None)
     else None
 
 codes_count : (bs : List OpenBracket) → length (bracket_codes bs) ≡ length bs
@@ -44,17 +44,17 @@ codes_take (suc n) [] = refl
 codes_take (suc n) (b ∷ bs) = ap (λ (z : List ℕ). b.code ∷ z) (codes_take n bs)
 
 codes_inner : (bs : List OpenBracket)
-    → bracket_codes (inner bs) ≡ take (length (bracket_codes bs) - 1) (bracket_codes bs)
+    → bracket_codes (outer_brackets bs) ≡ take (length (bracket_codes bs) - 1) (bracket_codes bs)
 codes_inner bs =
     codes_take (length bs - 1) bs
     ∙ ap (λ (k : ℕ). take (k - 1) (bracket_codes bs)) (sym (codes_count bs))
 
 pub codes_opened : (at code : ℕ) (bs : List OpenBracket)
-    → bracket_codes (opened at code bs) ≡ codes_behind code (bracket_codes bs)
-codes_opened at code bs = by (opens code) (code == 0x1E)
+    → bracket_codes (brackets_after at code bs) ≡ codes_behind code (bracket_codes bs)
+codes_opened at code bs = by (is_opening code) (code == 0x1E)
   where
     by : (o c : Bool)
-        → bracket_codes (if o then bs ++ record { at = at; code = code } ∷ [] else if c then inner bs else bs)
+        → bracket_codes (if o then bs ++ record { at = at; code = code } ∷ [] else if c then outer_brackets bs else bs)
         ≡ (if o then bracket_codes bs ++ code ∷ []
         else if c then take (length (bracket_codes bs) - 1) (bracket_codes bs)
         else bracket_codes bs)
@@ -66,20 +66,20 @@ pub few_is : (bs : List OpenBracket) → few bs ≡ few_codes (bracket_codes bs)
 few_is bs =
     ap (λ (k : ℕ). if nat_le k 7 then Some (bracket_codes bs) else None) (sym (codes_count bs))
 
-none_open : (bs : List OpenBracket) → is_empty bs ≡ is_empty (bracket_codes bs)
+none_open : (bs : List OpenBracket) → is_empty_list bs ≡ is_empty_list (bracket_codes bs)
 none_open [] = refl
 none_open (b ∷ bs) = refl
 
 abbrev fault_by : (code count : ℕ) → (none : Bool) → Option ℕ
 fault_by code count none =
-    if opens code then (if nat_le 7 count then Some 8 else None)
+    if is_opening code then (if nat_le 7 count then Some 8 else None)
     else if code == 0x1E then (if none then Some 8 else None)
     else None
 
 pub fault_is : (code : ℕ) (bs : List OpenBracket)
     → bracket_fault code bs ≡ codes_fault code (bracket_codes bs)
 fault_is code bs =
-    ap (λ (k : ℕ). fault_by code k (is_empty bs)) (sym (codes_count bs))
+    ap (λ (k : ℕ). fault_by code k (is_empty_list bs)) (sym (codes_count bs))
     ∙ ap (fault_by code (length (bracket_codes bs))) (none_open bs)
 
 pub none_left : (bs : List OpenBracket) → bracket_codes bs ≡ [] → bs ≡ []
@@ -105,7 +105,7 @@ pub count_ended : (zones : List ℕ) → length (take (length zones - 1) zones) 
 count_ended zones = length-take-le (length zones - 1) zones (omega arith)
 
 pub count_is : (at code : ℕ) (zones : List ℕ)
-    → length (zones_behind at code zones) ≡ count_behind code (length zones)
+    → length (zones_behind_op at code zones) ≡ count_behind code (length zones)
 count_is at code zones = by (code == 0x07) (code == 0x08)
   where
     by : (o c : Bool)
@@ -117,7 +117,7 @@ count_is at code zones = by (code == 0x07) (code == 0x08)
     by false true = count_ended zones
     by false false = refl
 
-no_zone : (zones : List ℕ) → is_empty zones ≡ nat_eq (length zones) 0
+no_zone : (zones : List ℕ) → is_empty_list zones ≡ nat_eq (length zones) 0
 no_zone [] = refl
 no_zone (at ∷ zones) = sym (ne_eqb (suc (length zones)) 0 (λ e. omega (arith, e)))
 
@@ -136,7 +136,7 @@ no_zones (at ∷ zones) e = absurd (omega (arith, e))
 
 -- an op that has nothing to do with brackets and zones and doesn't jump
 pub record IsQuiet (op : OpData) : Type 0 where
-  pub opens : opens op.code ≡ false
+  pub opens : is_opening op.code ≡ false
   pub closes : (op.code == 0x1E) ≡ false
   pub opens_zone : (op.code == 0x07) ≡ false
   pub ends_zone : (op.code == 0x08) ≡ false
@@ -147,20 +147,20 @@ abbrev pub AreQuiet : List Parted → Type 0
 AreQuiet ps = AllByRecursion (λ p. AllByRecursion IsQuiet p.front) ps
 
 quiet_opens : (at : ℕ) (op : OpData) (bs : List OpenBracket) → IsQuiet op
-    → opened at op.code bs ≡ bs
+    → brackets_after at op.code bs ≡ bs
 quiet_opens at op bs h = rw h.opens (rw h.closes refl)
 
 quiet_zones : (at : ℕ) (op : OpData) (zones : List ℕ) → IsQuiet op
-    → zones_behind at op.code zones ≡ zones
+    → zones_behind_op at op.code zones ≡ zones
 quiet_zones at op zones h = rw h.opens_zone (rw h.ends_zone refl)
 
 -- ---- the statements
 
 -- what follows an op that stands at an offset
 abbrev spots_past : (at : ℕ) → List OpenBracket → (zones : List ℕ) → OpData → (rest : List OpData)
-    → List Spot
+    → List StatementSpot
 spots_past at bs zones op rest =
-    spots_from (at + size op) true (opened at op.code bs) (zones_behind at op.code zones) rest
+    spots_from (at + size op) true (brackets_after at op.code bs) (zones_behind_op at op.code zones) rest
 
 spots_inside : (at : ℕ) (bs : List OpenBracket) (zones : List ℕ) (front : List OpData) (op : OpData)
     (rest : List OpData)
@@ -169,17 +169,17 @@ spots_inside : (at : ℕ) (bs : List OpenBracket) (zones : List ℕ) (front : Li
     ≡ spots_past (at + total front) bs zones op rest
 spots_inside at bs zones [] op rest quiet fs last =
     ap (λ (t : Bool).
-    spots_from (at + size op) t (opened at op.code bs) (zones_behind at op.code zones) rest) last
+    spots_from (at + size op) t (brackets_after at op.code bs) (zones_behind_op at op.code zones) rest) last
     ∙ ap (λ (k : ℕ). spots_past k bs zones op rest) (omega arith)
 spots_inside at bs zones (x ∷ front) op rest quiet fs last =
-    ap (λ (t : Bool). next t (opened at x.code bs) (zones_behind at x.code zones)) fs.0
-    ∙ ap (λ (z : List OpenBracket). next false z (zones_behind at x.code zones))
+    ap (λ (t : Bool). next t (brackets_after at x.code bs) (zones_behind_op at x.code zones)) fs.0
+    ∙ ap (λ (z : List OpenBracket). next false z (zones_behind_op at x.code zones))
     (quiet_opens at x bs quiet.0)
     ∙ ap (next false bs) (quiet_zones at x zones quiet.0)
     ∙ spots_inside (at + size x) bs zones front op rest quiet.1 fs.1 last
     ∙ ap (λ (k : ℕ). spots_past k bs zones op rest) (omega arith)
   where
-    next : Bool → List OpenBracket → (zones : List ℕ) → List Spot
+    next : Bool → List OpenBracket → (zones : List ℕ) → List StatementSpot
     next begin bs zones = spots_from (at + size x) begin bs zones (front ++ op ∷ rest)
 
 -- a statement, and those behind it
@@ -187,23 +187,23 @@ spots_next : (at : ℕ) (bs : List OpenBracket) (zones : List ℕ) (p : Parted) 
     → AllByRecursion IsQuiet p.front → IsStatement p
     → spots_from at true bs zones (p.front ++ p.end ∷ rest)
     ≡ record { at = at; codes = few bs; zones = length zones }
-    ∷ spots_from (at + bytes_of p) true (opened (at + total p.front) p.end.code bs)
-    (zones_behind (at + total p.front) p.end.code zones) rest
+    ∷ spots_from (at + bytes_of p) true (brackets_after (at + total p.front) p.end.code bs)
+    (zones_behind_op (at + total p.front) p.end.code zones) rest
 spots_next at bs zones p rest quiet h =
     by p.front quiet h.front
-    ∙ ap (λ (k : ℕ). here ∷ spots_from k true (opened (at + total p.front) p.end.code bs)
-    (zones_behind (at + total p.front) p.end.code zones) rest) (omega arith)
+    ∙ ap (λ (k : ℕ). here ∷ spots_from k true (brackets_after (at + total p.front) p.end.code bs)
+    (zones_behind_op (at + total p.front) p.end.code zones) rest) (omega arith)
   where
-    here : Spot
+    here : StatementSpot
     here = record { at = at; codes = few bs; zones = length zones }
 
     by : (front : List OpData) → AllByRecursion IsQuiet front → AllByRecursion IsPreparing front
         → spots_from at true bs zones (front ++ p.end ∷ rest)
         ≡ here ∷ spots_past (at + total front) bs zones p.end rest
     by [] q fs =
-        ap (λ (z : List Spot). here ∷ z) (spots_inside at bs zones [] p.end rest q fs h.end)
+        ap (λ (z : List StatementSpot). here ∷ z) (spots_inside at bs zones [] p.end rest q fs h.end)
     by (x ∷ front) q fs =
-        ap (λ (z : List Spot). here ∷ z)
+        ap (λ (z : List StatementSpot). here ∷ z)
         (spots_inside at bs zones (x ∷ front) p.end rest q fs h.end)
 
 -- the codes of the brackets that are open behind statements
@@ -217,13 +217,13 @@ count_after [] count = count
 count_after (p ∷ ps) count = count_after ps (count_behind p.end.code count)
 
 -- a statement is found, at which these brackets and so many zones are open
-pub record IsFound (found : Option Spot) (codes : Option (List ℕ)) (zones : ℕ) : Type 0 where
-  pub spot : Spot
+pub record IsFound (found : Option StatementSpot) (codes : Option (List ℕ)) (zones : ℕ) : Type 0 where
+  pub spot : StatementSpot
   pub is : found ≡ Some spot
   pub codes_are : spot.codes ≡ codes
   pub zones_are : spot.zones ≡ zones
 
-pub found_by : (a b : Option Spot) (codes others : Option (List ℕ)) (zones more : ℕ)
+pub found_by : (a b : Option StatementSpot) (codes others : Option (List ℕ)) (zones more : ℕ)
     → a ≡ b → codes ≡ others → zones ≡ more → IsFound b codes zones → IsFound a others more
 found_by a b codes others zones more e same count h = record {
   spot = h.spot;
@@ -249,8 +249,8 @@ spot_there at bs zones (q ∷ ps) p qs hs quiets quiet h =
     let other : eqb at (at + (bytes_of q + extent ps)) ≡ false =
     ne_eqb at (at + (bytes_of q + extent ps)) (λ e. omega (arith, e, long)) in
     let moved : at + (bytes_of q + extent ps) ≡ at + bytes_of q + extent ps = omega arith in
-    let next : List OpenBracket = opened (at + total q.front) q.end.code bs in
-    let left : List ℕ = zones_behind (at + total q.front) q.end.code zones in
+    let next : List OpenBracket = brackets_after (at + total q.front) q.end.code bs in
+    let left : List ℕ = zones_behind_op (at + total q.front) q.end.code zones in
     found_by _ _ _ _ _ _
     (rw (spots_next at bs zones q (flat (ps ++ p ∷ qs)) quiets.0 hs.0)
     (rw other
@@ -276,7 +276,7 @@ pub open_after : (at : ℕ) (bs : List OpenBracket) (ps : List Parted) → AreQu
 open_after at bs [] quiets = refl
 open_after at bs (p ∷ ps) quiets =
     ap bracket_codes (open_inside at bs p.front (p.end ∷ flat ps) quiets.0)
-    ∙ open_after (at + total p.front + size p.end) (opened (at + total p.front) p.end.code bs) ps quiets.1
+    ∙ open_after (at + total p.front + size p.end) (brackets_after (at + total p.front) p.end.code bs) ps quiets.1
     ∙ ap (codes_after ps) (codes_opened (at + total p.front) p.end.code bs)
 
 left_inside : (at : ℕ) (zones : List ℕ) (front rest : List OpData) → AllByRecursion IsQuiet front
@@ -293,7 +293,7 @@ left_after at zones [] quiets = refl
 left_after at zones (p ∷ ps) quiets =
     ap (λ (z : List ℕ). length z) (left_inside at zones p.front (p.end ∷ flat ps) quiets.0)
     ∙ left_after (at + total p.front + size p.end)
-    (zones_behind (at + total p.front) p.end.code zones) ps quiets.1
+    (zones_behind_op (at + total p.front) p.end.code zones) ps quiets.1
     ∙ ap (count_after ps) (count_is (at + total p.front) p.end.code zones)
 
 -- ---- each op
@@ -302,7 +302,7 @@ left_after at zones (p ∷ ps) quiets =
 abbrev pub placed_past : (at : ℕ) → List OpenBracket → (zones : List ℕ) → OpData
     → (rest : List OpData) → List Placed
 placed_past at bs zones op rest =
-    placed (at + size op) (opened at op.code bs) (zones_behind at op.code zones) [] rest
+    ops_placed (at + size op) (brackets_after at op.code bs) (zones_behind_op at op.code zones) [] rest
 
 -- what holds of each op of a statement, and of those behind it
 pub placed_all : (P : Placed → Type 0) (at : ℕ) (bs : List OpenBracket) (zones : List ℕ)
@@ -312,24 +312,24 @@ pub placed_all : (P : Placed → Type 0) (at : ℕ) (bs : List OpenBracket) (zon
     → ((done : List OpData)
     → P (record { at = at + total front; brackets = bs; zones = zones; before = done; op = op; rest = rest }))
     → AllByRecursion P (placed_past (at + total front) bs zones op rest)
-    → AllByRecursion P (placed at bs zones before (front ++ op ∷ rest))
+    → AllByRecursion P (ops_placed at bs zones before (front ++ op ∷ rest))
 placed_all P at bs zones before [] op rest quiet fs last one end more =
     let here : at + total [] ≡ at = omega arith in
     let none : [] ≡ before_next op before =
     ap (λ (t : Bool). if t then [] else before ++ op ∷ []) (sym last) in (
       subst (λ (k : ℕ). P (record { at = k; brackets = bs; zones = zones; before = before; op = op; rest = rest })) here (end before),
-      subst (λ (z : List OpData). AllByRecursion P (placed (at + size op) (opened at op.code bs) (zones_behind at op.code zones) z rest)) none
+      subst (λ (z : List OpData). AllByRecursion P (ops_placed (at + size op) (brackets_after at op.code bs) (zones_behind_op at op.code zones) z rest)) none
           (subst (λ (k : ℕ). AllByRecursion P (placed_past k bs zones op rest)) here more),
     )
 placed_all P at bs zones before (x ∷ front) op rest quiet fs last one end more =
     let here : at + (size x + total front) ≡ at + size x + total front = omega arith in
-    let same : bs ≡ opened at x.code bs = sym (quiet_opens at x bs quiet.0) in
-    let stay : zones ≡ zones_behind at x.code zones = sym (quiet_zones at x zones quiet.0) in (
+    let same : bs ≡ brackets_after at x.code bs = sym (quiet_opens at x bs quiet.0) in
+    let stay : zones ≡ zones_behind_op at x.code zones = sym (quiet_zones at x zones quiet.0) in (
       one (record { at = at; brackets = bs; zones = zones; before = before; op = x; rest = front ++ op ∷ rest }) quiet.0,
       subst (λ (z : List OpenBracket). AllByRecursion P
-          (placed (at + size x) z (zones_behind at x.code zones) (before_next x before) (front ++ op ∷ rest))) same
+          (ops_placed (at + size x) z (zones_behind_op at x.code zones) (before_next x before) (front ++ op ∷ rest))) same
           (subst (λ (z : List ℕ). AllByRecursion P
-          (placed (at + size x) bs z (before_next x before) (front ++ op ∷ rest))) stay
+          (ops_placed (at + size x) bs z (before_next x before) (front ++ op ∷ rest))) stay
           (placed_all P (at + size x) bs zones (before_next x before) front op rest quiet.1 fs.1 last one
           (λ done. subst (λ (k : ℕ). P (record { at = k; brackets = bs; zones = zones; before = done; op = op; rest = rest })) here (end done))
           (subst (λ (k : ℕ). AllByRecursion P (placed_past k bs zones op rest)) here more))),

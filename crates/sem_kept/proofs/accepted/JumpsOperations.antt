@@ -5,10 +5,10 @@ use Rattle.std.specs.List.{AllByRecursion}
 use Rattle.std.specs.Option.{is_none}
 use Rattle.std.proofs.lemmas.List.{length-map}
 use Rattle.flat_code.specs.Instr.{Instr, Passing, Does, Jumps, JumpsByList, Calls, Returns}
-use Rattle.flat_code.specs.Kinds.{kind_of}
-use Rattle.flat_code.specs.OpCodes.{code_of}
+use Rattle.flat_code.specs.Kinds.{jump_number}
+use Rattle.flat_code.specs.OpCodes.{op_code_of}
 use Rattle.flat_code.specs.Ops.{OpData}
-use Rattle.flat_code.specs.Placed.{is_empty, opens}
+use Rattle.flat_code.specs.Placed.{is_empty_list, is_opening}
 use Rattle.flat_code.specs.declared.kinds.JumpOperation.{JumpOperation}
 use Rattle.flat_code.specs.declared.kinds.JumpOperation.TheVariants as jump
 use Rattle.flat_code.specs.declared.operands.Operand.{Operand as FlatOperand}
@@ -63,9 +63,9 @@ pub record TakesRight (s : Statement) : Type 0 where
 
 -- the op code of an instruction, by what it does to brackets
 abbrev IsCodeBy : Option ℕ → Bool → (code : ℕ) → Type 0
-IsCodeBy (Some function) c code = (code ≡ 0x18 + function) × (opens code ≡ true)
+IsCodeBy (Some function) c code = (code ≡ 0x18 + function) × (is_opening code ≡ true)
 IsCodeBy None true code = code ≡ 0x1E
-IsCodeBy None false code = (opens code ≡ false) × ((code == 0x1E) ≡ false)
+IsCodeBy None false code = (is_opening code ≡ false) × ((code == 0x1E) ≡ false)
 
 -- and by what it does to zones
 abbrev IsZoneCodeBy : (opened ended : Bool) → (code : ℕ) → Type 0
@@ -81,33 +81,33 @@ IsCodeOf m code =
 abbrev IsOtherCode : ℕ → Type 0
 IsOtherCode code = IsCodeBy None false code × IsZoneCodeBy false false code
 
-or_code : (v : ResolvedOperand) → IsOtherCode (code_of (or_operation v))
+or_code : (v : ResolvedOperand) → IsOtherCode (op_code_of (or_operation v))
 or_code view.Nothing = ((refl, refl), (refl, refl))
 or_code _ = ((refl, refl), (refl, refl))
 
-load_code : (v : ResolvedOperand) → IsOtherCode (code_of (load_operation v))
+load_code : (v : ResolvedOperand) → IsOtherCode (op_code_of (load_operation v))
 load_code (view.Register register.Stw) = ((refl, refl), (refl, refl))
 load_code (view.Register _) = ((refl, refl), (refl, refl))
 load_code _ = ((refl, refl), (refl, refl))
 
-transfer_code : (v : ResolvedOperand) → IsOtherCode (code_of (transfer_operation v))
+transfer_code : (v : ResolvedOperand) → IsOtherCode (op_code_of (transfer_operation v))
 transfer_code (view.Register which) = ((refl, refl), (refl, refl))
 transfer_code _ = ((refl, refl), (refl, refl))
 
-load_pointer_code : (v : ResolvedOperand) → IsOtherCode (code_of (load_pointer_operation v))
+load_pointer_code : (v : ResolvedOperand) → IsOtherCode (op_code_of (load_pointer_operation v))
 load_pointer_code (view.Register which) = ((refl, refl), (refl, refl))
 load_pointer_code _ = ((refl, refl), (refl, refl))
 
-store_pointer_code : (v : ResolvedOperand) → IsOtherCode (code_of (store_pointer_operation v))
+store_pointer_code : (v : ResolvedOperand) → IsOtherCode (op_code_of (store_pointer_operation v))
 store_pointer_code (view.Register which) = ((refl, refl), (refl, refl))
 store_pointer_code _ = ((refl, refl), (refl, refl))
 
-add_code : (o : Operand) → IsOtherCode (code_of (add_operation o))
+add_code : (o : Operand) → IsOtherCode (op_code_of (add_operation o))
 add_code (operand.Constant (literal.Long value)) = ((refl, refl), (refl, refl))
 add_code (operand.Constant _) = ((refl, refl), (refl, refl))
 add_code _ = ((refl, refl), (refl, refl))
 
-operation_code : (m : Mnemonic) (o : Operand) (v : ResolvedOperand) → IsCodeOf m (code_of (operation_for m o v))
+operation_code : (m : Mnemonic) (o : Operand) (v : ResolvedOperand) → IsCodeOf m (op_code_of (operation_for m o v))
 unfolding operation_for opening closes opens_zone ends_zone
 operation_code code.AOpen o v = ((refl, refl), (refl, refl))
 operation_code code.AnOpen o v = ((refl, refl), (refl, refl))
@@ -178,12 +178,12 @@ no_end code.McrOpen how e = absurd cc
 no_end code.McrClose how e = absurd cc
 no_end _ how e = refl
 
-call_code : (how : CallOperation) → IsOtherCode (code_of (operation.Call how))
+call_code : (how : CallOperation) → IsOtherCode (op_code_of (operation.Call how))
 call_code calls.Call = ((refl, refl), (refl, refl))
 call_code calls.Uc = ((refl, refl), (refl, refl))
 call_code calls.Cc = ((refl, refl), (refl, refl))
 
-end_code : (how : EndOperation) → IsOtherCode (code_of (operation.End how))
+end_code : (how : EndOperation) → IsOtherCode (op_code_of (operation.End how))
 end_code ends.Be = ((refl, refl), (refl, refl))
 end_code ends.Bec = ((refl, refl), (refl, refl))
 end_code ends.Beu = ((refl, refl), (refl, refl))
@@ -203,18 +203,18 @@ last_end : (s : Statement) (v : ResolvedOperand) (e : Option EndOperation) → e
 last_end s v None is =
     record { code = operation_code s.code s.operand v; stays = no_target s.operand v }
 last_end s v (Some how) is = record {
-  code = other_code s.code (code_of (operation.End how)) (no_end s.code how is) (end_code how);
+  code = other_code s.code (op_code_of (operation.End how)) (no_end s.code how is) (end_code how);
   stays = refl;
 }
 
 last_call : (c : Context) (s : Statement) (how : CallOperation) (v : ResolvedOperand) → call_of s.code ≡ Some how
     → IsLast s.code (last_op (call_instr c s how v))
 last_call c s how (view.Called id instance) is = record {
-  code = other_code s.code (code_of (operation.Call how)) (no_call s.code how is) (call_code how);
+  code = other_code s.code (op_code_of (operation.Call how)) (no_call s.code how is) (call_code how);
   stays = refl;
 }
 last_call c s how _ is = record {
-  code = other_code s.code (code_of operation.Nop) (no_call s.code how is)
+  code = other_code s.code (op_code_of operation.Nop) (no_call s.code how is)
       ((refl, refl), (refl, refl));
   stays = refl;
 }
@@ -260,7 +260,7 @@ last_resolved c s None h is = by (nests s.code) refl
     by : (b : Bool) → nests s.code ≡ b → IsLast s.code (last_op (resolved_instr c s None))
     by true nested = let found = nests_resolved c s h nested in absurd cc
     by false other = record {
-      code = other_code s.code (code_of operation.Nop) other ((refl, refl), (refl, refl));
+      code = other_code s.code (op_code_of operation.Nop) other ((refl, refl), (refl, refl));
       stays = refl;
     }
 
@@ -271,14 +271,14 @@ jump_code _ n target = refl
 -- where the last op of a statement jumps, if it does
 abbrev pub jumps_to : List Statement → Statement → Option JumpOperation → FlatOperand → Type 0
 jumps_to body s None o = is_target o ≡ false
-jumps_to body s (Some how) o = o ≡ flat.Jump (kind_of how) (target_of body s.operand)
+jumps_to body s (Some how) o = o ≡ flat.Jump (jump_number how) (target_of body s.operand)
 
 pub record IsLastOf (body : List Statement) (s : Statement) (op : OpData) : Type 0 where
   code : IsCodeOf s.code op.code
   pub jumps : jumps_to body s (jump_of s.code) op.operand
 
 jump_operand : (how : JumpOperation) (n target : ℕ)
-    → (last_op (jump_instr how n target)).operand ≡ flat.Jump (kind_of how) target
+    → (last_op (jump_instr how n target)).operand ≡ flat.Jump (jump_number how) target
 jump_operand jump.Jl n target = refl
 jump_operand _ n target = refl
 
@@ -350,7 +350,7 @@ behind_codes bs body s op h =
         ∙ sym (codes_take (length bs - 1) bs)
     by None false g = rw g.0 (rw g.1 refl)
 
-none_there : (bs : List Bracket) → nat_eq (length bs) 0 ≡ false → is_empty (codes_of bs) ≡ false
+none_there : (bs : List Bracket) → nat_eq (length bs) 0 ≡ false → is_empty_list (codes_of bs) ≡ false
 none_there [] e = absurd cc
 none_there (b ∷ bs) e = refl
 

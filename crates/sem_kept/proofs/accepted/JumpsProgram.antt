@@ -14,7 +14,7 @@ use Rattle.stl_types.specs.Resolution.{seen}
 use Rattle.stl_codegen.specs.Compiled.{code_in}
 use Rattle.stl_codegen.specs.Fitting.{IsStill}
 use Rattle.flat_code.specs.Blocks.{Around, block_faults, call_fault, faults_over, op_faults, operand_fault}
-use Rattle.flat_code.specs.Placed.{Placed, Spot, places, spots}
+use Rattle.flat_code.specs.Placed.{Placed, StatementSpot, code_places, spots}
 use Rattle.flat_code.specs.declared.operands.Operand.{Operand as FlatOperand}
 use Rattle.flat_code.specs.declared.operands.Operand.TheVariants as flat
 use Rattle.sem_kept.specs.Jumps.{AllLandRight, FineIsFaultless, JumpsLandRight, LandsRight, jump_fault_of}
@@ -58,13 +58,13 @@ jumps_land_right source file symbols t accepted =
 
 -- ---- with what operands, calls and marks leave
 
-all_operands : (a : Around) (ss : List Spot) (p : Placed) (o : FlatOperand)
+all_operands : (a : Around) (ss : List StatementSpot) (p : Placed) (o : FlatOperand)
     → (IsStill o → operand_fault a ss p o ≡ None) → jump_fault_of ss p o ≡ None
     → operand_fault a ss p o ≡ None
 all_operands a ss p (flat.Jump kind target) still jump = jump
 all_operands a ss p _ still jump = still tt
 
-op_faultless : (a : Around) (lens : List (ℕ × ℕ)) (ss : List Spot) (start : ℕ) (p : Placed)
+op_faultless : (a : Around) (lens : List (ℕ × ℕ)) (ss : List StatementSpot) (start : ℕ) (p : Placed)
     → a.data_lens ≡ Some lens → IsFine a lens ss p → LandsRight ss p → op_faults a ss start p ≡ []
 unfolding op_faults
 op_faultless a lens ss start p e fine lands =
@@ -73,7 +73,7 @@ op_faultless a lens ss start p e fine lands =
     rw (all_operands a ss p p.op.operand fine.operand lands.jump)
     (rw calls (rw fine.mark (rw lands.brackets (rw lands.zones refl))))
 
-all_faultless : (a : Around) (lens : List (ℕ × ℕ)) (ss : List Spot) (start : ℕ) (ps : List Placed)
+all_faultless : (a : Around) (lens : List (ℕ × ℕ)) (ss : List StatementSpot) (start : ℕ) (ps : List Placed)
     → a.data_lens ≡ Some lens → AreFine a lens ss ps → AllByRecursion (LandsRight ss) ps
     → faults_over a ss start ps ≡ []
 all_faultless a lens ss start [] e fine lands = refl
@@ -85,5 +85,5 @@ all_faultless a lens ss start (p ∷ ps) e fine lands =
 pub fine_is_faultless : FineIsFaultless
 unfolding block_faults
 fine_is_faultless a lens start ops e fine lands =
-    rw (all_faultless a lens (spots ops) start (places ops) e fine lands.each)
+    rw (all_faultless a lens (spots ops) start (code_places ops) e fine lands.each)
     (rw lands.closed (rw lands.ended refl))

@@ -12,7 +12,7 @@ use Rattle.plc_base.specs.declared.refusals.Refusal.{Refusal}
 use Rattle.stl_ast.specs.declared.operands.Operand.{Operand}
 use Rattle.stl_ast.specs.declared.operands.Operand.TheVariants as operand
 use Rattle.stl_ast.specs.declared.statements.Statement.{Statement}
-use Rattle.plc_base.specs.Gathered.{gathered}
+use Rattle.plc_base.specs.Gathered.{refusals_along}
 use Rattle.plc_base.specs.Least.{broken_if}
 use Rattle.stl_symbols.specs.Names.{place_of}
 use Rattle.stl_types.specs.Brackets.{behind, behind_all, closes, closes_none, is_eighth, opened, opening, with_brackets}
@@ -98,7 +98,7 @@ by_49 zones body = with_zones (λ zones s. broken_if (is_ninth zones s) s.line 4
 
 abbrev pub by_33 : (labels : List (List ℕ)) → List Landing → Nesting → List Statement → List Refusal
 by_33 labels landings n body =
-    gathered (λ s. false) (λ n s. broken_if (crosses labels landings n s.operand) s.line 33)
+    refusals_along (λ s. false) (λ n s. broken_if (crosses labels landings n s.operand) s.line 33)
     nesting_behind n body
 
 -- the statements of a body from a place on break none of these rules

@@ -12,12 +12,12 @@ use Rattle.plc_base.specs.Kinds.{kind_number, is_code, is_data_block, is_functio
 use Rattle.plc_base.specs.declared.blocks.BlockId.{BlockId}
 use Rattle.plc_base.specs.declared.blocks.BlockKind.{BlockKind}
 use Rattle.plc_base.specs.declared.blocks.BlockKind.TheVariants as kinds
-use Rattle.flat_code.specs.Blocks.{Around, Callee as FlatCallee, Signature, are_passed, block_with, callee as flat_callee, data_len, is_bad_call, is_bad_instance, is_index, is_passed, is_short, pass_index, signature_of, system_function, system_params}
+use Rattle.flat_code.specs.Blocks.{Around, CalleeSeen as FlatCallee, BlockSignature, are_passed, block_with, callee as flat_callee, length_of_data, is_bad_call, is_bad_instance, is_index, is_passed, is_short, pass_index, signature_of, callee_of_system, system_params}
 use Rattle.flat_code.specs.Image.{record_of_block, record_of_param}
 use Rattle.flat_code.specs.Instr.{Passing, Calls}
 use Rattle.flat_code.specs.Loading.{lens_of}
 use Rattle.flat_code.specs.Ops.{OpData}
-use Rattle.flat_code.specs.Placed.{is_empty as is_nothing_in}
+use Rattle.flat_code.specs.Placed.{is_empty_list as is_nothing_in}
 use Rattle.flat_code.specs.declared.image_fields.ParameterRecord.{ParameterRecord}
 use Rattle.flat_code.specs.declared.operands.Operand.TheVariants as flat
 use Rattle.flat_code.specs.declared.operands.Passed.{Passed}
@@ -39,7 +39,7 @@ use Rattle.stl_ast.specs.declared.operands.Operand.{Operand}
 use Rattle.stl_ast.specs.declared.operands.Operand.TheVariants as operand
 use Rattle.stl_ast.specs.declared.statements.Actual.{Actual}
 use Rattle.stl_ast.specs.declared.statements.Statement.{Statement}
-use Rattle.plc_base.specs.Folding.{folded}
+use Rattle.plc_base.specs.Folding.{upper_case_name}
 use Rattle.stl_symbols.specs.Names.{place_of}
 use Rattle.stl_symbols.specs.Symbol.{Symbol}
 use Rattle.block_layout.specs.Blocks.{id_of, is_any, is_block_number, known_block, named_block}
@@ -150,26 +150,26 @@ swapped xs ys e = by (bytes_eq xs ys) (bytes_eq ys xs) (bytes_eq-Decides xs ys) 
     by false t h k e = absurd cc
 
 supplied_there : (actuals : List Actual) (f : Formal)
-    → is_some (place_of f.name (map (λ (x : Actual). folded x.name) actuals)) ≡ true
+    → is_some (place_of f.name (map (λ (x : Actual). upper_case_name x.name) actuals)) ≡ true
     → (x : Actual) × (supplied actuals f ≡ Some x)
 supplied_there [] f e = absurd cc
 supplied_there (z ∷ zs) f e =
-    by (bytes_eq (folded z.name) f.name) (bytes_eq f.name (folded z.name)) refl refl e (supplied_there zs f)
+    by (bytes_eq (upper_case_name z.name) f.name) (bytes_eq f.name (upper_case_name z.name)) refl refl e (supplied_there zs f)
   where
     some_suc : (o : Option ℕ) → is_some (option_map (λ k. suc k) o) ≡ true → is_some o ≡ true
     some_suc None h = absurd cc
     some_suc (Some m) h = refl
 
-    by : (s t : Bool) → bytes_eq (folded z.name) f.name ≡ s → bytes_eq f.name (folded z.name) ≡ t
-        → is_some (if t then Some 0 else option_map (λ k. suc k) (place_of f.name (map (λ (x : Actual). folded x.name) zs))) ≡ true
-        → (is_some (place_of f.name (map (λ (x : Actual). folded x.name) zs)) ≡ true → (x : Actual) × (supplied zs f ≡ Some x))
-        → (x : Actual) × ((if s then Some z else find (λ x. bytes_eq (folded x.name) f.name) zs) ≡ Some x)
+    by : (s t : Bool) → bytes_eq (upper_case_name z.name) f.name ≡ s → bytes_eq f.name (upper_case_name z.name) ≡ t
+        → is_some (if t then Some 0 else option_map (λ k. suc k) (place_of f.name (map (λ (x : Actual). upper_case_name x.name) zs))) ≡ true
+        → (is_some (place_of f.name (map (λ (x : Actual). upper_case_name x.name) zs)) ≡ true → (x : Actual) × (supplied zs f ≡ Some x))
+        → (x : Actual) × ((if s then Some z else find (λ x. bytes_eq (upper_case_name x.name) f.name) zs) ≡ Some x)
     by true t g h e more = (z, refl)
     by false true g h e more =
-        let other : bytes_eq (folded z.name) f.name ≡ true = swapped f.name (folded z.name) h in
+        let other : bytes_eq (upper_case_name z.name) f.name ≡ true = swapped f.name (upper_case_name z.name) h in
         absurd cc
     by false false g h e more =
-        more (some_suc (place_of f.name (map (λ (x : Actual). folded x.name) zs)) e)
+        more (some_suc (place_of f.name (map (λ (x : Actual). upper_case_name x.name) zs)) e)
 
 all_supplied : (actuals : List Actual) (fs : List Formal)
     → list_all (is_supplied (supplied_names actuals)) fs ≡ true → AreSupplied actuals fs
@@ -271,7 +271,7 @@ seen_call c name inst id instance e = by (named_block c.symbols name) refl e
 -- ---- what is called
 
 -- a block that is called, as the source and as the code have it
-record IsCallee (symbols : List Symbol) (t : Tree) (k : ℕ) (blocks : List Signature) (o : Operand)
+record IsCallee (symbols : List Symbol) (t : Tree) (k : ℕ) (blocks : List BlockSignature) (o : Operand)
     (id : BlockId) : Type 0 where
   of_source : Callee
   is : callee_of (context_at symbols t k) o ≡ Some of_source
@@ -309,15 +309,15 @@ known_function n k is e = by (system_formals n) (ap (λ (j : BlockKind). is_syst
     by None h = absurd cc
     by (Some fs) h = (fs, refl)
 
-system_flat : (blocks : List Signature) (id : BlockId) (params : List ParameterRecord)
+system_flat : (blocks : List BlockSignature) (id : BlockId) (params : List ParameterRecord)
     → id.kind ≡ kinds.Sfc → system_params id.number ≡ Some params
     → flat_callee blocks (kind_number id.kind) id.number ≡ Some (kind_number id.kind, 0, params)
 unfolding flat_callee
 system_flat blocks id params is e =
     subst (λ (j : BlockKind). flat_callee blocks (kind_number j) id.number ≡ Some (kind_number j, 0, params)) (sym is)
-    (ap (λ (o : Option (List ParameterRecord)). option_map system_function o) e)
+    (ap (λ (o : Option (List ParameterRecord)). option_map callee_of_system o) e)
 
-system_called : (symbols : List Symbol) (t : Tree) (k : ℕ) (blocks : List Signature)
+system_called : (symbols : List Symbol) (t : Tree) (k : ℕ) (blocks : List BlockSignature)
     (name : BlockName) (inst : Option BlockName) (id : BlockId)
     → named_block symbols name ≡ Some id → is_system_function id.kind ≡ true
     → is_unknown_function (named_block symbols name) ≡ false
@@ -371,11 +371,11 @@ not_five : (k : BlockKind) → (k ≡ kinds.Fc) ⊎ (k ≡ kinds.Fb) → (kind_n
 not_five k h =
     ⊎_elim (λ e. ap (λ (j : BlockKind). kind_number j == 5) e) (λ e. ap (λ (j : BlockKind). kind_number j == 5) e) h
 
-source_flat : (blocks : List Signature) (k : BlockKind) (number : ℕ) → (k ≡ kinds.Fc) ⊎ (k ≡ kinds.Fb)
+source_flat : (blocks : List BlockSignature) (k : BlockKind) (number : ℕ) → (k ≡ kinds.Fc) ⊎ (k ≡ kinds.Fb)
     → flat_callee blocks (kind_number k) number ≡ block_with (kind_number k) number blocks
 unfolding flat_callee
 source_flat blocks k number h =
-    ap (λ (t' : Bool). if t' then option_map system_function (system_params number) else block_with (kind_number k) number blocks)
+    ap (λ (t' : Bool). if t' then option_map callee_of_system (system_params number) else block_with (kind_number k) number blocks)
     (not_five k h)
 
 sound_all : (cells : List Cell)
@@ -598,17 +598,17 @@ lacking false fb all e f g = absurd cc
 no_instance_right : (lens : List (ℕ × ℕ)) (kind il : ℕ) (params : List ParameterRecord)
     → (kind == 3) ≡ false → is_bad_instance lens (kind, il, params) 0 ≡ false
 no_instance_right lens kind il params e =
-    ap (λ (t' : Bool). if t' then (if true then not (is_nothing_in params) else is_short il (data_len 0 lens)) else not true) e
+    ap (λ (t' : Bool). if t' then (if true then not (is_nothing_in params) else is_short il (length_of_data 0 lens)) else not true) e
 
 bare_right : (lens : List (ℕ × ℕ)) (il : ℕ) (params : List ParameterRecord) → params ≡ []
     → is_bad_instance lens (3, il, params) 0 ≡ false
 bare_right lens il params e = ap (λ (ps : List ParameterRecord). not (is_nothing_in ps)) e
 
 given_right : (lens : List (ℕ × ℕ)) (il n len : ℕ) (params : List ParameterRecord)
-    → (n == 0) ≡ false → data_len n lens ≡ Some len → nat_lt len il ≡ false
+    → (n == 0) ≡ false → length_of_data n lens ≡ Some len → nat_lt len il ≡ false
     → is_bad_instance lens (3, il, params) n ≡ false
 given_right lens il n len params e f g =
-    ap (λ (t' : Bool). if t' then not (is_nothing_in params) else is_short il (data_len n lens)) e
+    ap (λ (t' : Bool). if t' then not (is_nothing_in params) else is_short il (length_of_data n lens)) e
     ∙ ap (λ (o : Option ℕ). is_short il o) f ∙ g
 
 -- a call of another block than a function block passes all, and has no instance
@@ -856,8 +856,8 @@ operand_passed c f (operand.Called n i) v is e = other_passed c f (operand.Calle
 good_passed : (a : Around) (c : Context) (formals : List Formal) (x : Actual)
     → IsGoodActual a c formals x → names_none formals x ≡ false → HasPassed c x
 good_passed a c formals x good named =
-    let f = formal_there formals (folded x.name)
-    (not-false (list_any (λ (f : Formal). bytes_eq (folded x.name) f.name) formals) named) in
+    let f = formal_there formals (upper_case_name x.name)
+    (not-false (list_any (λ (f : Formal). bytes_eq (upper_case_name x.name) f.name) formals) named) in
     operand_passed c f.0 x.value good.seen.view good.seen.is
     (not-false (fits_operand c f.0 x.value) (ap (misfits c x) (sym f.1) ∙ good.fits))
 
@@ -989,7 +989,7 @@ module _ (symbols : List Symbol) (t : Tree) (tree : IsSoundTree symbols t)
   instance_right how id n m fb =
       given_right (lens_of (data_blocks_of t symbols (layouts_of t symbols))) m.cal.il n d.block.layout.length m.cal.params
       (ap (λ (i : ℕ). i == 0) number ∙ instance_number_right symbols t d.place d.block)
-      (ap (λ (i : ℕ). data_len i (lens_of (data_blocks_of t symbols (layouts_of t symbols)))) number
+      (ap (λ (i : ℕ). length_of_data i (lens_of (data_blocks_of t symbols (layouts_of t symbols)))) number
       ∙ instance_found symbols t tree d.place d.block.block d.block.layout d.block.id d.block.sound d.block.is d.block.kind)
       (le-ltb d.block.layout.length m.cal.il (omega (arith, long)))
     where
@@ -1112,7 +1112,7 @@ module _ (symbols : List Symbol) (t : Tree) (tree : IsSoundTree symbols t)
           ∙ none_passed (context_at symbols t k) 0 (in_order (block_at t.blocks m.cal.of_source.place) m.cal.of_source.formals))
 
       flat_is : flat_callee a.blocks (kind_number id.kind) id.number ≡ Some (kind_number id.kind, m.cal.il, m.cal.params)
-      flat_is = ap (λ (sg : List Signature). flat_callee sg (kind_number id.kind) id.number) blocks ∙ m.cal.flat
+      flat_is = ap (λ (sg : List BlockSignature). flat_callee sg (kind_number id.kind) id.number) blocks ∙ m.cal.flat
 
   -- it names what it calls
   pub called_is : (how : CallOperation) → call_of s.code ≡ Some how

@@ -6,7 +6,7 @@ use Rattle.plc_base.specs.declared.blocks.BlockId.{BlockId}
 use Rattle.plc_base.proofs.ListLemmas.{all_append}
 use Rattle.flat_code.specs.Blocks.{Around}
 use Rattle.flat_code.specs.Image.{record_of_block}
-use Rattle.flat_code.specs.Loading.{around, lens_of}
+use Rattle.flat_code.specs.Loading.{around_block, lens_of}
 use Rattle.flat_code.specs.Placed.{spots}
 use Rattle.flat_code.specs.Programs.{Program}
 use Rattle.stl_ast.specs.Statements.{is_empty}
@@ -47,7 +47,7 @@ module _ (symbols : List Symbol) (t : Tree) (tree : IsSoundTree symbols t)
     (bytes : AllByRecursion StatementHasBytes b.body) where
   -- what surrounds it
   abbrev here : Around
-  here = around (Some (lens_of (program_in symbols t).data_blocks))
+  here = around_block (Some (lens_of (program_in symbols t).data_blocks))
       (map record_of_block (program_in symbols t).code_blocks)
       (record_of_block (compiled (code_block (context_at symbols t k) b l id)))
 

@@ -11,7 +11,7 @@ use Rattle.plc_base.specs.Kinds.{is_function_block}
 use Rattle.plc_base.specs.Widths.{width_number}
 use Rattle.plc_base.specs.declared.places.Width.TheVariants as width
 use Rattle.plc_base.specs.declared.blocks.BlockKind.{BlockKind}
-use Rattle.flat_code.specs.Blocks.{input, output, system_params}
+use Rattle.flat_code.specs.Blocks.{in_record, out_record, system_params}
 use Rattle.flat_code.specs.Image.{record_of_param}
 use Rattle.flat_code.specs.declared.image_fields.ParameterRecord.{ParameterRecord}
 use Rattle.flat_code.specs.declared.programs.Param.{Param}
@@ -29,7 +29,7 @@ use Rattle.stl_ast.specs.declared.declarations.ElementType.{ElementType}
 use Rattle.stl_ast.specs.declared.declarations.ElementType.TheVariants as element
 use Rattle.stl_ast.specs.declared.declarations.Simple.{Simple}
 use Rattle.stl_ast.specs.declared.declarations.Simple.TheVariants as simple
-use Rattle.plc_base.specs.Folding.{folded}
+use Rattle.plc_base.specs.Folding.{upper_case_name}
 use Rattle.plc_base.proofs.ListLemmas.{all_append}
 use Rattle.stl_symbols.specs.Names.{place_of}
 use Rattle.block_layout.specs.Around.{Outside, of_sections, of_structure, onto, returned_names}
@@ -267,16 +267,16 @@ within_onto names outer before (d ∷ ds) h =
 
 within_here : (names outer : List (List ℕ)) (d : Declaration) (before : List Declaration)
     → d.level ≡ 0 → Within names (names_before outer 0 before)
-    → Within (names ++ folded d.name ∷ []) (names_before outer 0 (d ∷ before))
+    → Within (names ++ upper_case_name d.name ∷ []) (names_before outer 0 (d ∷ before))
 within_here names outer d before lowest h n e =
-    absent_both n names (folded d.name)
-    (h n (absent_front n (names_before outer 0 before) (folded d.name ∷ []) there))
-    (absent n (folded d.name) (names_before outer 0 before) [] there)
+    absent_both n names (upper_case_name d.name)
+    (h n (absent_front n (names_before outer 0 before) (upper_case_name d.name ∷ []) there))
+    (absent n (upper_case_name d.name) (names_before outer 0 before) [] there)
   where
-    here : name_here 0 d ≡ folded d.name ∷ []
-    here = ap (λ (t : Bool). if t then folded d.name ∷ [] else []) (eq-eqb d.level 0 lowest)
+    here : name_here 0 d ≡ upper_case_name d.name ∷ []
+    here = ap (λ (t : Bool). if t then upper_case_name d.name ∷ [] else []) (eq-eqb d.level 0 lowest)
 
-    there : place_of n (names_before outer 0 before ++ folded d.name ∷ []) ≡ None
+    there : place_of n (names_before outer 0 before ++ upper_case_name d.name ∷ []) ≡ None
     there =
         ap (λ (ns : List (List ℕ)). place_of n ns)
         (ap (λ (z : List (List ℕ)). names_before outer 0 before ++ z) (sym here) ∙ sym (names_more outer d before))
@@ -309,7 +309,7 @@ not_there (Some n) e = absurd cc
 
 parameter_formal : (y : Types) (o : Outside) (section : PartKind) (before : List Declaration)
     (d : Declaration) (kind : Simple) → is_parameter section ≡ true → d.of.of ≡ element.Plain kind
-    → formal_here (cell_of y o section before d) ≡ formal (folded d.name) section kind ∷ []
+    → formal_here (cell_of y o section before d) ≡ formal (upper_case_name d.name) section kind ∷ []
 unfolding cell_of
 parameter_formal y o section before d kind is plain =
     ap (λ (t : Bool). if t then formal_of (cell_of y o section before d) (laid y d.of.of) else []) is
@@ -329,7 +329,7 @@ fresh_section y o k section names before [] is declared outline h within =
 fresh_section y o k section names before (d ∷ ds) is declared outline h within =
     subst (λ (fs : List Formal). AreFresh names o.names (onto (d ∷ before) ds) (fs ++ flat_map formal_here (cells_of y o section (d ∷ before) ds)))
     (sym (parameter_formal y o section before d type.0 is type.1))
-    (joined (fresh_section y o k section (names ++ folded d.name ∷ []) (d ∷ before) ds is declared.1
+    (joined (fresh_section y o k section (names ++ upper_case_name d.name ∷ []) (d ∷ before) ds is declared.1
     (subst (λ (n : ℕ). IsOutline n ds) behind outline.1) h.1 (within_here names o.names d before lowest within)))
   where
     type : (kind : Simple) × (d.of.of ≡ element.Plain kind)
@@ -341,18 +341,18 @@ fresh_section y o k section names before (d ∷ ds) is declared outline h within
     behind : level_behind d.level d.of.of ≡ 0
     behind = ap (λ (e : ElementType). level_behind d.level e) type.1 ∙ lowest
 
-    new : place_of (folded d.name) names ≡ None
-    new = within (folded d.name)
-        (not_there (place_of (folded d.name) (names_before o.names 0 before))
-        (ap (λ (n : ℕ). is_some (place_of (folded d.name) (names_before o.names n before))) (sym lowest)
+    new : place_of (upper_case_name d.name) names ≡ None
+    new = within (upper_case_name d.name)
+        (not_there (place_of (upper_case_name d.name) (names_before o.names 0 before))
+        (ap (λ (n : ℕ). is_some (place_of (upper_case_name d.name) (names_before o.names n before))) (sym lowest)
         ∙ untwice y o before d h.0))
 
-    joined : AreFresh (names ++ folded d.name ∷ []) o.names (onto (d ∷ before) ds) (flat_map formal_here (cells_of y o section (d ∷ before) ds))
-        → AreFresh names o.names (onto (d ∷ before) ds) (formal (folded d.name) section type.0 ∷ flat_map formal_here (cells_of y o section (d ∷ before) ds))
+    joined : AreFresh (names ++ upper_case_name d.name ∷ []) o.names (onto (d ∷ before) ds) (flat_map formal_here (cells_of y o section (d ∷ before) ds))
+        → AreFresh names o.names (onto (d ∷ before) ds) (formal (upper_case_name d.name) section type.0 ∷ flat_map formal_here (cells_of y o section (d ∷ before) ds))
     joined r = record {
       fresh = (new, r.fresh);
       behind = r.behind;
-      named = r.named ∙ append_assoc names (folded d.name ∷ []) (map (λ (f : Formal). f.name) (flat_map formal_here (cells_of y o section (d ∷ before) ds)));
+      named = r.named ∙ append_assoc names (upper_case_name d.name ∷ []) (map (λ (f : Formal). f.name) (flat_map formal_here (cells_of y o section (d ∷ before) ds)));
       within = r.within;
     }
 
@@ -513,12 +513,12 @@ formals_by a b c d e f g h i =
 
 abbrev params_by : (a b c d e f g h i : Bool) → Option (List ParameterRecord)
 params_by a b c d e f g h i =
-    if a then Some (input width.Word ∷ input width.Dword ∷ input width.Word ∷ output width.Word ∷ [])
-    else if b then Some (input width.Word ∷ output width.Word ∷ [])
-    else if c || d then Some (input width.Byte ∷ input width.Word ∷ output width.Word ∷ [])
-    else if e || f then Some (output width.Word ∷ [])
+    if a then Some (in_record width.Word ∷ in_record width.Dword ∷ in_record width.Word ∷ out_record width.Word ∷ [])
+    else if b then Some (in_record width.Word ∷ out_record width.Word ∷ [])
+    else if c || d then Some (in_record width.Byte ∷ in_record width.Word ∷ out_record width.Word ∷ [])
+    else if e || f then Some (out_record width.Word ∷ [])
     else if g || h then Some []
-    else if i then Some (output width.Dword ∷ [])
+    else if i then Some (out_record width.Dword ∷ [])
     else None
 
 record IsSystemBy (o : Option (List ParameterRecord)) (formals : List Formal) : Type 0 where
@@ -535,22 +535,22 @@ system_by : (a b c d e f g h i : Bool) (formals : List Formal)
     → IsSystemBy (params_by a b c d e f g h i) formals
 system_by true b c d e f g h i formals s =
     subst (λ (fs : List Formal). IsSystemBy (params_by true b c d e f g h i) fs) (some_list (ob_nr ∷ dtime ∷ sign ∷ returns simple.Int ∷ []) formals s)
-    (record { params = input width.Word ∷ input width.Dword ∷ input width.Word ∷ output width.Word ∷ []; is = refl; matched = ((refl, refl, refl), ((refl, refl, refl), ((refl, refl, refl), ((refl, refl, refl), tt)))); fresh = (refl, (refl, (refl, (refl, tt)))) })
+    (record { params = in_record width.Word ∷ in_record width.Dword ∷ in_record width.Word ∷ out_record width.Word ∷ []; is = refl; matched = ((refl, refl, refl), ((refl, refl, refl), ((refl, refl, refl), ((refl, refl, refl), tt)))); fresh = (refl, (refl, (refl, (refl, tt)))) })
 system_by false true c d e f g h i formals s =
     subst (λ (fs : List Formal). IsSystemBy (params_by false true c d e f g h i) fs) (some_list (ob_nr ∷ returns simple.Int ∷ []) formals s)
-    (record { params = input width.Word ∷ output width.Word ∷ []; is = refl; matched = ((refl, refl, refl), ((refl, refl, refl), tt)); fresh = (refl, (refl, tt)) })
+    (record { params = in_record width.Word ∷ out_record width.Word ∷ []; is = refl; matched = ((refl, refl, refl), ((refl, refl, refl), tt)); fresh = (refl, (refl, tt)) })
 system_by false false true d e f g h i formals s =
     subst (λ (fs : List Formal). IsSystemBy (params_by false false true d e f g h i) fs) (some_list (mode ∷ ob_nr ∷ returns simple.Int ∷ []) formals s)
-    (record { params = input width.Byte ∷ input width.Word ∷ output width.Word ∷ []; is = refl; matched = ((refl, refl, refl), ((refl, refl, refl), ((refl, refl, refl), tt))); fresh = (refl, (refl, (refl, tt))) })
+    (record { params = in_record width.Byte ∷ in_record width.Word ∷ out_record width.Word ∷ []; is = refl; matched = ((refl, refl, refl), ((refl, refl, refl), ((refl, refl, refl), tt))); fresh = (refl, (refl, (refl, tt))) })
 system_by false false false true e f g h i formals s =
     subst (λ (fs : List Formal). IsSystemBy (params_by false false false true e f g h i) fs) (some_list (mode ∷ ob_nr ∷ returns simple.Int ∷ []) formals s)
-    (record { params = input width.Byte ∷ input width.Word ∷ output width.Word ∷ []; is = refl; matched = ((refl, refl, refl), ((refl, refl, refl), ((refl, refl, refl), tt))); fresh = (refl, (refl, (refl, tt))) })
+    (record { params = in_record width.Byte ∷ in_record width.Word ∷ out_record width.Word ∷ []; is = refl; matched = ((refl, refl, refl), ((refl, refl, refl), ((refl, refl, refl), tt))); fresh = (refl, (refl, (refl, tt))) })
 system_by false false false false true f g h i formals s =
     subst (λ (fs : List Formal). IsSystemBy (params_by false false false false true f g h i) fs) (some_list (returns simple.Int ∷ []) formals s)
-    (record { params = output width.Word ∷ []; is = refl; matched = ((refl, refl, refl), tt); fresh = (refl, tt) })
+    (record { params = out_record width.Word ∷ []; is = refl; matched = ((refl, refl, refl), tt); fresh = (refl, tt) })
 system_by false false false false false true g h i formals s =
     subst (λ (fs : List Formal). IsSystemBy (params_by false false false false false true g h i) fs) (some_list (returns simple.Int ∷ []) formals s)
-    (record { params = output width.Word ∷ []; is = refl; matched = ((refl, refl, refl), tt); fresh = (refl, tt) })
+    (record { params = out_record width.Word ∷ []; is = refl; matched = ((refl, refl, refl), tt); fresh = (refl, tt) })
 system_by false false false false false false true h i formals s =
     subst (λ (fs : List Formal). IsSystemBy (params_by false false false false false false true h i) fs) (some_list [] formals s)
     (record { params = []; is = refl; matched = tt; fresh = tt })
@@ -559,7 +559,7 @@ system_by false false false false false false false true i formals s =
     (record { params = []; is = refl; matched = tt; fresh = tt })
 system_by false false false false false false false false true formals s =
     subst (λ (fs : List Formal). IsSystemBy (params_by false false false false false false false false true) fs) (some_list (returns simple.Time ∷ []) formals s)
-    (record { params = output width.Dword ∷ []; is = refl; matched = ((refl, refl, refl), tt); fresh = (refl, tt) })
+    (record { params = out_record width.Dword ∷ []; is = refl; matched = ((refl, refl, refl), tt); fresh = (refl, tt) })
 system_by false false false false false false false false false formals s = absurd cc
 
 pub system_matched : (n : ℕ) (formals : List Formal) → system_formals n ≡ Some formals

@@ -10,7 +10,7 @@ use Rattle.plc_base.specs.declared.blocks.BlockKind.{BlockKind}
 use Rattle.plc_base.specs.declared.blocks.BlockKind.TheVariants as kinds
 use Rattle.plc_base.proofs.ListLemmas.{all_front, all_back}
 use Rattle.plc_base.proofs.TruthLemmas.{and_first, and_second}
-use Rattle.flat_code.specs.Blocks.{Signature, block_with, data_len, signature_of}
+use Rattle.flat_code.specs.Blocks.{BlockSignature, block_with, length_of_data, signature_of}
 use Rattle.flat_code.specs.Image.{record_of_block, record_of_param}
 use Rattle.flat_code.specs.Loading.{lens_of}
 use Rattle.flat_code.specs.Programs.{DataBlock}
@@ -181,7 +181,7 @@ same_there xs j k x z e f g =
 
 -- ---- the code block that a call means
 
-abbrev sig_of : StatedBlock → Signature
+abbrev sig_of : StatedBlock → BlockSignature
 sig_of b = signature_of (record_of_block (compiled b))
 
 abbrev matches : (kind number : ℕ) → StatedBlock → Bool
@@ -332,13 +332,13 @@ initial_long l blocks k =
 len_finds : (number len : ℕ) (ds : List DataBlock)
     → AllByRecursion (λ d. (d.number == number) ≡ true → length d.bytes ≡ len) ds
     → (AllByRecursion (λ d. (d.number == number) ≡ false) ds → ⊥)
-    → data_len number (lens_of ds) ≡ Some len
+    → length_of_data number (lens_of ds) ≡ Some len
 len_finds number len [] h some = absurd (some tt)
 len_finds number len (d ∷ ds) h some = by (d.number == number) refl (len_finds number len ds h.1)
   where
     by : (t : Bool) → (d.number == number) ≡ t
-        → ((AllByRecursion (λ d. (d.number == number) ≡ false) ds → ⊥) → data_len number (lens_of ds) ≡ Some len)
-        → (if t then Some (length d.bytes) else data_len number (lens_of ds)) ≡ Some len
+        → ((AllByRecursion (λ d. (d.number == number) ≡ false) ds → ⊥) → length_of_data number (lens_of ds) ≡ Some len)
+        → (if t then Some (length d.bytes) else length_of_data number (lens_of ds)) ≡ Some len
     by true is more = ap (λ (n : ℕ). Some n) (h.0 is)
     by false is more = more (λ none. some (is, none))
 
@@ -358,7 +358,7 @@ data_kind_same kinds.Db kinds.Udt e f = absurd cc
 pub instance_found : (symbols : List Symbol) (t : Tree) → IsSoundTree symbols t → (q : ℕ)
     (b : Block) (l : BlockLayout) (id : BlockId) → IsSound symbols t q b l → l.id ≡ Some id
     → is_data_block id.kind ≡ true
-    → data_len id.number (lens_of (data_blocks_of t symbols (layouts_of t symbols))) ≡ Some l.length
+    → length_of_data id.number (lens_of (data_blocks_of t symbols (layouts_of t symbols))) ≡ Some l.length
 instance_found symbols t tree q b l id h is kind =
     len_finds id.number l.length (data_blocks_of t symbols (layouts_of t symbols))
     (sound_data_blocks symbols t (λ d. (d.number == id.number) ≡ true → length d.bytes ≡ l.length) tree each)

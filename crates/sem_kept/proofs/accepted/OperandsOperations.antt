@@ -5,9 +5,9 @@ use Rattle.plc_base.specs.declared.places.Area.{Area}
 use Rattle.plc_base.specs.declared.places.Area.TheVariants as area
 use Rattle.plc_base.specs.declared.places.Width.{Width}
 use Rattle.plc_base.specs.declared.places.Width.TheVariants as width
-use Rattle.flat_code.specs.Blocks.{Around, is_bad_place, is_input as is_input_parameter, lacks_own, lacks_width, own_parameter, prepares, writes as writes_code}
-use Rattle.flat_code.specs.OpCodes.{code_of}
-use Rattle.flat_code.specs.Table.{has_width as has_width_of, takes_of}
+use Rattle.flat_code.specs.Blocks.{Around, is_bad_place, is_in_parameter as is_input_parameter, lacks_own, lacks_width, parameter_meant, prepares, writes_operand as writes_code}
+use Rattle.flat_code.specs.OpCodes.{op_code_of}
+use Rattle.flat_code.specs.Table.{has_memory_width as has_width_of, takes_of}
 use Rattle.flat_code.specs.Operations.{operation_of as operation_of_code}
 use Rattle.flat_code.specs.declared.table.Takes.{Takes}
 use Rattle.flat_code.specs.declared.operands.Operand.TheVariants as flat
@@ -76,32 +76,32 @@ allowed f v e =
 
 -- ---- operations
 
-load_ordinary : (v : ResolvedOperand) → prepares (code_of (load_operation v)) ≡ false
+load_ordinary : (v : ResolvedOperand) → prepares (op_code_of (load_operation v)) ≡ false
 load_ordinary (view.Register register.Stw) = refl
 load_ordinary (view.Register which) = refl
 load_ordinary _ = refl
 
-transfer_ordinary : (v : ResolvedOperand) → prepares (code_of (transfer_operation v)) ≡ false
+transfer_ordinary : (v : ResolvedOperand) → prepares (op_code_of (transfer_operation v)) ≡ false
 transfer_ordinary (view.Register which) = refl
 transfer_ordinary _ = refl
 
-or_ordinary : (v : ResolvedOperand) → prepares (code_of (or_operation v)) ≡ false
+or_ordinary : (v : ResolvedOperand) → prepares (op_code_of (or_operation v)) ≡ false
 or_ordinary view.Nothing = refl
 or_ordinary _ = refl
 
-load_pointer_ordinary : (v : ResolvedOperand) → prepares (code_of (load_pointer_operation v)) ≡ false
+load_pointer_ordinary : (v : ResolvedOperand) → prepares (op_code_of (load_pointer_operation v)) ≡ false
 load_pointer_ordinary (view.Register which) = refl
 load_pointer_ordinary _ = refl
 
-store_pointer_ordinary : (v : ResolvedOperand) → prepares (code_of (store_pointer_operation v)) ≡ false
+store_pointer_ordinary : (v : ResolvedOperand) → prepares (op_code_of (store_pointer_operation v)) ≡ false
 store_pointer_ordinary (view.Register which) = refl
 store_pointer_ordinary _ = refl
 
-add_ordinary : (o : Operand) → prepares (code_of (add_operation o)) ≡ false
+add_ordinary : (o : Operand) → prepares (op_code_of (add_operation o)) ≡ false
 add_ordinary (operand.Constant (literal.Long value)) = refl
 add_ordinary _ = refl
 
-pub ordinary : (m : Mnemonic) (o : Operand) (v : ResolvedOperand) → prepares (code_of (operation_for m o v)) ≡ false
+pub ordinary : (m : Mnemonic) (o : Operand) (v : ResolvedOperand) → prepares (op_code_of (operation_for m o v)) ≡ false
 unfolding operation_for
 ordinary code.O o v = or_ordinary v
 ordinary code.L o v = load_ordinary v
@@ -209,7 +209,7 @@ dword_only t e _ k = absurd cc
 
 -- what the operation of a mnemonic takes
 abbrev operation_takes : Mnemonic → Operand → Takes
-operation_takes m o = takes_of (code_of (operation_for m o in_memory))
+operation_takes m o = takes_of (op_code_of (operation_for m o in_memory))
 
 widths : (m : Mnemonic) (o : Operand) (w : Width) → takes (form_of m) in_memory ≡ true
     → takes_width (form_of m) (Some w) ≡ true → has_width_of (operation_takes m o) w ≡ true
@@ -237,14 +237,14 @@ no_lack : (m : Mnemonic) (o : Operand) (v : ResolvedOperand) (w : Width) → is_
     → width_in v ≡ Some w → IsAllowed (form_of m) v
     → lacks_width (ending (operation_for m o v) (operand_of o v)) w ≡ false
 no_lack m o v w mem is h =
-    ap (λ (x : Operation). not (has_width_of (takes_of (code_of x)) w)) (memory_word m o v mem)
+    ap (λ (x : Operation). not (has_width_of (takes_of (op_code_of x)) w)) (memory_word m o v mem)
     ∙ ap not (widths m o w (memory_form (form_of m) v mem h.taken)
     (ap (λ (x : Option Width). has_width (form_of m) x) (sym is) ∙ h.wide))
 
 -- what writes has a form that writes
 unwritten : (m : Mnemonic) (o : Operand) (index : ℕ) (section : PartKind) (declared : Simple) (b : Bool)
     → (writes (form_of m) && b) ≡ false
-    → (writes_code (code_of (operation_for m o (view.Parameter index section declared))) && b) ≡ false
+    → (writes_code (op_code_of (operation_for m o (view.Parameter index section declared))) && b) ≡ false
 unfolding form_of operation_for
 unwritten code.T o index section declared b h = h
 unwritten code.Assign o index section declared b h = h
@@ -254,7 +254,7 @@ unwritten code.Fp o index section declared b h = h
 unwritten code.Fn o index section declared b h = h
 unwritten code.Add o index section declared b h = added o
   where
-    added : (o : Operand) → (writes_code (code_of (add_operation o)) && b) ≡ false
+    added : (o : Operand) → (writes_code (op_code_of (add_operation o)) && b) ≡ false
     added (operand.Constant (literal.Long value)) = refl
     added _ = refl
 unwritten _ o index section declared b h = refl
@@ -276,8 +276,8 @@ abbrev pub ViewFits : Around → ResolvedOperand → Type 0
 ViewFits a (view.Direct place w s declared) =
     (is_bad_place a place.area w place.byte place.bit ≡ false) × HasWidth w declared
 ViewFits a (view.Parameter index section declared) =
-    (lacks_own (own_parameter a index) (width_of declared) ≡ false)
-    × (is_input_parameter (own_parameter a index) ≡ is_input_section section)
+    (lacks_own (parameter_meant a index) (width_of declared) ≡ false)
+    × (is_input_parameter (parameter_meant a index) ≡ is_input_section section)
 ViewFits a _ = Unit {0}
 
 numbered_fits : (a : Around) (w : Operation) (what : Numbered) (from : Area) (byte : ℕ)
@@ -304,7 +304,7 @@ operand_fits a m o (view.Direct place w s declared) h fits =
 operand_fits a m o (view.Parameter index section declared) h fits = (
   no_lack m o (view.Parameter index section declared) (width_of declared) refl refl h,
   fits.0,
-  unwritten m o index section declared (is_input_parameter (own_parameter a index))
+  unwritten m o index section declared (is_input_parameter (parameter_meant a index))
       (ap (λ (b : Bool). writes (form_of m) && b)
       (fits.1 ∙ sym (input_section index section declared)) ∙ h.unwritten),
 )

@@ -8,7 +8,7 @@ use Rattle.plc_base.specs.declared.places.Area.{Area}
 use Rattle.plc_base.specs.declared.places.Area.TheVariants as area
 use Rattle.plc_base.specs.declared.places.Width.{Width}
 use Rattle.plc_base.specs.declared.places.Width.TheVariants as width
-use Rattle.flat_code.specs.Blocks.{Around, is_above, is_bad_actual, is_bad_place, is_input as is_input_parameter, is_odd_bit, is_past_locals, literal_fits, misfits_index, misfits_parameter, own_parameter}
+use Rattle.flat_code.specs.Blocks.{Around, is_above, is_bad_actual, is_bad_place, is_in_parameter as is_input_parameter, is_odd_bit, is_past_locals, literal_fits, misfits_index, misfits_parameter, parameter_meant}
 use Rattle.flat_code.specs.declared.image_fields.ParameterRecord.{ParameterRecord}
 use Rattle.flat_code.specs.declared.operands.Passed.{Passed}
 use Rattle.flat_code.specs.declared.operands.Passed.TheVariants as passed
@@ -26,7 +26,7 @@ use Rattle.stl_ast.specs.declared.mnemonics.Mnemonic.TheVariants as code
 use Rattle.stl_ast.specs.declared.operands.Operand.{Operand}
 use Rattle.stl_ast.specs.declared.operands.Operand.TheVariants as operand
 use Rattle.stl_ast.specs.declared.statements.Actual.{Actual}
-use Rattle.plc_base.specs.Folding.{folded}
+use Rattle.plc_base.specs.Folding.{upper_case_name}
 use Rattle.plc_base.proofs.TruthLemmas.{and_first, and_second}
 use Rattle.block_layout.specs.Fits.{bits_of, fits}
 use Rattle.block_layout.specs.Offsets.{width_of}
@@ -225,10 +225,10 @@ view_passes a c f r o (view.Parameter index own declared) e fits h taken = recor
   is = ap (passed_seen o) e;
   right = fits.0;
   fits = or_from (not (r.width == width_number (width_of declared)))
-      (not (r.section == 1) && is_input_parameter (own_parameter a index))
+      (not (r.section == 1) && is_input_parameter (parameter_meant a index))
       (width_same r f (width_of declared) h
       (same_types declared f.kind (and_first (is_same_type declared f.kind) (takes_section f.section own) taken)))
-      (ap (λ (t : Bool). not t && is_input_parameter (own_parameter a index)) (section_input f r h)
+      (ap (λ (t : Bool). not t && is_input_parameter (parameter_meant a index)) (section_input f r h)
       ∙ ap (λ (t : Bool). not (is_input_section f.section) && t) fits.1
       ∙ own_section (is_input_section f.section) (is_input_section own)
       (and_second (is_same_type declared f.kind) (takes_section f.section own) taken));
@@ -312,10 +312,10 @@ pub supplied_passes : (a : Around) (c : Context) (formals : List Formal) (actual
 supplied_passes a c formals actuals f r x good found h e =
     passes a c f r x.value one.0.seen one.0.well one.0.bytes h
     (not-false (fits_operand c f x.value)
-    (ap (misfits c x) (sym (found (folded x.name) one.1)) ∙ one.0.fits))
+    (ap (misfits c x) (sym (found (upper_case_name x.name) one.1)) ∙ one.0.fits))
   where
-    one : IsGoodActual a c formals x × (bytes_eq (folded x.name) f.name ≡ true)
-    one = found_holds (IsGoodActual a c formals) (λ x. bytes_eq (folded x.name) f.name) actuals x good e
+    one : IsGoodActual a c formals x × (bytes_eq (upper_case_name x.name) f.name ≡ true)
+    one = found_holds (IsGoodActual a c formals) (λ x. bytes_eq (upper_case_name x.name) f.name) actuals x good e
 
 -- indices from one on are above what was passed before
 abbrev Under : (before : Option ℕ) → ℕ → Type 0

@@ -8,12 +8,12 @@ use Rattle.std.proofs.lemmas.Bool.{or_from}
 use Rattle.plc_base.specs.declared.blocks.BlockId.{BlockId}
 use Rattle.plc_base.specs.Kinds.{kind_number}
 use Rattle.flat_code.specs.Blocks.{Around, callee, call_fault_among, is_above, is_bad_actual, is_bad_call, is_bad_place, is_in_db, is_stray_pass, is_stray_use_db, lacks_width, mark_fault, misfits_call, misfits_callee, operand_fault, pass_before, pass_index, prepares, seven_if}
-use Rattle.flat_code.specs.Codes.{first_of, size}
+use Rattle.flat_code.specs.Codes.{first_found, size}
 use Rattle.flat_code.specs.Instr.{Instr, Passing, Does, Jumps, JumpsByList, Calls, Returns}
-use Rattle.flat_code.specs.Kinds.{kind_of}
-use Rattle.flat_code.specs.OpCodes.{code_of}
+use Rattle.flat_code.specs.Kinds.{jump_number}
+use Rattle.flat_code.specs.OpCodes.{op_code_of}
 use Rattle.flat_code.specs.Ops.{OpData}
-use Rattle.flat_code.specs.Placed.{Placed, Spot, before_next, ending as ending_op, last_op, opened, placed, zones_behind}
+use Rattle.flat_code.specs.Placed.{Placed, StatementSpot, before_next, ending_op, last_op, brackets_after, ops_placed, zones_behind_op}
 use Rattle.flat_code.specs.declared.image_fields.OpenBracket.{OpenBracket}
 use Rattle.flat_code.specs.declared.operands.Operand.{Operand}
 use Rattle.flat_code.specs.declared.operands.Operand.TheVariants as operand
@@ -38,7 +38,7 @@ ends_here : (op : OpData) (rest : List OpData) → op.last ≡ true → ending_o
 ends_here op [] e = refl
 ends_here op (next ∷ ops) e = rw e refl
 
-marked : (w : Operation) (o : Operand) → prepares (code_of w) ≡ false → mark_fault (ending w o) ≡ None
+marked : (w : Operation) (o : Operand) → prepares (op_code_of w) ≡ false → mark_fault (ending w o) ≡ None
 marked w o e = rw e refl
 
 -- an operand that isn't a jump's stays as it is
@@ -60,7 +60,7 @@ aimed_still f a op (operand.Called kind number instance) h = refl
 aimed_still f a op (operand.OpenBlock register number) h = refl
 aimed_still f a op (operand.OpenBy register from byte) h = refl
 
-right_operand : (a : Around) (ss : List Spot) (p : Placed) (o : Operand) → IsRightOperand a p.op o
+right_operand : (a : Around) (ss : List StatementSpot) (p : Placed) (o : Operand) → IsRightOperand a p.op o
     → operand_fault a ss p o ≡ None
 right_operand a ss p (operand.Direct area w byte bit) h =
     seven_none (lacks_width p.op w || is_bad_place a area w byte bit)
@@ -100,29 +100,29 @@ right_call a lens p (operand.OpenBlock register number) h = refl
 right_call a lens p (operand.OpenBy register from byte) h = refl
 
 -- the ops behind a statement are fine wherever they stand
-abbrev FineBehind : Around → List (ℕ × ℕ) → List Spot → List OpData → Type 0
+abbrev FineBehind : Around → List (ℕ × ℕ) → List StatementSpot → List OpData → Type 0
 FineBehind a lens ss rest = (at : ℕ) (brackets : List OpenBracket) (zones : List ℕ)
-    → AreFine a lens ss (placed at brackets zones [] rest)
+    → AreFine a lens ss (ops_placed at brackets zones [] rest)
 
 -- an op that ends a statement, and those behind it
-last_fine : (a : Around) (lens : List (ℕ × ℕ)) (ss : List Spot) (at : ℕ)
+last_fine : (a : Around) (lens : List (ℕ × ℕ)) (ss : List StatementSpot) (at : ℕ)
     (brackets : List OpenBracket) (zones : List ℕ) (before : List OpData) (op : OpData) (rest : List OpData)
     → op.last ≡ true
     → IsFine a lens ss (record { at = at; brackets = brackets; zones = zones; before = before; op = op; rest = rest })
-    → FineBehind a lens ss rest → AreFine a lens ss (placed at brackets zones before (op ∷ rest))
+    → FineBehind a lens ss rest → AreFine a lens ss (ops_placed at brackets zones before (op ∷ rest))
 last_fine a lens ss at brackets zones before op rest last fine behind = (
   fine,
-  subst (λ (z : List OpData). AreFine a lens ss (placed (at + size op) (opened at op.code brackets) (zones_behind at op.code zones) z rest))
-      (sym next) (behind (at + size op) (opened at op.code brackets) (zones_behind at op.code zones)),
+  subst (λ (z : List OpData). AreFine a lens ss (ops_placed (at + size op) (brackets_after at op.code brackets) (zones_behind_op at op.code zones) z rest))
+      (sym next) (behind (at + size op) (brackets_after at op.code brackets) (zones_behind_op at op.code zones)),
 )
   where
     next : before_next op before ≡ []
     next = rw last refl
 
-does_fine : (a : Around) (lens : List (ℕ × ℕ)) (ss : List Spot) (at : ℕ)
+does_fine : (a : Around) (lens : List (ℕ × ℕ)) (ss : List StatementSpot) (at : ℕ)
     (brackets : List OpenBracket) (zones : List ℕ) (before : List OpData) (w : Operation) (o : Operand) (rest : List OpData)
-    → prepares (code_of w) ≡ false → IsRightOperand a (ending w o) o → FineBehind a lens ss rest
-    → AreFine a lens ss (placed at brackets zones before (ending w o ∷ rest))
+    → prepares (op_code_of w) ≡ false → IsRightOperand a (ending w o) o → FineBehind a lens ss rest
+    → AreFine a lens ss (ops_placed at brackets zones before (ending w o ∷ rest))
 does_fine a lens ss at brackets zones before w o rest own right behind =
     last_fine a lens ss at brackets zones before (ending w o) rest refl
     (record {
@@ -134,7 +134,7 @@ does_fine a lens ss at brackets zones before w o rest own right behind =
     })
     behind
 
-use_db_fine : (a : Around) (lens : List (ℕ × ℕ)) (ss : List Spot) (at number : ℕ)
+use_db_fine : (a : Around) (lens : List (ℕ × ℕ)) (ss : List StatementSpot) (at number : ℕ)
     (brackets : List OpenBracket) (zones : List ℕ) (w : Operation) (o : Operand) (rest : List OpData)
     → is_in_db o ≡ true
     → IsFine a lens ss (record {
@@ -176,9 +176,9 @@ passing_still f (p ∷ ps) =
     (passing_still f ps)
 
 pass_last : (found : Option ℕ) (ops : List OpData) (op : OpData)
-    → pass_before found (ops ++ op ∷ []) ≡ first_of (pass_index op.operand) (pass_before found ops)
+    → pass_before found (ops ++ op ∷ []) ≡ first_found (pass_index op.operand) (pass_before found ops)
 pass_last found [] op = refl
-pass_last found (x ∷ ops) op = pass_last (first_of (pass_index x.operand) found) ops op
+pass_last found (x ∷ ops) op = pass_last (first_found (pass_index x.operand) found) ops op
 
 -- the statement of a PASS is ended by its CALL
 ends_calls : (op : OpData) (ps : List Passing) (call : OpData) (rest : List OpData)
@@ -187,7 +187,7 @@ ends_calls op [] call rest going closed = rw going (ends_here call rest closed)
 ends_calls op (p ∷ ps) call rest going closed =
     rw going (ends_calls (preparing operation.Pass (operand.Pass p.index p.actual)) ps call rest refl closed)
 
-pass_fine : (a : Around) (lens : List (ℕ × ℕ)) (ss : List Spot) (at : ℕ)
+pass_fine : (a : Around) (lens : List (ℕ × ℕ)) (ss : List StatementSpot) (at : ℕ)
     (brackets : List OpenBracket) (zones : List ℕ) (before : List OpData) (p : Passing) (ps : List Passing)
     (block : BlockId) (instance : Option ℕ) (rest : List OpData)
     → is_above p.index (pass_before None before) ≡ true → is_bad_actual a p.actual ≡ false
@@ -230,13 +230,13 @@ pass_fine a lens ss at brackets zones before p ps block instance rest above bad 
         ap (λ (op : OpData). op.code == 0x78 && misfits_call a op.operand p.index p.actual) last
         ∙ misfits
 
-call_fine : (a : Around) (lens : List (ℕ × ℕ)) (ss : List Spot) (at : ℕ)
+call_fine : (a : Around) (lens : List (ℕ × ℕ)) (ss : List StatementSpot) (at : ℕ)
     (brackets : List OpenBracket) (zones : List ℕ) (before : List OpData) (how : CallOperation) (block : BlockId)
     (instance : Option ℕ) (rest : List OpData)
     → is_bad_call lens (callee a.blocks (kind_number block.kind) block.number)
     (instance_number instance) before ≡ false
     → FineBehind a lens ss rest
-    → AreFine a lens ss (placed at brackets zones before (call_op how block instance ∷ rest))
+    → AreFine a lens ss (ops_placed at brackets zones before (call_op how block instance ∷ rest))
 call_fine a lens ss at brackets zones before how block instance rest bad behind =
     last_fine a lens ss at brackets zones before (call_op how block instance) rest refl
     (record { operand = λ still. refl; call = seven_none _ bad; mark = by how }) behind
@@ -246,14 +246,14 @@ call_fine a lens ss at brackets zones before how block instance rest bad behind 
     by calls.Uc = refl
     by calls.Cc = refl
 
-calls_fine : (a : Around) (lens : List (ℕ × ℕ)) (ss : List Spot) (at : ℕ)
+calls_fine : (a : Around) (lens : List (ℕ × ℕ)) (ss : List StatementSpot) (at : ℕ)
     (brackets : List OpenBracket) (zones : List ℕ) (done : List OpData) (block : BlockId)
     (instance : Option ℕ) (left : List Passing) (rest : List OpData)
     → ArePassed a (callee a.blocks (kind_number block.kind) block.number) (pass_before None done) left
     → is_bad_call lens (callee a.blocks (kind_number block.kind) block.number)
     (instance_number instance) (done ++ passing left) ≡ false
     → FineBehind a lens ss rest
-    → AreFine a lens ss (placed at brackets zones done (passing left ++ call_op calls.Call block instance ∷ rest))
+    → AreFine a lens ss (ops_placed at brackets zones done (passing left ++ call_op calls.Call block instance ∷ rest))
 calls_fine a lens ss at brackets zones done block instance [] rest passed bad behind =
     call_fine a lens ss at brackets zones done calls.Call block instance rest
     (subst (λ (z : List OpData). is_bad_call lens (callee a.blocks (kind_number block.kind) block.number)
@@ -264,7 +264,7 @@ calls_fine a lens ss at brackets zones done block instance [] rest passed bad be
     append_nothing (op ∷ ops) = ap (λ (z : List OpData). op ∷ z) (append_nothing ops)
 calls_fine a lens ss at brackets zones done block instance (p ∷ ps) rest passed bad behind = (
   pass_fine a lens ss at brackets zones done p ps block instance rest passed.0 passed.1 passed.2,
-  calls_fine a lens ss (at + size op) (opened at op.code brackets) (zones_behind at op.code zones) (done ++ op ∷ []) block instance ps rest
+  calls_fine a lens ss (at + size op) (brackets_after at op.code brackets) (zones_behind_op at op.code zones) (done ++ op ∷ []) block instance ps rest
       (subst (λ (o : Option ℕ). ArePassed a (callee a.blocks (kind_number block.kind) block.number) o ps)
       (sym (pass_last None done op)) passed.3)
       (subst (λ (z : List OpData). is_bad_call lens (callee a.blocks (kind_number block.kind) block.number)
@@ -277,17 +277,17 @@ calls_fine a lens ss at brackets zones done block instance (p ∷ ps) rest passe
 
 -- ---- statements
 
-jump_fine : (a : Around) (lens : List (ℕ × ℕ)) (ss : List Spot) (at kind target : ℕ)
+jump_fine : (a : Around) (lens : List (ℕ × ℕ)) (ss : List StatementSpot) (at kind target : ℕ)
     (brackets : List OpenBracket) (zones : List ℕ) (rest : List OpData)
     → FineBehind a lens ss rest
-    → AreFine a lens ss (placed at brackets zones [] (ending operation.Jump (operand.Jump kind target) ∷ rest))
+    → AreFine a lens ss (ops_placed at brackets zones [] (ending operation.Jump (operand.Jump kind target) ∷ rest))
 jump_fine a lens ss at kind target brackets zones rest behind =
     last_fine a lens ss at brackets zones [] (ending operation.Jump (operand.Jump kind target)) rest refl
     (record { operand = λ still. absurd still; call = refl; mark = refl }) behind
 
-end_fine : (a : Around) (lens : List (ℕ × ℕ)) (ss : List Spot) (at : ℕ)
+end_fine : (a : Around) (lens : List (ℕ × ℕ)) (ss : List StatementSpot) (at : ℕ)
     (brackets : List OpenBracket) (zones : List ℕ) (how : EndOperation) (rest : List OpData) → FineBehind a lens ss rest
-    → AreFine a lens ss (placed at brackets zones [] (end_op how ∷ rest))
+    → AreFine a lens ss (ops_placed at brackets zones [] (end_op how ∷ rest))
 end_fine a lens ss at brackets zones how rest behind =
     last_fine a lens ss at brackets zones [] (end_op how) rest refl
     (record { operand = λ still. refl; call = refl; mark = by how }) behind
@@ -297,17 +297,17 @@ end_fine a lens ss at brackets zones how rest behind =
     by ends.Bec = refl
     by ends.Beu = refl
 
-instr_fine : (a : Around) (lens : List (ℕ × ℕ)) (ss : List Spot) (f : ℕ → ℕ) (at : ℕ)
+instr_fine : (a : Around) (lens : List (ℕ × ℕ)) (ss : List StatementSpot) (f : ℕ → ℕ) (at : ℕ)
     (brackets : List OpenBracket) (zones : List ℕ) (i : Instr) (rest : List OpData) → InstrFits a lens i
     → FineBehind a lens ss rest
-    → AreFine a lens ss (placed at brackets zones [] (map (aimed_op f) (ops_of i) ++ rest))
+    → AreFine a lens ss (ops_placed at brackets zones [] (map (aimed_op f) (ops_of i) ++ rest))
 unfolding ops_of
 instr_fine a lens ss f at brackets zones (Does None w o) rest h behind =
-    subst (λ (x : Operand). AreFine a lens ss (placed at brackets zones [] (ending w x ∷ rest)))
+    subst (λ (x : Operand). AreFine a lens ss (ops_placed at brackets zones [] (ending w x ∷ rest)))
     (sym (aimed_still f a (ending w o) o h.1))
     (does_fine a lens ss at brackets zones [] w o rest h.0 h.1 behind)
 instr_fine a lens ss f at brackets zones (Does (Some number) w o) rest h behind =
-    subst (λ (x : Operand). AreFine a lens ss (placed at brackets zones []
+    subst (λ (x : Operand). AreFine a lens ss (ops_placed at brackets zones []
     (preparing operation.UseDb (operand.UseDb number) ∷ ending w x ∷ rest)))
     (sym (aimed_still f a (ending w o) o h.1)) (
       use_db_fine a lens ss at number brackets zones w o rest h.2,
@@ -315,13 +315,13 @@ instr_fine a lens ss f at brackets zones (Does (Some number) w o) rest h behind 
           (preparing operation.UseDb (operand.UseDb number) ∷ []) w o rest h.0 h.1 behind,
     )
 instr_fine a lens ss f at brackets zones (Jumps how target) rest h behind =
-    jump_fine a lens ss at (kind_of how) (f target) brackets zones rest behind
+    jump_fine a lens ss at (jump_number how) (f target) brackets zones rest behind
 instr_fine a lens ss f at brackets zones (JumpsByList targets otherwise) rest h behind =
     jump_fine a lens ss at 1 (f otherwise) brackets zones rest behind
 instr_fine a lens ss f at brackets zones (Returns how) rest h behind =
     end_fine a lens ss at brackets zones how rest behind
 instr_fine a lens ss f at brackets zones (Calls calls.Call block instance ps) rest h behind =
-    subst (λ (z : List OpData). AreFine a lens ss (placed at brackets zones [] z)) (sym same)
+    subst (λ (z : List OpData). AreFine a lens ss (ops_placed at brackets zones [] z)) (sym same)
     (calls_fine a lens ss at brackets zones [] block instance ps rest h.1 h.2 behind)
   where
     call : OpData
@@ -343,18 +343,18 @@ instr_fine a lens ss f at brackets zones (Calls calls.Cc block instance (p ∷ p
 
 -- ---- a block
 
-statements_fine : (a : Around) (lens : List (ℕ × ℕ)) (ss : List Spot) (f : ℕ → ℕ)
+statements_fine : (a : Around) (lens : List (ℕ × ℕ)) (ss : List StatementSpot) (f : ℕ → ℕ)
     (statements : List Stated) → AllByRecursion (λ s. InstrFits a lens s.instr) statements
     → FineBehind a lens ss (map (aimed_op f) (ops_in statements))
 statements_fine a lens ss f [] h at brackets zones = tt
 statements_fine a lens ss f (s ∷ more) h at brackets zones =
-    subst (λ (z : List OpData). AreFine a lens ss (placed at brackets zones [] z))
+    subst (λ (z : List OpData). AreFine a lens ss (ops_placed at brackets zones [] z))
     (sym (map-append (aimed_op f) (ops_of s.instr) (ops_in more)))
     (instr_fine a lens ss f at brackets zones s.instr (map (aimed_op f) (ops_in more)) h.0
     (statements_fine a lens ss f more h.1))
 
-pub code_fine : (a : Around) (lens : List (ℕ × ℕ)) (ss : List Spot) (statements : List Stated)
+pub code_fine : (a : Around) (lens : List (ℕ × ℕ)) (ss : List StatementSpot) (statements : List Stated)
     → AllByRecursion (λ s. InstrFits a lens s.instr) statements
-    → AreFine a lens ss (placed 0 [] [] [] (placed_ops (ops_in statements)))
+    → AreFine a lens ss (ops_placed 0 [] [] [] (placed_ops (ops_in statements)))
 unfolding placed_ops
 code_fine a lens ss statements h = statements_fine a lens ss _ statements h 0 [] []

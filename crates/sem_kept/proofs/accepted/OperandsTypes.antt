@@ -9,7 +9,7 @@ use Rattle.stl_ast.specs.declared.blocks.PartKind.TheVariants as part
 use Rattle.stl_ast.specs.declared.declarations.Declaration.{Declaration}
 use Rattle.stl_ast.specs.declared.declarations.ElementType.{ElementType}
 use Rattle.stl_ast.specs.declared.declarations.ElementType.TheVariants as element
-use Rattle.plc_base.specs.Folding.{folded}
+use Rattle.plc_base.specs.Folding.{upper_case_name}
 use Rattle.block_layout.specs.Around.{Holder, Outside, around, of_structure}
 use Rattle.block_layout.specs.Cells.{breaks_rule, cell_of, cells_of, is_oversized, is_sound, laid, preset, udt_element, uses_oversized}
 use Rattle.block_layout.specs.Declarations.{has_upside_down, init_fits, is_unknown_type}
@@ -103,7 +103,7 @@ laid_same y a b element.DateAndTime h = refl
 -- the cell of a declaration by whether it is sound and what it is of
 abbrev cell_with : PartKind → Declaration → Bool → Element → Cell
 cell_with section d sound of = record {
-  name = folded d.name;
+  name = upper_case_name d.name;
   section = section;
   level = d.level;
   opens = false;

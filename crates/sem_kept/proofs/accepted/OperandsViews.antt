@@ -13,7 +13,7 @@ use Rattle.plc_base.specs.declared.places.Area.{Area}
 use Rattle.plc_base.specs.declared.places.Area.TheVariants as area
 use Rattle.plc_base.specs.declared.places.Width.{Width}
 use Rattle.plc_base.specs.declared.places.Width.TheVariants as width
-use Rattle.flat_code.specs.Blocks.{Around, is_bad_place, is_input as is_input_parameter, is_odd_bit, is_past_locals, lacks_own, own_parameter}
+use Rattle.flat_code.specs.Blocks.{Around, is_bad_place, is_in_parameter as is_input_parameter, is_odd_bit, is_past_locals, lacks_own, parameter_meant}
 use Rattle.flat_code.specs.Image.{record_of_param}
 use Rattle.flat_code.specs.declared.image_fields.ParameterRecord.{ParameterRecord}
 use Rattle.stl_ast.specs.Blocks.{is_parameter, may_have}
@@ -38,7 +38,7 @@ use Rattle.stl_ast.specs.declared.operands.PathHead.{PathHead}
 use Rattle.stl_ast.specs.declared.operands.PathHead.TheVariants as head
 use Rattle.stl_ast.specs.declared.statements.Actual.{Actual}
 use Rattle.stl_ast.specs.declared.statements.Statement.{Statement}
-use Rattle.plc_base.specs.Folding.{folded}
+use Rattle.plc_base.specs.Folding.{upper_case_name}
 use Rattle.stl_symbols.specs.Symbol.{Symbol, has_symbols, symbol_named}
 use Rattle.stl_symbols.specs.declared.targets.Target.{Target}
 use Rattle.stl_symbols.specs.declared.targets.Target.TheVariants as target
@@ -302,7 +302,7 @@ section_is_input part.Static e = absurd cc
 section_is_input part.Temp e = absurd cc
 
 own_there : (a : Around) (index : ℕ) (q : ParameterRecord) → a.kind ≡ 2
-    → slice_get a.params index ≡ Some q → own_parameter a index ≡ Some q
+    → slice_get a.params index ≡ Some q → parameter_meant a index ≡ Some q
 own_there a index q is there =
     ap (λ (t : Bool). if t then slice_get a.params index else None) (eq-eqb a.kind 2 is) ∙ there
 
@@ -529,7 +529,7 @@ module _ (symbols : List Symbol) (t : Tree) (tree : IsSoundTree symbols t) (k : 
           cell : IsParameterCell c
           cell = all_there IsParameterCell (cells_at (layouts_of t symbols) k false) s.place c parameters there
 
-          given : own_parameter a index ≡ Some (record_of_param (param (section_number c.section) (width_of kind) 0))
+          given : parameter_meant a index ≡ Some (record_of_param (param (section_number c.section) (width_of kind) 0))
           given =
               own_there a index (record_of_param (param (section_number c.section) (width_of kind) 0))
               (around.kind ∙ ap kind_number is)
@@ -986,7 +986,7 @@ module _ (symbols : List Symbol) (t : Tree) (tree : IsSoundTree symbols t)
       → leaves_path (types_of symbols t.blocks) (layouts_of t symbols) k p steps ≡ false
       → IsSeen a (path_seen (context_at symbols t k) p steps)
   path_fits (head.Local name) steps known there inside =
-      own_seen symbols t tree k b l block code a around (folded name) (folded_path steps) known inside
+      own_seen symbols t tree k b l block code a around (upper_case_name name) (folded_path steps) known inside
   path_fits (head.InBlock name) steps known there inside =
       data_seen symbols t tree k a name (folded_path steps) there known inside
   path_fits (head.Symbol name) steps known there inside =

@@ -28,9 +28,9 @@ use Rattle.block_layout.specs.Rule44.{is_beyond}
 use Rattle.block_layout.specs.Types.{Types}
 use Rattle.block_layout.specs.declared.blocks.BlockLayout.{BlockLayout}
 use Rattle.flat_code.specs.Checking.{all_good}
-use Rattle.flat_code.specs.Codes.{are_ops, code_bytes, code_fault, code_of, is_nowhere, only, stop_at}
-use Rattle.flat_code.specs.Faults.{fault_of, has_number}
-use Rattle.flat_code.specs.Image.{block_number, code_and_lines, code_block as block_layout_of, end_marks, head, instance_bytes, kind_field, line_after, line_field, lines_of as lines_layout, local_bytes, parameter_count, parameters, parameter, plain_block, plain_u16, plain_u32, block_rows, head_of_block, head_rows, record_of_block, record_of_param, same_state}
+use Rattle.flat_code.specs.Codes.{are_ops, code_bytes, code_fault, code_layout, is_nowhere, only, stop_at}
+use Rattle.flat_code.specs.Faults.{field_fault, has_number}
+use Rattle.flat_code.specs.Image.{block_number_layout, code_and_lines, code_block_layout as block_layout_of, end_marks, head_layout, instance_bytes, kind_field, line_after, line_field, lines_layout, local_length_layout, parameter_count_layout, parameters, parameter_layout, plain_block, plain_u16, plain_u32, block_rows, head_of_block, head_rows, record_of_block, record_of_param, same_state}
 use Rattle.flat_code.specs.Instr.{Instr, Passing, Does, Jumps, JumpsByList, Calls, Returns}
 use Rattle.flat_code.specs.Layout.{Layout, good_many, is_fine}
 use Rattle.flat_code.specs.Ops.{OpData}
@@ -275,7 +275,7 @@ lines_stated last c b h =
     (stated_rise last 1 c b.body 0 b.body (b.end_line ∷ []) h)
 
 line_good : (judged : Bool) (before line : ℕ) → line < 4294967296 → 1 ≤ line → before ≤ line → (line_field judged before).good line ≡ true
-unfolding line_field fault_of
+unfolding line_field field_fault
 line_good true before line near some low = grind (arith, nat_tests)
 line_good false before line near some low = grind (arith, nat_tests)
 
@@ -353,24 +353,24 @@ fields_of last symbols t rise k b l id h named code =
 
 -- the fields one by one
 kind_good : (before kind : ℕ) → 1 ≤ kind → kind ≤ 3 → before ≤ kind → (kind_field before).good kind ≡ true
-unfolding kind_field fault_of
+unfolding kind_field field_fault
 kind_good before kind low high rises = grind (arith, nat_tests)
 
-count_good : (kind n : ℕ) → n ≤ 60 → (not (eqb kind 1) || eqb n 0) ≡ true → (parameter_count kind).good n ≡ true
-unfolding parameter_count fault_of
+count_good : (kind n : ℕ) → n ≤ 60 → (not (eqb kind 1) || eqb n 0) ≡ true → (parameter_count_layout kind).good n ≡ true
+unfolding parameter_count_layout field_fault
 count_good kind n few none = grind (arith, nat_tests)
 
 number_good : (kind_before before kind number : ℕ) → number < 65536 → has_number kind number ≡ true → (not (eqb kind kind_before) || ltb before number) ≡ true
-    → (block_number kind_before before kind).good number ≡ true
-unfolding block_number fault_of
+    → (block_number_layout kind_before before kind).good number ≡ true
+unfolding block_number_layout field_fault
 number_good kind_before before kind number near there rises = and_from _ _ (lt-ltb number 65536 near) (rw there (rw rises refl))
 
-local_good : (kind n : ℕ) → n ≤ 1024 → (not (eqb kind 1) || leb 20 n) ≡ true → (local_bytes kind).good n ≡ true
-unfolding local_bytes fault_of
+local_good : (kind n : ℕ) → n ≤ 1024 → (not (eqb kind 1) || leb 20 n) ≡ true → (local_length_layout kind).good n ≡ true
+unfolding local_length_layout field_fault
 local_good kind n few start = grind (arith, nat_tests)
 
 instance_good : (kind n : ℕ) → n < 65536 → (if eqb kind 3 then leb n 16384 else eqb n 0) ≡ true → (instance_bytes kind).good n ≡ true
-unfolding instance_bytes fault_of
+unfolding instance_bytes field_fault
 instance_good kind n near h = and_from _ _ (lt-ltb n 65536 near) (rw h refl)
 
 word_good : (n : ℕ) → n < 65536 → plain_u16.good n ≡ true
@@ -411,8 +411,8 @@ instance_near kind n h = grind (arith, nat_tests)
 
 head_good : (last : ℕ) (before : ℕ × ℕ) (b : CodeBlock) → HasFields last b → HasCode b → before.0 ≤ kind_number b.id.kind
     → (not (eqb (kind_number b.id.kind) before.0) || ltb before.1 b.id.number) ≡ true
-    → (head before).good (head_of_block (record_of_block b)) ≡ true
-unfolding head head_rows
+    → (head_layout before).good (head_of_block (record_of_block b)) ≡ true
+unfolding head_layout head_rows
 head_good last before b h c low rises =
     let kind = kind_within b.id.kind h.code in
     let number = number_there b.id.kind b.id.number h.code h.number in
@@ -476,13 +476,13 @@ nothing_stops : (judged : Bool) (ops : List OpData) → code_fault ops ≡ None 
 nothing_stops true ops h = h
 nothing_stops false ops h = refl
 
-code_good : (judged : Bool) (ops : List OpData) → are_ops ops ≡ true → code_fault ops ≡ None → (code_of judged (length (code_bytes ops))).good ops ≡ true
-unfolding code_of
+code_good : (judged : Bool) (ops : List OpData) → are_ops ops ≡ true → code_fault ops ≡ None → (code_layout judged (length (code_bytes ops))).good ops ≡ true
+unfolding code_layout
 code_good judged ops h ends =
     and_from _ _ (and_from _ _ h (ap is_nowhere (nothing_stops judged ops ends))) (eq-eqb (length (code_bytes ops)) (length (code_bytes ops)) refl)
 
-marks_good : (judged : Bool) (marks count : ℕ) → marks ≡ count → is_fine (only judged (fault_of (field.StatementCount marks count))) ≡ true
-unfolding fault_of
+marks_good : (judged : Bool) (marks count : ℕ) → marks ≡ count → is_fine (only judged (field_fault (field.StatementCount marks count))) ≡ true
+unfolding field_fault
 marks_good true marks count same = let e = eq-eqb marks count same in rw e refl
 marks_good false marks count same = refl
 
@@ -492,7 +492,7 @@ block_good : (last : ℕ) (judged : Bool) (before : ℕ × ℕ) (b : CodeBlock) 
 unfolding block_layout_of plain_block block_rows code_and_lines parameters lines_layout
 block_good last judged before b near h c marks low rises =
     and_from _ _ (head_good last before b h c low rises)
-    (and_from _ _ (counted (λ s. parameter (kind_number b.id.kind) b.instance_len) same_state 0 (map record_of_param b.params) ∙ h.params.good)
+    (and_from _ _ (counted (λ s. parameter_layout (kind_number b.id.kind) b.instance_len) same_state 0 (map record_of_param b.params) ∙ h.params.good)
     (and_from _ _ (code_good judged b.code c.ops c.ends)
     (and_from _ _ (marks_good judged (end_marks b.code) (length b.lines) marks)
     (counted (line_field judged) line_after 0 b.lines ∙ lines_good judged last 0 1 b.lines near (omega arith) (omega arith) h.lines))))

@@ -29,8 +29,8 @@ use Rattle.block_layout.specs.declared.blocks.BlockLayout.{BlockLayout}
 use Rattle.block_layout.specs.declared.blocks.Shape.{Shape}
 use Rattle.block_layout.specs.declared.blocks.Shape.TheVariants as shape
 use Rattle.flat_code.specs.Checking.{good_datas}
-use Rattle.flat_code.specs.Faults.{fault_of}
-use Rattle.flat_code.specs.Image.{after_data, bytes_fit, data_block as data_layout, data_len, data_number, instance_field, number_of_instance, data_rows}
+use Rattle.flat_code.specs.Faults.{field_fault}
+use Rattle.flat_code.specs.Image.{after_data, bytes_fit, data_block_layout as data_layout, data_length_layout, data_number_layout, instance_field, number_of_instance, data_rows}
 use Rattle.flat_code.specs.Programs.{DataBlock}
 use Rattle.flat_code.proofs.CheckLemmas.{contents_good, zero_word_good}
 use Rattle.stl_codegen.specs.Generated.{data_block, data_block_of, data_blocks_of, each_block, function_block_number, instance_in}
@@ -295,16 +295,16 @@ total_right symbols t h =
 
 -- ---- their records
 
-number_good : (before n : ℕ) → 1 ≤ n → n ≤ 2047 → before < n → (data_number before).good n ≡ true
-unfolding data_number fault_of
+number_good : (before n : ℕ) → 1 ≤ n → n ≤ 2047 → before < n → (data_number_layout before).good n ≡ true
+unfolding data_number_layout field_fault
 number_good before n low high rises = grind (arith, nat_tests)
 
 instance_good : (n : ℕ) → n ≤ 2048 → instance_field.good n ≡ true
-unfolding instance_field fault_of
+unfolding instance_field field_fault
 instance_good n most = grind (arith, nat_tests)
 
-len_good : (before n : ℕ) → n ≤ 16384 → before + n ≤ 2097152 → (data_len before).good n ≡ true
-unfolding data_len fault_of
+len_good : (before n : ℕ) → n ≤ 16384 → before + n ≤ 2097152 → (data_length_layout before).good n ≡ true
+unfolding data_length_layout field_fault
 len_good before n short most = grind (arith, nat_tests)
 
 data_good : (before : ℕ × ℕ) (d : DataBlock) → IsData d → before.0 < d.number → before.1 + length d.bytes ≤ 2097152 → (data_layout before).good d ≡ true

@@ -15,12 +15,12 @@ use Rattle.plc_base.specs.declared.places.Place.{Place}
 use Rattle.plc_base.specs.declared.places.Width.{Width}
 use Rattle.plc_base.specs.declared.places.Width.TheVariants as width
 use Rattle.flat_code.specs.Checking.{good_names}
-use Rattle.flat_code.specs.Faults.{is_before, is_upper, ends_blank, lies_within, fault_of, name_fault}
+use Rattle.flat_code.specs.Faults.{is_earlier_name, is_upper, ends_blank, is_in_range, field_fault, name_fault}
 use Rattle.flat_code.specs.Image.{bytes_fit, name_record, name_rows, name_len, name_area, name_bit, width_field, plain_u16, name_of_entry, number_of_area, after_name}
 use Rattle.flat_code.specs.Layout.{is_fine}
 use Rattle.flat_code.specs.Programs.{NameEntry}
 use Rattle.flat_code.proofs.CheckLemmas.{text_good}
-use Rattle.plc_base.specs.Folding.{folded, is_same_name}
+use Rattle.plc_base.specs.Folding.{upper_case_name, is_same_name}
 use Rattle.stl_symbols.specs.Laws.{AreApart as AreOther, Passes}
 use Rattle.stl_symbols.specs.Symbol.{IsFirstBit, IsSymbol, IsTarget as IsAddressed, Symbol}
 use Rattle.plc_base.specs.Texts.{is_blank}
@@ -134,21 +134,21 @@ record IsEntry (e : NameEntry) : Type 0 where
   named : has_name e.place.area ≡ true
   place : IsPlaced e.place e.width
 
-upper_fits : (name : List ℕ) → OfBytes name → bytes_fit (folded name) ≡ true
+upper_fits : (name : List ℕ) → OfBytes name → bytes_fit (upper_case_name name) ≡ true
 upper_fits [] h = refl
 upper_fits (b ∷ bs) h = and_from _ _ (here b h.0) (upper_fits bs h.1)
   where
     here : (b : ℕ) → b < 256 → ltb (to_ascii_uppercase b) 256 ≡ true
     here b low = grind (arith, nat_tests)
 
-upper_is : (name : List ℕ) → is_upper (folded name) ≡ true
+upper_is : (name : List ℕ) → is_upper (upper_case_name name) ≡ true
 upper_is [] = refl
 upper_is (b ∷ bs) = and_from _ _ (here b) (upper_is bs)
   where
-    here : (b : ℕ) → not (lies_within 97 122 (to_ascii_uppercase b)) ≡ true
+    here : (b : ℕ) → not (is_in_range 97 122 (to_ascii_uppercase b)) ≡ true
     here b = grind (arith, nat_tests)
 
-upper_ends : (name : List ℕ) → ends_blank (folded name) ≡ ends_blank name
+upper_ends : (name : List ℕ) → ends_blank (upper_case_name name) ≡ ends_blank name
 upper_ends [] = refl
 upper_ends (b ∷ []) = here b
   where
@@ -163,7 +163,7 @@ entry_of s h = by s.target h.place
     by (target.Variable place w) at = here (has_name place.area) refl
       where
         here : (b : Bool) → has_name place.area ≡ b
-            → AllByRecursion IsEntry (if b then record { name = folded s.name; place = place; width = w } ∷ [] else [])
+            → AllByRecursion IsEntry (if b then record { name = upper_case_name s.name; place = place; width = w } ∷ [] else [])
         here true e = (
           record {
             some = subst (λ (n : ℕ). 1 ≤ n) (sym (length-map s.name to_ascii_uppercase)) h.some;
@@ -191,34 +191,34 @@ entries_of (s ∷ symbols) h =
 -- ---- their order
 
 -- of two names neither comes first only where they are the same
-alike : (a b : List ℕ) → is_before a b ≡ false → is_before b a ≡ false → a ≡ b
+alike : (a b : List ℕ) → is_earlier_name a b ≡ false → is_earlier_name b a ≡ false → a ≡ b
 alike [] [] h k = refl
 alike [] (y ∷ ys) h k = absurd cc
 alike (x ∷ xs) [] h k = absurd cc
 alike (x ∷ xs) (y ∷ ys) h k =
     let same : x ≡ y = grind (arith, nat_tests) in
-    let less : is_before xs ys ≡ false = behind x y (is_before xs ys) same h in
-    let more : is_before ys xs ≡ false = behind y x (is_before ys xs) (sym same) k in
+    let less : is_earlier_name xs ys ≡ false = behind x y (is_earlier_name xs ys) same h in
+    let more : is_earlier_name ys xs ≡ false = behind y x (is_earlier_name ys xs) (sym same) k in
     let rest : xs ≡ ys = alike xs ys less more in cc
   where
     behind : (x y : ℕ) (t : Bool) → x ≡ y → (ltb x y || eqb x y && t) ≡ false → t ≡ false
     behind x y t same h = grind (arith, nat_tests)
 
-apart_names : (a b : List ℕ) → bytes_eq b a ≡ false → (is_before a b || is_before b a) ≡ true
-apart_names a b other = by (is_before a b) (is_before b a) refl refl
+apart_names : (a b : List ℕ) → bytes_eq b a ≡ false → (is_earlier_name a b || is_earlier_name b a) ≡ true
+apart_names a b other = by (is_earlier_name a b) (is_earlier_name b a) refl refl
   where
-    by : (p q : Bool) → is_before a b ≡ p → is_before b a ≡ q → (p || q) ≡ true
+    by : (p q : Bool) → is_earlier_name a b ≡ p → is_earlier_name b a ≡ q → (p || q) ≡ true
     by true q e f = refl
     by false true e f = refl
     by false false e f =
         let same : bytes_eq b a ≡ true = (bytes_eq-Decides b a).1 (sym (alike a b e f)) in absurd cc
 
 -- an entry with the name of its symbol
-named_so : (name : List ℕ) (t : Target) → AllByRecursion (λ (e : NameEntry). e.name ≡ folded name) (name_entry name t)
+named_so : (name : List ℕ) (t : Target) → AllByRecursion (λ (e : NameEntry). e.name ≡ upper_case_name name) (name_entry name t)
 named_so name (target.Variable place w) = by (has_name place.area)
   where
-    by : (b : Bool) → AllByRecursion (λ (e : NameEntry). e.name ≡ folded name)
-        (if b then record { name = folded name; place = place; width = w } ∷ [] else [])
+    by : (b : Bool) → AllByRecursion (λ (e : NameEntry). e.name ≡ upper_case_name name)
+        (if b then record { name = upper_case_name name; place = place; width = w } ∷ [] else [])
     by true = (refl, tt)
     by false = tt
 named_so name (target.Timer n) = tt
@@ -228,16 +228,16 @@ named_so name (target.Block id) = tt
 entries : List Symbol → List NameEntry
 entries symbols = flat_map (λ s. name_entry s.name s.target) symbols
 
-differ_all : (name : List ℕ) (e : NameEntry) (es : List NameEntry) (other : List ℕ) → e.name ≡ folded name
-    → is_same_name other name ≡ false → AllByRecursion (λ (x : NameEntry). x.name ≡ folded other) es
+differ_all : (name : List ℕ) (e : NameEntry) (es : List NameEntry) (other : List ℕ) → e.name ≡ upper_case_name name
+    → is_same_name other name ≡ false → AllByRecursion (λ (x : NameEntry). x.name ≡ upper_case_name other) es
     → AllByRecursion (Differ is_name_before e) es
 differ_all name e [] other h k l = tt
 differ_all name e (x ∷ es) other h k l = (
-  apart_names e.name x.name (ap (λ (z : List ℕ). bytes_eq z e.name) l.0 ∙ ap (bytes_eq (folded other)) h ∙ k),
+  apart_names e.name x.name (ap (λ (z : List ℕ). bytes_eq z e.name) l.0 ∙ ap (bytes_eq (upper_case_name other)) h ∙ k),
   differ_all name e es other h k l.1,
 )
 
-differ_rest : (name : List ℕ) (e : NameEntry) (symbols : List Symbol) → e.name ≡ folded name
+differ_rest : (name : List ℕ) (e : NameEntry) (symbols : List Symbol) → e.name ≡ upper_case_name name
     → AllByRecursion (λ (y : Symbol). is_same_name y.name name ≡ false) symbols
     → AllByRecursion (Differ is_name_before e) (entries symbols)
 unfolding entries
@@ -257,8 +257,8 @@ entries_apart (s ∷ symbols) h = by s.target (entries_apart symbols h.1)
     by (target.Variable place w) more = here (has_name place.area)
       where
         here : (b : Bool) → AreApart is_name_before
-            ((if b then record { name = folded s.name; place = place; width = w } ∷ [] else []) ++ entries symbols)
-        here true = (differ_rest s.name (record { name = folded s.name; place = place; width = w }) symbols refl h.0, more)
+            ((if b then record { name = upper_case_name s.name; place = place; width = w } ∷ [] else []) ++ entries symbols)
+        here true = (differ_rest s.name (record { name = upper_case_name s.name; place = place; width = w }) symbols refl h.0, more)
         here false = more
     by (target.Timer n) more = more
     by (target.Counter n) more = more
@@ -267,11 +267,11 @@ entries_apart (s ∷ symbols) h = by s.target (entries_apart symbols h.1)
 -- ---- the fields of a record
 
 len_good : (n : ℕ) → 1 ≤ n → n ≤ 24 → name_len.good n ≡ true
-unfolding name_len fault_of
+unfolding name_len field_fault
 len_good n some few = grind (arith, nat_tests)
 
 area_good : (number : ℕ) (a : Area) → number ≡ 0 → has_name a ≡ true → name_area.good (number_of_area number a) ≡ true
-unfolding name_area fault_of
+unfolding name_area field_fault
 area_good zero area.I none h = refl
 area_good zero area.Q none h = refl
 area_good zero area.M none h = refl
@@ -282,7 +282,7 @@ area_good zero area.L none h = absurd cc
 area_good (suc n) a none h = absurd (omega (arith, none))
 
 pub width_good : (w : Width) → width_field.good (width_number w) ≡ true
-unfolding width_field fault_of
+unfolding width_field field_fault
 width_good width.Bit = refl
 width_good width.Byte = refl
 width_good width.Word = refl
@@ -293,7 +293,7 @@ unfolding plain_u16
 word_good n low = and_from _ _ (lt-ltb n 65536 low) refl
 
 bit_good : (w n : ℕ) → n ≤ 7 → (eqb w 1 || eqb n 0) ≡ true → (name_bit w).good n ≡ true
-unfolding name_bit fault_of
+unfolding name_bit field_fault
 bit_good w n few whole = grind (arith, nat_tests)
 
 fine : (a b c : Bool) → a ≡ true → b ≡ true → c ≡ false → (a && b && not c) ≡ true
@@ -302,12 +302,12 @@ fine true true true h k l = absurd cc
 fine true false c h k l = absurd cc
 fine false b c h k l = absurd cc
 
-text_right : (before : List ℕ) (e : NameEntry) → IsEntry e → is_before before e.name ≡ true
+text_right : (before : List ℕ) (e : NameEntry) → IsEntry e → is_earlier_name before e.name ≡ true
     → is_fine (name_fault before e.name) ≡ true
 unfolding name_fault
-text_right before e h rises = rw (fine (is_before before e.name) (is_upper e.name) (ends_blank e.name) rises h.upper h.ends) refl
+text_right before e h rises = rw (fine (is_earlier_name before e.name) (is_upper e.name) (ends_blank e.name) rises h.upper h.ends) refl
 
-entry_good : (before : List ℕ) (e : NameEntry) → IsEntry e → is_before before e.name ≡ true
+entry_good : (before : List ℕ) (e : NameEntry) → IsEntry e → is_earlier_name before e.name ≡ true
     → (name_record before).good (name_of_entry e) ≡ true
 unfolding name_record name_rows
 entry_good before e h rises =
@@ -317,7 +317,7 @@ entry_good before e h rises =
     (and_from _ _ (width_good e.width)
     (and_from _ _ (word_good e.place.byte h.place.byte) (bit_good (width_number e.width) e.place.bit h.place.bit h.place.whole)))))
 
-first_name : (name : List ℕ) → 1 ≤ length name → is_before [] name ≡ true
+first_name : (name : List ℕ) → 1 ≤ length name → is_earlier_name [] name ≡ true
 first_name [] some = absurd (omega (arith, some))
 first_name (b ∷ bs) some = refl
 

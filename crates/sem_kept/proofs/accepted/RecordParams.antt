@@ -30,8 +30,8 @@ use Rattle.stl_ast.specs.declared.declarations.ElementType.{ElementType}
 use Rattle.stl_ast.specs.declared.declarations.ElementType.TheVariants as type
 use Rattle.stl_ast.specs.declared.declarations.Simple.{Simple}
 use Rattle.stl_ast.specs.declared.declarations.Simple.TheVariants as simple
-use Rattle.plc_base.specs.Folding.{folded}
-use Rattle.plc_base.specs.Gathered.{gathered}
+use Rattle.plc_base.specs.Folding.{upper_case_name}
+use Rattle.plc_base.specs.Gathered.{refusals_along}
 use Rattle.plc_base.specs.Least.{broken_if}
 use Rattle.plc_base.proofs.ListLemmas.{all_front, all_back, all_append}
 use Rattle.stl_symbols.specs.Names.{place_of}
@@ -56,8 +56,8 @@ use Rattle.block_layout.specs.declared.cells.Element.TheVariants as element
 use Rattle.block_layout.specs.Sizes.{largest}
 use Rattle.block_layout.specs.declared.members.Member.{Member}
 use Rattle.flat_code.specs.Checking.{good_params}
-use Rattle.flat_code.specs.Faults.{fault_of}
-use Rattle.flat_code.specs.Image.{parameter, parameter_bit, parameter_byte, parameter_rows, record_of_param, section_field}
+use Rattle.flat_code.specs.Faults.{field_fault}
+use Rattle.flat_code.specs.Image.{parameter_layout, parameter_bit, parameter_byte, parameter_rows, record_of_param, section_field}
 use Rattle.flat_code.specs.declared.programs.Param.{Param}
 use Rattle.flat_code.proofs.CheckLemmas.{zero_byte_good}
 use Rattle.stl_codegen.specs.Generated.{instance_len, offset_named, param_here, param_of, params_of, section_number}
@@ -72,11 +72,11 @@ AllBefore P before [] = Unit {0}
 AllBefore P before (d ∷ ds) = P before d × AllBefore P (d ∷ before) ds
 
 before_none : (breaks : List Declaration → Declaration → Bool) (rule : ℕ) (before ds : List Declaration)
-    → gathered (λ d. false) (λ before d. broken_if (breaks before d) d.line rule) (λ before d. d ∷ before) before ds ≡ []
+    → refusals_along (λ d. false) (λ before d. broken_if (breaks before d) d.line rule) (λ before d. d ∷ before) before ds ≡ []
     → AllBefore (λ before d. breaks before d ≡ false) before ds
 before_none breaks rule before [] e = tt
 before_none breaks rule before (d ∷ ds) e =
-    let more : List Refusal = gathered (λ d. false) (λ before d. broken_if (breaks before d) d.line rule) (λ before d. d ∷ before) (d ∷ before) ds in (
+    let more : List Refusal = refusals_along (λ d. false) (λ before d. broken_if (breaks before d) d.line rule) (λ before d. d ∷ before) (d ∷ before) ds in (
       not_broken (breaks before d) d.line rule (none_left (broken_if (breaks before d) d.line rule) more e),
       before_none breaks rule (d ∷ before) ds (none_right (broken_if (breaks before d) d.line rule) more e),
     )
@@ -170,22 +170,22 @@ abbrev pub Covers : List (List ℕ) → List Declaration → List (List ℕ) →
 Covers outer before seen = (n : List ℕ) → NotIn n (names_before outer 0 before) → NotIn n seen
 
 covers_more : (outer : List (List ℕ)) (before : List Declaration) (seen : List (List ℕ)) (d : Declaration) (c : Cell)
-    → c.name ≡ folded d.name → c.level ≡ d.level → Covers outer before seen → Covers outer (d ∷ before) (seen_by seen c)
+    → c.name ≡ upper_case_name d.name → c.level ≡ d.level → Covers outer before seen → Covers outer (d ∷ before) (seen_by seen c)
 covers_more outer before seen d c name level h n all =
     rw level (by (nat_eq d.level 0) (all_back (λ m. bytes_eq n m ≡ false) (names_before outer 0 before) (name_here 0 d) out))
   where
     out : NotIn n (names_before outer 0 before ++ name_here 0 d)
     out = subst (NotIn n) (names_step outer d before) all
 
-    by : (t : Bool) → NotIn n (if t then folded d.name ∷ [] else []) → NotIn n (if t then c.name ∷ seen else seen)
+    by : (t : Bool) → NotIn n (if t then upper_case_name d.name ∷ [] else []) → NotIn n (if t then c.name ∷ seen else seen)
     by true k = (ap (bytes_eq n) name ∙ k.0, h n (all_front (λ m. bytes_eq n m ≡ false) (names_before outer 0 before) (name_here 0 d) out))
     by false k = h n (all_front (λ m. bytes_eq n m ≡ false) (names_before outer 0 before) (name_here 0 d) out)
 
 name_new : (o : Outside) (before : List Declaration) (d : Declaration) → is_twice o before d ≡ false → nat_eq d.level 0 ≡ true
-    → NotIn (folded d.name) (names_before o.names 0 before)
+    → NotIn (upper_case_name d.name) (names_before o.names 0 before)
 name_new o before d h zero_level =
     let outer : d.level ≡ 0 = eqb-true d.level 0 zero_level in
-    subst (λ (n : ℕ). NotIn (folded d.name) (names_before o.names n before)) outer (not_in (folded d.name) (names_before o.names d.level before) h)
+    subst (λ (n : ℕ). NotIn (upper_case_name d.name) (names_before o.names n before)) outer (not_in (upper_case_name d.name) (names_before o.names d.level before) h)
 
 cells_once : (y : Types) (o : Outside) (section : PartKind) (before ds : List Declaration) (seen : List (List ℕ)) → Covers o.names before seen
     → AllBefore (IsNew o) before ds → AreOnce seen (cells_of y o section before ds)
@@ -193,7 +193,7 @@ unfolding cell_of
 cells_once y o section before [] seen covers h = tt
 cells_once y o section before (d ∷ ds) seen covers h =
     let c : Cell = cell_of y o section before d in (
-      λ outer. covers (folded d.name) (name_new o before d h.0.0 outer),
+      λ outer. covers (upper_case_name d.name) (name_new o before d h.0.0 outer),
       cells_once y o section (d ∷ before) ds (seen_by seen c) (covers_more o.names before seen d c refl refl covers) h.1,
     )
 
@@ -598,24 +598,24 @@ record IsGood (kind instance : ℕ) (p : Param) : Type 0 where
   whole : (eqb kind 3 || eqb p.bit 0) ≡ true
 
 section_good : (n : ℕ) → 1 ≤ n → n ≤ 3 → section_field.good n ≡ true
-unfolding section_field fault_of
+unfolding section_field field_fault
 section_good n low high = grind (arith, nat_tests)
 
 byte_good : (kind instance : ℕ) (w : Width) (byte : ℕ) → byte < 65536
     → (if eqb kind 3 then leb (byte + byte_count w) instance else eqb byte 0) ≡ true
     → (parameter_byte kind instance (width_number w)).good byte ≡ true
-unfolding parameter_byte fault_of
+unfolding parameter_byte field_fault
 byte_good kind instance width.Bit byte near h = and_from _ _ (lt-ltb byte 65536 near) (rw h refl)
 byte_good kind instance width.Byte byte near h = and_from _ _ (lt-ltb byte 65536 near) (rw h refl)
 byte_good kind instance width.Word byte near h = and_from _ _ (lt-ltb byte 65536 near) (rw h refl)
 byte_good kind instance width.Dword byte near h = and_from _ _ (lt-ltb byte 65536 near) (rw h refl)
 
 bit_good : (kind bit : ℕ) → bit ≤ 7 → (eqb kind 3 || eqb bit 0) ≡ true → (parameter_bit kind).good bit ≡ true
-unfolding parameter_bit fault_of
+unfolding parameter_bit field_fault
 bit_good kind bit few whole = grind (arith, nat_tests)
 
-param_good : (kind instance : ℕ) (p : Param) → IsGood kind instance p → (parameter kind instance).good (record_of_param p) ≡ true
-unfolding parameter parameter_rows
+param_good : (kind instance : ℕ) (p : Param) → IsGood kind instance p → (parameter_layout kind instance).good (record_of_param p) ≡ true
+unfolding parameter_layout parameter_rows
 param_good kind instance p h =
     and_from _ _ (section_good p.section h.low h.high)
     (and_from _ _ (width_good p.width)

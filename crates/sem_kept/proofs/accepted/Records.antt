@@ -7,8 +7,8 @@ use Rattle.std.proofs.lemmas.Bool.Decides.{nat_tests}
 use Rattle.std.proofs.lemmas.List.{length-map}
 use Rattle.plc_base.specs.Kinds.{kind_number}
 use Rattle.flat_code.specs.Checking.{all_good, good_counts, good_datas, good_names}
-use Rattle.flat_code.specs.Faults.{fault_of}
-use Rattle.flat_code.specs.Image.{after_block, after_data, after_name, body, body_rows, code_block, code_blocks, count_rows, counts, data_block, data_blocks, data_count, name_of_entry, name_record, names, plain_u16, record_of_block, records, zero_u16}
+use Rattle.flat_code.specs.Faults.{field_fault}
+use Rattle.flat_code.specs.Image.{after_block, after_data, after_name, body, body_rows, code_block_layout, code_blocks, count_rows, counts_layout, data_block_layout, data_blocks_layout, data_count, name_of_entry, name_record, names, plain_u16, record_of_block, records, zero_u16}
 use Rattle.flat_code.specs.Programs.{Program}
 use Rattle.stl_ast.specs.declared.blocks.Tree.{Tree}
 use Rattle.stl_parser.specs.Lines.{Rises, lines_of, LinesRise}
@@ -30,19 +30,19 @@ use Rattle.sem_kept.proofs.accepted.RecordOrder.{good_all}
 
 -- ---- a program of right records
 
-counts_good : (codes datas names : ℕ) → good_counts codes datas names ≡ true → counts.good (record { code_blocks = codes; data_blocks = datas; names = names; reserved = 0 }) ≡ true
-unfolding counts count_rows plain_u16 data_count zero_u16 fault_of
+counts_good : (codes datas names : ℕ) → good_counts codes datas names ≡ true → counts_layout.good (record { code_blocks = codes; data_blocks = datas; names = names; reserved = 0 }) ≡ true
+unfolding counts_layout count_rows plain_u16 data_count zero_u16 field_fault
 counts_good codes datas names h = grind (arith, nat_tests)
 
 body_good : (judged : Bool) (p : Program) → HasCounts p
-    → all_good (code_block judged) after_block (0, 0) (map record_of_block p.code_blocks) ≡ true
+    → all_good (code_block_layout judged) after_block (0, 0) (map record_of_block p.code_blocks) ≡ true
     → good_datas (0, 0) p.data_blocks ≡ true → good_names [] p.names ≡ true → (body judged).good p ≡ true
-unfolding body records body_rows code_blocks data_blocks names
+unfolding body records body_rows code_blocks data_blocks_layout names
 body_good judged p enough blocks datas entries =
     and_from _ _
     (rw (length-map p.code_blocks record_of_block, length-map p.names name_of_entry) (counts_good (length p.code_blocks) (length p.data_blocks) (length p.names) enough))
-    (and_from _ _ (counted (code_block judged) after_block (0, 0) (map record_of_block p.code_blocks) ∙ blocks)
-    (and_from _ _ (counted data_block after_data (0, 0) p.data_blocks ∙ datas)
+    (and_from _ _ (counted (code_block_layout judged) after_block (0, 0) (map record_of_block p.code_blocks) ∙ blocks)
+    (and_from _ _ (counted data_block_layout after_data (0, 0) p.data_blocks ∙ datas)
     (counted name_record after_name [] (map name_of_entry p.names) ∙ entries)))
 
 -- ---- that of an accepted source
@@ -58,11 +58,11 @@ unmapped P f (x ∷ xs) h = (h.0, unmapped P f xs h.1)
 pub code_blocks_right : (symbols : List Symbol) (t : Tree) (last : ℕ) (judged : Bool) → IsSoundTree symbols t → last < 4294967296
     → AllByRecursion (λ b. Rises last 1 (lines_of b)) t.blocks
     → AllByRecursion HasCode (map compiled (code_blocks_of t symbols (layouts_of t symbols)))
-    → all_good (code_block judged) after_block (0, 0) (map record_of_block (map compiled (code_blocks_of t symbols (layouts_of t symbols)))) ≡ true
+    → all_good (code_block_layout judged) after_block (0, 0) (map record_of_block (map compiled (code_blocks_of t symbols (layouts_of t symbols)))) ≡ true
 code_blocks_right symbols t last judged h near rise codes =
     let blocks = code_blocks_of t symbols (layouts_of t symbols) in
-    ap (λ z. all_good (code_block judged) after_block (0, 0) z) (map_twice compiled record_of_block blocks)
-    ∙ good_all (code_block judged) after_block (λ x. record_of_block (compiled x)) (λ x. (kind_number x.id.kind, x.id.number)) is_code_before (IsRightBlock last) (0, 0)
+    ap (λ z. all_good (code_block_layout judged) after_block (0, 0) z) (map_twice compiled record_of_block blocks)
+    ∙ good_all (code_block_layout judged) after_block (λ x. record_of_block (compiled x)) (λ x. (kind_number x.id.kind, x.id.number)) is_code_before (IsRightBlock last) (0, 0)
     (λ s x. refl) (λ x is. first_good last judged x near is) (λ x y there rises is. next_good last judged x y near rises is)
     blocks (code_blocks_rise symbols t h)
     (all_both (λ x. HasFields last (compiled x)) (λ x. HasCode (compiled x)) blocks

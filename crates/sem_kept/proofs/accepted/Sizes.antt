@@ -11,7 +11,7 @@ use Rattle.plc_base.specs.Kinds.{is_code, is_data_block, is_function_block, is_s
 use Rattle.plc_base.specs.declared.blocks.BlockId.{BlockId}
 use Rattle.plc_base.specs.declared.blocks.BlockKind.{BlockKind}
 use Rattle.plc_base.specs.declared.blocks.BlockKind.TheVariants as kinds
-use Rattle.flat_code.specs.Checking.{block_size, data_size, good_counts}
+use Rattle.flat_code.specs.Checking.{records_size, data_size, good_counts}
 use Rattle.flat_code.specs.Programs.{DataBlock}
 use Rattle.flat_code.specs.declared.programs.Param.{Param}
 use Rattle.stl_ast.specs.Blocks.{is_parameter}
@@ -392,7 +392,7 @@ code_fits symbols t ready k b l id sound e is =
 code_size : (symbols : List Symbol) (t : Tree) → IsReady symbols t → (k : ℕ) (b : Block)
     (l : BlockLayout) (id : BlockId) → IsSound symbols t k b l → l.id ≡ Some id
     → is_code id.kind ≡ true
-    → block_size (compiled (code_block (context_at symbols t k) b l id)) ≤ 22 + whole_size b
+    → records_size (compiled (code_block (context_at symbols t k) b l id)) ≤ 22 + whole_size b
 code_size symbols t ready k b l id sound e is =
     let y = types_of symbols t.blocks in
     omega (
@@ -411,19 +411,19 @@ coded_is symbols t k b l sound =
 
 code_here : (symbols : List Symbol) (t : Tree) → IsReady symbols t → (k : ℕ) (b : Block)
     (l : BlockLayout) → IsSound symbols t k b l
-    → sum_by (λ s. block_size (compiled s)) (code_block_of (context_at symbols t k) b l l.id)
+    → sum_by (λ s. records_size (compiled s)) (code_block_of (context_at symbols t k) b l l.id)
     ≤ 22 * coded symbols b + whole_size b
 code_here symbols t ready k b l sound =
     omega (arith, by l.id refl, coded_is symbols t k b l sound)
   where
     by : (o : Option BlockId) → l.id ≡ o
-        → sum_by (λ s. block_size (compiled s)) (code_block_of (context_at symbols t k) b l o)
+        → sum_by (λ s. records_size (compiled s)) (code_block_of (context_at symbols t k) b l o)
         ≤ 22 * bit (is_code_id o) + whole_size b
     by None e = omega arith
     by (Some id) e = whether (is_code id.kind) refl
       where
         whether : (is : Bool) → is_code id.kind ≡ is
-            → sum_by (λ s. block_size (compiled s))
+            → sum_by (λ s. records_size (compiled s))
             (if is then code_block (context_at symbols t k) b l id ∷ [] else [])
             ≤ 22 * bit is + whole_size b
         whether true g =
@@ -431,7 +431,7 @@ code_here symbols t ready k b l sound =
             omega (
               arith,
               code_size symbols t ready k b l id sound e g,
-              sum_by-cons (λ (s : StatedBlock). block_size (compiled s)) one [],
+              sum_by-cons (λ (s : StatedBlock). records_size (compiled s)) one [],
             )
         whether false g = omega arith
 
@@ -451,20 +451,20 @@ code_count symbols t k b l sound = omega (arith, by l.id, coded_is symbols t k b
         whether false = omega arith
 
 codes_size : (symbols : List Symbol) (t : Tree) → IsReady symbols t → IsSoundTree symbols t
-    → sum_by block_size (map compiled (code_blocks_of t symbols (layouts_of t symbols)))
+    → sum_by records_size (map compiled (code_blocks_of t symbols (layouts_of t symbols)))
     ≤ 22 * sum_by (coded symbols) t.blocks + sum_by whole_size t.blocks
 unfolding code_blocks_of
 codes_size symbols t ready sound =
     let of_ : Context → Block → BlockLayout → List StatedBlock =
     λ c b l. code_block_of c b l l.id in
-    let bytes : StatedBlock → ℕ = λ s. block_size (compiled s) in
+    let bytes : StatedBlock → ℕ = λ s. records_size (compiled s) in
     let each = each_block of_ (context_at symbols t 0) t.blocks (layouts_of t symbols) in
     let each_fits = laid_mapped (IsSound symbols t) (λ k b l. sum_by bytes (of_ (context_at symbols t k) b l)
     ≤ 22 * coded symbols b + whole_size b) (code_here symbols t ready) 0 t.blocks (layouts_of t symbols)
     sound.blocks in
     omega (
       arith,
-      mapped_sum compiled block_size (sorted is_code_before each),
+      mapped_sum compiled records_size (sorted is_code_before each),
       sorted_sum is_code_before bytes each,
       each_sum of_ bytes (λ b. 22 * coded symbols b + whole_size b) symbols t 0 t.blocks
           (layouts_of t symbols) each_fits,

@@ -29,8 +29,8 @@ use Rattle.stl_ast.specs.declared.operands.Operand.{Operand}
 use Rattle.stl_ast.specs.declared.operands.Operand.TheVariants as operand
 use Rattle.stl_ast.specs.declared.statements.Actual.{Actual}
 use Rattle.stl_ast.specs.declared.statements.Statement.{Statement}
-use Rattle.plc_base.specs.Folding.{folded}
-use Rattle.plc_base.specs.Gathered.{gathered}
+use Rattle.plc_base.specs.Folding.{upper_case_name}
+use Rattle.plc_base.specs.Gathered.{refusals_along}
 use Rattle.stl_symbols.specs.Names.{place_of}
 use Rattle.block_layout.specs.Around.{Outside, in_block, of_sections, of_structure, onto, ret_val, returned_names, section_declarations}
 use Rattle.block_layout.specs.Blocks.{named_block}
@@ -85,12 +85,12 @@ given_few (a ∷ actuals) fs once =
     omega (
       arith,
       given_few actuals fs once,
-      once.each (folded a.name),
-      summed_two (named_so (folded a.name)) (is_given actuals) fs,
+      once.each (upper_case_name a.name),
+      summed_two (named_so (upper_case_name a.name)) (is_given actuals) fs,
       summed_le (is_given (a ∷ actuals))
-          (λ f. named_so (folded a.name) f + is_given actuals f) fs
-          (every (λ f. is_given (a ∷ actuals) f ≤ named_so (folded a.name) f + is_given actuals f)
-          (λ f. given_more a (bytes_eq (folded a.name) f.name) (supplied actuals f)) fs),
+          (λ f. named_so (upper_case_name a.name) f + is_given actuals f) fs
+          (every (λ f. is_given (a ∷ actuals) f ≤ named_so (upper_case_name a.name) f + is_given actuals f)
+          (λ f. given_more a (bytes_eq (upper_case_name a.name) f.name) (supplied actuals f)) fs),
     )
 
 index_few : (index : ℕ) (p : Option Passed) → length (with_index index p) ≤ 1
@@ -211,16 +211,16 @@ AllOnce o before [] = Unit {0}
 AllOnce o before (d ∷ ds) = (is_twice o before d ≡ false) × AllOnce o (d ∷ before) ds
 
 all_once : (o : Outside) (before ds : List Declaration)
-    → gathered (λ d. false) (broken_21 o) (λ before d. d ∷ before) before ds ≡ []
+    → refusals_along (λ d. false) (broken_21 o) (λ before d. d ∷ before) before ds ≡ []
     → AllOnce o before ds
 all_once o before [] e = tt
 all_once o before (d ∷ ds) e = (
   not_broken (is_twice o before d) d.line 21
       (none_left (broken_21 o before d)
-      (gathered (λ d. false) (broken_21 o) (λ before d. d ∷ before) (d ∷ before) ds) e),
+      (refusals_along (λ d. false) (broken_21 o) (λ before d. d ∷ before) (d ∷ before) ds) e),
   all_once o (d ∷ before) ds
       (none_right (broken_21 o before d)
-      (gathered (λ d. false) (broken_21 o) (λ before d. d ∷ before) (d ∷ before) ds) e),
+      (refusals_along (λ d. false) (broken_21 o) (λ before d. d ∷ before) (d ∷ before) ds) e),
 )
 
 once_front : (o : Outside) (before ds es : List Declaration) → AllOnce o before (ds ++ es)
@@ -282,22 +282,22 @@ known_grows n o before d =
 -- a declaration at the outermost level adds its name
 known_adds : (n : List ℕ) (o : Outside) (before : List Declaration) (d : Declaration)
     → d.level ≡ 0 → is_twice o before d ≡ false
-    → bit (bytes_eq n (folded d.name)) + bit (is_known n o before)
+    → bit (bytes_eq n (upper_case_name d.name)) + bit (is_known n o before)
     ≤ bit (is_known n o (d ∷ before))
-known_adds n o before d level once = by (bytes_eq n (folded d.name)) refl
+known_adds n o before d level once = by (bytes_eq n (upper_case_name d.name)) refl
   where
-    by : (here : Bool) → bytes_eq n (folded d.name) ≡ here
+    by : (here : Bool) → bytes_eq n (upper_case_name d.name) ≡ here
         → bit here + bit (is_known n o before) ≤ bit (is_known n o (d ∷ before))
     by true e =
-        let same = same_name n (folded d.name) e in
+        let same = same_name n (upper_case_name d.name) e in
         let fresh : is_known n o before ≡ false =
         ap (λ (m : List ℕ). is_some (place_of m (names_before o.names 0 before))) same
-        ∙ ap (λ (k : ℕ). is_some (place_of (folded d.name) (names_before o.names k before)))
+        ∙ ap (λ (k : ℕ). is_some (place_of (upper_case_name d.name) (names_before o.names k before)))
         (sym level) ∙ once in
         let here : is_known n o (d ∷ before) ≡ true =
         ap (λ (l : List (List ℕ)). is_some (place_of n l)) (names_more o before d
-        ∙ ap (λ (k : ℕ). names_before o.names 0 before ++ (if nat_eq k 0 then folded d.name ∷ [] else [])) level)
-        ∙ place_last n (names_before o.names 0 before) (folded d.name) e in
+        ∙ ap (λ (k : ℕ). names_before o.names 0 before ++ (if nat_eq k 0 then upper_case_name d.name ∷ [] else [])) level)
+        ∙ place_last n (names_before o.names 0 before) (upper_case_name d.name) e in
         omega (arith, ap bit fresh, ap bit here)
     by false e = omega (arith, known_grows n o before d)
 
@@ -354,7 +354,7 @@ items_so n y o section before (d ∷ ds) low once =
     by true e =
         omega (
           arith,
-          formal_so n (folded d.name) (cell_of y o section before d) (laid y d.of.of) refl,
+          formal_so n (upper_case_name d.name) (cell_of y o section before d) (laid y d.of.of) refl,
           known_adds n o before d (low e).0 once.0,
         )
     by false e = omega (arith, known_grows n o before d)

@@ -12,7 +12,7 @@ use Rattle.plc_base.specs.declared.places.Area.TheVariants as area
 use Rattle.plc_base.specs.declared.places.Place.{Place}
 use Rattle.plc_base.specs.declared.places.Width.{Width}
 use Rattle.flat_code.specs.Codes.{code_bytes}
-use Rattle.flat_code.specs.Forms.{actual, direct, payload}
+use Rattle.flat_code.specs.Forms.{passed_coding, direct_coding, payload}
 use Rattle.flat_code.specs.Instr.{Calls, Does, Passing, Returns}
 use Rattle.flat_code.specs.Ops.{OpData, op_bytes}
 use Rattle.flat_code.specs.declared.kinds.JumpOperation.{JumpOperation}
@@ -108,14 +108,14 @@ flat_size (flat.OpenBy register from byte) = 6
 
 pass_sized : (index : ℕ) (p : Passed)
     → suc (suc (length (payload (flat.Pass index p)))) ≡ flat_size (flat.Pass index p)
-unfolding actual direct
+unfolding passed_coding direct_coding
 pass_sized index (passed.Literal value) = refl
 pass_sized index (passed.Direct area width byte bit) = refl
 pass_sized index (passed.Parameter index' width) = refl
 pass_sized index (passed.InBlock number area width byte bit) = refl
 
 payload_sized : (o : FlatOperand) → suc (suc (length (payload o))) ≡ flat_size o
-unfolding direct
+unfolding direct_coding
 payload_sized flat.Nothing = refl
 payload_sized (flat.Literal value) = refl
 payload_sized (flat.Direct area width byte bit) = refl

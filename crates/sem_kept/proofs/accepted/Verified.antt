@@ -4,8 +4,8 @@ use Rattle.std.proofs.Common.{◌≡◌, ℕ, ◌+◌, ◌<◌, zero, suc, true,
 use Rattle.std.specs.List.{AllByRecursion}
 use Rattle.flat_code.specs.Checking.{good_blocks}
 use Rattle.flat_code.specs.Image.{record_of_block}
-use Rattle.flat_code.specs.Loading.{AreVerified, around, lens_of}
-use Rattle.flat_code.specs.Placed.{places, spots}
+use Rattle.flat_code.specs.Loading.{AreVerified, around_block, lens_of}
+use Rattle.flat_code.specs.Placed.{code_places, spots}
 use Rattle.flat_code.specs.Programs.{CodeBlock}
 use Rattle.flat_code.specs.Records.{BlockRecord}
 use Rattle.stl_ast.specs.Literals.{AreBytes}
@@ -37,12 +37,12 @@ BlockLands b = AllLandRight (code_in b.statements)
 
 blocks_clean : (lens : List (ℕ × ℕ)) (all : List BlockRecord) (bs : List StatedBlock)
     → AllByRecursion
-    (λ b. AreFine (around (Some lens) all (record_of_block b)) lens (spots b.code) (places b.code))
+    (λ b. AreFine (around_block (Some lens) all (record_of_block b)) lens (spots b.code) (code_places b.code))
     (map compiled bs)
     → AllByRecursion BlockLands bs → AreVerified lens all (map record_of_block (map compiled bs))
 blocks_clean lens all [] fine lands = tt
 blocks_clean lens all (b ∷ bs) fine lands =
-    let a = around (Some lens) all (record_of_block (compiled b)) in (
+    let a = around_block (Some lens) all (record_of_block (compiled b)) in (
       fine_is_faultless a lens 0 (code_in b.statements) refl fine.0 lands.0,
       blocks_clean lens all bs fine.1 lands.1,
     )

@@ -3,8 +3,8 @@ use Rattle.std.proofs.Common.{◌≡◌, ℕ, Bool, true, false, if◌then◌els
 use Rattle.std.specs.List.{AllByRecursion}
 use Rattle.plc_base.specs.declared.blocks.BlockId.{BlockId}
 use Rattle.flat_code.specs.Laws.{OperationsHaveTheirCodes, JumpsHaveTheirKinds}
-use Rattle.image_file.specs.Readers.{block_of, same_id}
-use Rattle.machine.specs.Flat.{statement_at, head_of}
+use Rattle.image_file.specs.Readers.{block_by_id, is_same_id}
+use Rattle.machine.specs.Flat.{statement_fetched, block_head_of}
 use Rattle.machine.specs.Moved.{moved_fetched}
 use Rattle.stl_codegen.specs.Compiled.{Stated, StatedBlock, ops_in, offset_from, offset_of, compiled}
 use Rattle.flat_code.specs.Ops.{OpData}
@@ -12,12 +12,12 @@ use Rattle.sem_kept.specs.Back.{aimed_statement}
 use Rattle.sem_kept.specs.Statements.{stated_at, numbered, statement_of, stated_head, position_in, position, IsCompilable, ProgramsFollow}
 use Rattle.sem_kept.proofs.compiled.Reading.{is_read_back}
 
-found_compiled : (id : BlockId) (bs : List StatedBlock) → block_of id (map compiled bs) ≡ option_map compiled (stated_at id bs)
+found_compiled : (id : BlockId) (bs : List StatedBlock) → block_by_id id (map compiled bs) ≡ option_map compiled (stated_at id bs)
 found_compiled id [] = refl
-found_compiled id (b ∷ bs) = by (same_id b.id id) (found_compiled id bs)
+found_compiled id (b ∷ bs) = by (is_same_id b.id id) (found_compiled id bs)
   where
-    by : (same : Bool) → block_of id (map compiled bs) ≡ option_map compiled (stated_at id bs)
-        → (if same then Some (compiled b) else block_of id (map compiled bs)) ≡ option_map compiled (if same then Some b else stated_at id bs)
+    by : (same : Bool) → block_by_id id (map compiled bs) ≡ option_map compiled (stated_at id bs)
+        → (if same then Some (compiled b) else block_by_id id (map compiled bs)) ≡ option_map compiled (if same then Some b else stated_at id bs)
     by true more = refl
     by false more = more
 
@@ -30,7 +30,7 @@ IsCompilableFound (Some b) = IsCompilable b
 
 compilable_at : (id : BlockId) (bs : List StatedBlock) → AllByRecursion IsCompilable bs → IsCompilableFound (stated_at id bs)
 compilable_at id [] h = tt
-compilable_at id (b ∷ bs) h = by (same_id b.id id) (compilable_at id bs h.1)
+compilable_at id (b ∷ bs) h = by (is_same_id b.id id) (compilable_at id bs h.1)
   where
     by : (same : Bool) → IsCompilableFound (stated_at id bs) → IsCompilableFound (if same then Some b else stated_at id bs)
     by true more = h.0
@@ -43,14 +43,14 @@ statement_aimed f n (Some s) = refl
 
 statement_follows :
     (o : Option StatedBlock) (n : ℕ) → OperationsHaveTheirCodes → JumpsHaveTheirKinds → IsCompilableFound o
-    → option_and_then (λ b. statement_at b (position_in o n)) (option_map compiled o)
+    → option_and_then (λ b. statement_fetched b (position_in o n)) (option_map compiled o)
     ≡ option_map (moved_fetched (position_in o)) (option_and_then (λ b. statement_of b n) o)
 statement_follows None n operations jumps h = refl
 statement_follows (Some b) n operations jumps h =
     is_read_back (compiled b) b.statements operations jumps h refl refl n
     ∙ statement_aimed (offset_of (ops_in b.statements)) n (slice_get b.statements n)
 
-head_follows : (o : Option StatedBlock) → option_map head_of (option_map compiled o) ≡ option_map stated_head o
+head_follows : (o : Option StatedBlock) → option_map block_head_of (option_map compiled o) ≡ option_map stated_head o
 head_follows None = refl
 head_follows (Some b) = refl
 
@@ -66,8 +66,8 @@ first_position (Some b) = first_offset (ops_in b.statements)
 pub programs_follow : OperationsHaveTheirCodes → JumpsHaveTheirKinds → ProgramsFollow
 programs_follow operations jumps blocks data_blocks names h = record {
   start = λ id. first_position (stated_at id blocks);
-  fetch = λ id n. ap (option_and_then (λ b. statement_at b (position blocks id n))) (found_compiled id blocks)
+  fetch = λ id n. ap (option_and_then (λ b. statement_fetched b (position blocks id n))) (found_compiled id blocks)
       ∙ statement_follows (stated_at id blocks) n operations jumps (compilable_at id blocks h);
-  head = λ id. ap (option_map head_of) (found_compiled id blocks) ∙ head_follows (stated_at id blocks);
+  head = λ id. ap (option_map block_head_of) (found_compiled id blocks) ∙ head_follows (stated_at id blocks);
   blocks = refl;
 }

@@ -30,7 +30,7 @@ use Rattle.stl_ast.specs.declared.operands.PathHead.{PathHead}
 use Rattle.stl_ast.specs.declared.operands.PathHead.TheVariants as head
 use Rattle.stl_ast.specs.declared.statements.Statement.{Statement}
 use Rattle.stl_symbols.specs.Symbol.{Symbol, symbol_named}
-use Rattle.plc_base.specs.Folding.{folded}
+use Rattle.plc_base.specs.Folding.{upper_case_name}
 use Rattle.stl_symbols.specs.declared.targets.Target.{Target}
 use Rattle.stl_symbols.specs.declared.targets.Target.TheVariants as target
 use Rattle.block_layout.specs.Blocks.{is_id, is_block_number, block_place, known_block, of_kind, named_block}
@@ -231,8 +231,8 @@ of_symbol (Some s) = of_target s.target
 of_path : (c : Context) (h : PathHead) (steps : List PathStep)
     → names_called (path_seen c h steps) ≡ false
 of_path c (head.Local name) steps =
-    of_own c (is_temporary c (folded name))
-    (walked_local c.layouts c.block (folded name) (folded_path steps))
+    of_own c (is_temporary c (upper_case_name name))
+    (walked_local c.layouts c.block (upper_case_name name) (folded_path steps))
 of_path c (head.InBlock name) steps =
     of_data_path c (folded_path steps) (data_number c name) (data_place c name)
 of_path c (head.Symbol name) steps = of_symbol (symbol_named name c.symbols)

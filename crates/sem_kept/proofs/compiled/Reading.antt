@@ -20,7 +20,7 @@ use Rattle.flat_code.specs.declared.operands.Operand.{Operand}
 use Rattle.flat_code.specs.declared.operands.Operand.TheVariants as operand
 use Rattle.flat_code.specs.declared.operations.Operation.{Operation}
 use Rattle.flat_code.specs.declared.operations.Operation.TheVariants as operation
-use Rattle.machine.specs.Flat.{Run, run_at, with_op, most_ops, use_db_of, passings_of, list_of, most_listed, instance_named, instr_of, fetched_of, statement_at}
+use Rattle.machine.specs.Flat.{OpRun, op_run_at, with_op, most_ops, use_db_of, passings_of, list_of, most_listed, instance_named, instr_of, fetched_of, statement_fetched}
 use Rattle.stl_codegen.specs.Emitted.{ops_of, ending, opening, passing, jump_op, call_op, end_op, instance_number}
 use Rattle.stl_codegen.specs.Compiled.{Stated, ops_in, offset_from, offset_of, aimed, aimed_op, placed_ops, code_in, lines_in}
 use Rattle.stl_codegen.specs.Instruction.{numbers_from}
@@ -134,11 +134,11 @@ op_here xs op ys = let same : 0 + total xs ≡ total xs = omega arith in subst (
 -- one that prepares stands in front
 run_more :
     (most : ℕ) (xs front : List OpData) (x op : OpData) (ys : List OpData) → x.last ≡ false
-    → run_at most ((xs ++ x ∷ []) ++ (front ++ op ∷ ys)) (total (xs ++ x ∷ []))
+    → op_run_at most ((xs ++ x ∷ []) ++ (front ++ op ∷ ys)) (total (xs ++ x ∷ []))
     ≡ Some (record { before = front; last = op; next = total (xs ++ x ∷ []) + (total front + size op) })
-    → run_at (suc most) (xs ++ x ∷ (front ++ op ∷ ys)) (total xs)
+    → op_run_at (suc most) (xs ++ x ∷ (front ++ op ∷ ys)) (total xs)
     ≡ Some (record { before = x ∷ front; last = op; next = total xs + (size x + total front + size op) })
-unfolding run_at
+unfolding op_run_at
 run_more most xs front x op ys prepares more = rw (op_here xs x (front ++ op ∷ ys)) (by x.last prepares)
   where
     cut : (xs ++ x ∷ []) ++ (front ++ op ∷ ys) ≡ xs ++ x ∷ (front ++ op ∷ ys)
@@ -147,27 +147,27 @@ run_more most xs front x op ys prepares more = rw (op_here xs x (front ++ op ∷
     at : total (xs ++ x ∷ []) ≡ total xs + size x
     at = total_append xs (x ∷ []) ∙ omega arith
 
-    there : run_at most (xs ++ x ∷ (front ++ op ∷ ys)) (total xs + size x)
+    there : op_run_at most (xs ++ x ∷ (front ++ op ∷ ys)) (total xs + size x)
         ≡ Some (record { before = front; last = op; next = total xs + (size x + total front + size op) })
-    there = ap (λ (z : List OpData). run_at most z (total xs + size x)) (sym cut)
-        ∙ ap (λ (k : ℕ). run_at most ((xs ++ x ∷ []) ++ (front ++ op ∷ ys)) k) (sym at) ∙ more
+    there = ap (λ (z : List OpData). op_run_at most z (total xs + size x)) (sym cut)
+        ∙ ap (λ (k : ℕ). op_run_at most ((xs ++ x ∷ []) ++ (front ++ op ∷ ys)) k) (sym at) ∙ more
         ∙ ap (λ (k : ℕ). Some (record { before = front; last = op; next = k })) (omega (arith, at))
 
     by : (b : Bool) → b ≡ false → (if b then Some (record { before = []; last = x; next = total xs + size x })
-        else option_map (with_op x) (run_at most (xs ++ x ∷ (front ++ op ∷ ys)) (total xs + size x)))
+        else option_map (with_op x) (op_run_at most (xs ++ x ∷ (front ++ op ∷ ys)) (total xs + size x)))
         ≡ Some (record { before = x ∷ front; last = op; next = total xs + (size x + total front + size op) })
     by true h = absurd cc
     by false h = ap (option_map (with_op x)) there
 
 run_last :
     (most : ℕ) (xs : List OpData) (op : OpData) (ys : List OpData) → op.last ≡ true
-    → run_at (suc most) (xs ++ op ∷ ys) (total xs)
+    → op_run_at (suc most) (xs ++ op ∷ ys) (total xs)
     ≡ Some (record { before = []; last = op; next = total xs + (total [] + size op) })
-unfolding run_at
+unfolding op_run_at
 run_last most xs op ys last = rw (op_here xs op ys) (by op.last last)
   where
     by : (b : Bool) → b ≡ true → (if b then Some (record { before = []; last = op; next = total xs + size op })
-        else option_map (with_op op) (run_at most (xs ++ op ∷ ys) (total xs + size op)))
+        else option_map (with_op op) (op_run_at most (xs ++ op ∷ ys) (total xs + size op)))
         ≡ Some (record { before = []; last = op; next = total xs + (total [] + size op) })
     by true h = ap (λ (k : ℕ). Some (record { before = []; last = op; next = k })) (omega arith)
     by false h = absurd cc
@@ -175,7 +175,7 @@ run_last most xs op ys last = rw (op_here xs op ys) (by op.last last)
 run_of :
     (most : ℕ) (xs front : List OpData) (op : OpData) (ys : List OpData)
     → AllByRecursion IsPreparing front → op.last ≡ true → length front < most
-    → run_at most (xs ++ (front ++ op ∷ ys)) (total xs)
+    → op_run_at most (xs ++ (front ++ op ∷ ys)) (total xs)
     ≡ Some (record { before = front; last = op; next = total xs + (total front + size op) })
 run_of zero xs front op ys fs last few = absurd (omega (arith, few))
 run_of (suc most) xs [] op ys fs last few = run_last most xs op ys last
@@ -184,13 +184,13 @@ run_of (suc most) xs (x ∷ front) op ys fs last few =
 
 pub run_is :
     (ps : List Parted) (p : Parted) (qs : List Parted) → IsStatement p → length p.front ≤ 63
-    → run_at most_ops (flat (ps ++ p ∷ qs)) (extent ps)
+    → op_run_at most_ops (flat (ps ++ p ∷ qs)) (extent ps)
     ≡ Some (record { before = p.front; last = p.end; next = extent ps + bytes_of p })
 run_is ps p qs h few =
     rw (flat_append ps (p ∷ qs)) (rw (sym (total_flat ps)) (run_of 64 (flat ps) p.front p.end (flat qs) h.front h.end (omega (arith, few))))
 
-run_none : (ps : List Parted) → run_at most_ops (flat ps) (extent ps) ≡ None
-unfolding run_at
+run_none : (ps : List Parted) → op_run_at most_ops (flat ps) (extent ps) ≡ None
+unfolding op_run_at
 run_none ps =
     let end = op_at_end 0 (flat ps) in
     let same : 0 + total (flat ps) ≡ extent ps = (let all = total_flat ps in omega (arith, all)) in
@@ -538,13 +538,13 @@ lines_behind [] s rest = refl
 lines_behind (x ∷ front) s rest = lines_behind front s rest
 
 found_in :
-    (b : CodeBlock) (at line next : ℕ) (r : Run) → line_placed 0 true b.code b.lines at ≡ Some line → run_at most_ops b.code at ≡ Some r
-    → statement_at b at ≡ Some (fetched_of b.code line r)
-unfolding statement_at
+    (b : CodeBlock) (at line next : ℕ) (r : OpRun) → line_placed 0 true b.code b.lines at ≡ Some line → op_run_at most_ops b.code at ≡ Some r
+    → statement_fetched b at ≡ Some (fetched_of b.code line r)
+unfolding statement_fetched
 found_in b at line next r is run = rw is (rw run refl)
 
-none_in : (b : CodeBlock) (at : ℕ) → line_placed 0 true b.code b.lines at ≡ None → statement_at b at ≡ None
-unfolding statement_at
+none_in : (b : CodeBlock) (at : ℕ) → line_placed 0 true b.code b.lines at ≡ None → statement_fetched b at ≡ None
+unfolding statement_fetched
 none_in b at is = rw is refl
 
 statement_here :
@@ -552,10 +552,10 @@ statement_here :
     → OperationsHaveTheirCodes → JumpsHaveTheirKinds
     → b.code ≡ code_in (front ++ s ∷ rest) → b.lines ≡ lines_in (front ++ s ∷ rest)
     → IsCompiled (length front) s.instr rest
-    → statement_at b (position (front ++ s ∷ rest) (length front))
+    → statement_fetched b (position (front ++ s ∷ rest) (length front))
     ≡ Some (aimed_statement (position (front ++ s ∷ rest)) (length front) s)
 statement_here b front s rest operations jumps is lines h =
-    ap (statement_at b) (position_is front (s ∷ rest))
+    ap (statement_fetched b) (position_is front (s ∷ rest))
     ∙ found_in b (ends_at front) s.line 0 run line_is run_there ∙ ap Some same
   where
     ss : List Stated
@@ -573,7 +573,7 @@ statement_here b front s rest operations jumps is lines h =
     qs : List Parted
     qs = aimed_parts f (parts rest)
 
-    run : Run
+    run : OpRun
     run = record { before = p.front; last = p.end; next = extent ps + bytes_of p }
 
     code : b.code ≡ flat (ps ++ p ∷ qs)
@@ -590,9 +590,9 @@ statement_here b front s rest operations jumps is lines h =
         ∙ ap (slice_get b.lines) (aimed_count f (parts front) ∙ parts_count front)
         ∙ ap (λ (z : List ℕ). slice_get z (length front)) lines ∙ lines_behind front s rest
 
-    run_there : run_at most_ops b.code (ends_at front) ≡ Some run
-    run_there = ap (λ (z : List OpData). run_at most_ops z (ends_at front)) code
-        ∙ ap (run_at most_ops (flat (ps ++ p ∷ qs))) (sym at)
+    run_there : op_run_at most_ops b.code (ends_at front) ≡ Some run
+    run_there = ap (λ (z : List OpData). op_run_at most_ops z (ends_at front)) code
+        ∙ ap (op_run_at most_ops (flat (ps ++ p ∷ qs))) (sym at)
         ∙ run_is ps p qs (aimed_is f (parted s.instr) (is_statement s.instr)) (few_before f (length front) s.instr rest h)
 
     next_at : extent ps + bytes_of p ≡ ends_at (front ++ s ∷ [])
@@ -613,9 +613,9 @@ statement_here b front s rest operations jumps is lines h =
 
 statement_none :
     (b : CodeBlock) (ss : List Stated) (n : ℕ) → b.code ≡ code_in ss → length ss ≤ n
-    → statement_at b (position ss n) ≡ None
+    → statement_fetched b (position ss n) ≡ None
 statement_none b ss n is past =
-    ap (statement_at b) (position_past ss n past) ∙ none_in b (ends_at ss)
+    ap (statement_fetched b) (position_past ss n past) ∙ none_in b (ends_at ss)
     (ap (λ (z : List OpData). line_placed 0 true z b.lines (ends_at ss)) (is ∙ the_code_is ss)
     ∙ ap (λ (k : ℕ). line_placed 0 true (the_code (position ss) ss) b.lines k) (sym (aimed_extent (position ss) (parts ss)) ∙ omega arith)
     ∙ line_at_end 0 (aimed_parts (position ss) (parts ss)) b.lines (aimed_are (position ss) (parts ss) (parts_are ss)))
@@ -631,7 +631,7 @@ pub is_read_back :
 is_read_back b ss operations jumps h is lines n = by [] ss n refl (omega arith)
   where
     by : (front rest : List Stated) (k : ℕ) → ss ≡ front ++ rest → n ≡ length front + k
-        → statement_at b (position ss n) ≡ option_map (aimed_statement (position ss) n) (slice_get rest k)
+        → statement_fetched b (position ss n) ≡ option_map (aimed_statement (position ss) n) (slice_get rest k)
     by front [] k e count = statement_none b ss n is (let same = ap length e in let cut = length-append front [] in omega (arith, same, cut, count))
     by front (s ∷ rest) (suc k) e count =
         by (front ++ s ∷ []) rest k (e ∙ sym (append_assoc front (s ∷ []) rest))

@@ -6,16 +6,16 @@ use Rattle.std.specs.List.{AllByRecursion}
 use Rattle.std.proofs.lemmas.Bool.{eqb-true, eqb-false}
 use Rattle.std.proofs.lemmas.List.{length-map}
 use Rattle.plc_base.specs.Kinds.{is_code}
-use Rattle.flat_code.specs.Blocks.{Around, is_ju as is_ju_operand, leads, is_bad_list, jump_fault, call_fault, mark_fault, bracket_fault, zone_fault, at_offset, op_faults, faults_over, block_faults}
-use Rattle.flat_code.specs.Codes.{size, overlong, first_of, is_nowhere, are_ops, code_bytes, ends as ends_right, last_place, stop_at, code_of}
-use Rattle.flat_code.specs.Image.{IsRight, record_of_block, block_rows, plain_block, code_block as whole_block, code_and_lines, after_block, code_blocks, body_rows, records, body}
+use Rattle.flat_code.specs.Blocks.{Around, is_ju_operand, leads, is_bad_list, jump_fault, call_fault, mark_fault, bracket_fault, zone_fault, at_offset, op_faults, faults_over, block_faults}
+use Rattle.flat_code.specs.Codes.{size, overlong, first_found, is_nowhere, are_ops, code_bytes, ends_by_be as ends_right, last_place, stop_at, code_layout}
+use Rattle.flat_code.specs.Image.{IsRight, record_of_block, block_rows, plain_block, code_block_layout as whole_block, code_and_lines, after_block, code_blocks, body_rows, records, body}
 use Rattle.flat_code.specs.Instr.{Instr, Passing, Does, Jumps, JumpsByList, Calls, Returns}
-use Rattle.flat_code.specs.Kinds.{kind_of}
+use Rattle.flat_code.specs.Kinds.{jump_number}
 use Rattle.flat_code.specs.Layout.{good_many}
-use Rattle.flat_code.specs.Loading.{AreVerified, lens_of, around}
-use Rattle.flat_code.specs.OpCodes.{code_of as code_of_operation}
+use Rattle.flat_code.specs.Loading.{AreVerified, lens_of, around_block}
+use Rattle.flat_code.specs.OpCodes.{op_code_of as code_of_operation}
 use Rattle.flat_code.specs.Ops.{OpData}
-use Rattle.flat_code.specs.Placed.{Placed, Spot, placed, opened, before_next, spots, zones_behind}
+use Rattle.flat_code.specs.Placed.{Placed, StatementSpot, ops_placed, brackets_after, before_next, spots, zones_behind_op}
 use Rattle.flat_code.specs.Programs.{Program}
 use Rattle.flat_code.specs.Records.{BlockRecord}
 use Rattle.flat_code.specs.declared.image_fields.OpenBracket.{OpenBracket}
@@ -124,17 +124,17 @@ no_fault at None e = refl
 no_fault at (Some code) e = absurd cc
 
 -- ops at an offset, of which none has a fault
-record IsClean (around : Around) (statements : List Spot) (at : ℕ) (ops : List OpData) : Type 0 where
+record IsClean (around : Around) (statements : List StatementSpot) (at : ℕ) (ops : List OpData) : Type 0 where
   brackets : List OpenBracket
   zones : List ℕ
   before : List OpData
-  none : faults_over around statements 0 (placed at brackets zones before ops) ≡ []
+  none : faults_over around statements 0 (ops_placed at brackets zones before ops) ≡ []
 
-clean_next : (a : Around) (ss : List Spot) (at : ℕ) (op : OpData) (ops : List OpData)
+clean_next : (a : Around) (ss : List StatementSpot) (at : ℕ) (op : OpData) (ops : List OpData)
     → IsClean a ss at (op ∷ ops) → IsClean a ss (at + size op) ops
 clean_next a ss at op ops h = record {
-  brackets = opened at op.code h.brackets;
-  zones = zones_behind at op.code h.zones;
+  brackets = brackets_after at op.code h.brackets;
+  zones = zones_behind_op at op.code h.zones;
   before = before_next op h.before;
   none = none_right (op_faults a ss 0 (record {
     at = at;
@@ -145,10 +145,10 @@ clean_next a ss at op ops h = record {
     rest = ops;
   }))
       (faults_over a ss 0
-      (placed (at + size op) (opened at op.code h.brackets) (zones_behind at op.code h.zones) (before_next op h.before) ops)) h.none;
+      (ops_placed (at + size op) (brackets_after at op.code h.brackets) (zones_behind_op at op.code h.zones) (before_next op h.before) ops)) h.none;
 }
 
-clean_behind : (a : Around) (ss : List Spot) (at : ℕ) (front ops : List OpData)
+clean_behind : (a : Around) (ss : List StatementSpot) (at : ℕ) (front ops : List OpData)
     → IsClean a ss at (front ++ ops) → IsClean a ss (at + total front) ops
 clean_behind a ss at [] ops h = subst (λ (k : ℕ). IsClean a ss k ops) (omega arith) h
 clean_behind a ss at (op ∷ front) ops h =
@@ -156,7 +156,7 @@ clean_behind a ss at (op ∷ front) ops h =
     (clean_behind a ss (at + size op) front ops (clean_next a ss at op (front ++ ops) h))
 
 -- the list of a JL
-leads_by : (a : Around) (ss : List Spot) (p : Placed) (target : ℕ)
+leads_by : (a : Around) (ss : List StatementSpot) (p : Placed) (target : ℕ)
     → jump_fault ss p 1 target ≡ None → leads 255 target (p.at + size p.op) p.rest ≡ true
 leads_by a ss p target e = by (leads 255 target (p.at + size p.op) p.rest) refl e
   where
@@ -168,7 +168,7 @@ leads_by a ss p target e = by (leads 255 target (p.at + size p.op) p.rest) refl 
         let fault : jump_fault ss p 1 target ≡ Some 6 = rw bad refl in
         absurd cc
 
-clean_leads : (a : Around) (ss : List Spot) (at code target : ℕ) (last : Bool) (ops : List OpData)
+clean_leads : (a : Around) (ss : List StatementSpot) (at code target : ℕ) (last : Bool) (ops : List OpData)
     → IsClean a ss at (record { code = code; last = last; operand = operand.Jump 1 target } ∷ ops)
     → leads 255 target
     (at + size (record { code = code; last = last; operand = operand.Jump 1 target })) ops ≡ true
@@ -204,7 +204,7 @@ clean_leads a ss at code target last ops h = leads_by a ss here target judged
         (none_left (((one ++ two) ++ three) ++ four) five
         (none_left ((((one ++ two) ++ three) ++ four) ++ five)
         (faults_over a ss 0
-        (placed (at + size op) (opened at code h.brackets) (zones_behind at code h.zones) (before_next op h.before) ops)) h.none)))))
+        (ops_placed (at + size op) (brackets_after at code h.brackets) (zones_behind_op at code h.zones) (before_next op h.before) ops)) h.none)))))
 
 -- ---- positions
 
@@ -300,7 +300,7 @@ no_jump f operand.Nothing h = refl
 no_jump f _ h = refl
 
 other_jump : (how : JumpOperation) (target : ℕ) → is_ju (Jumps how target) ≡ false
-    → is_ju_operand (operand.Jump (kind_of how) target) ≡ false
+    → is_ju_operand (operand.Jump (jump_number how) target) ≡ false
 other_jump jump.Ju target h = absurd cc
 other_jump _ target h = refl
 
@@ -516,7 +516,7 @@ passed_few f ps rest h =
 
 -- ---- a block
 
-one_compiled : (a : Around) (ss : List Spot) (whole front : List Stated) (s : Stated)
+one_compiled : (a : Around) (ss : List StatementSpot) (whole front : List Stated) (s : Stated)
     (behind : List Stated) (line : ℕ) (i : Instr)
     → whole ≡ front ++ s ∷ (behind ++ returning line ∷ []) → s.instr ≡ i
     → IsMade (length front) i → AreMade (suc (length front)) behind
@@ -556,7 +556,7 @@ one_compiled a ss whole front s behind line (JumpsByList targets otherwise) e is
         let further = one_further front s in
         omega (arith, long, same, further)
 
-clean_part : (a : Around) (ss : List Spot) (f : ℕ → ℕ) (at : ℕ) (i : Instr) (rest : List OpData)
+clean_part : (a : Around) (ss : List StatementSpot) (f : ℕ → ℕ) (at : ℕ) (i : Instr) (rest : List OpData)
     → IsClean a ss at (ops_with f i rest) → IsClean a ss (at + bytes_of (parted i)) rest
 clean_part a ss f at i rest h =
     let p = aimed_part f (parted i) in
@@ -567,7 +567,7 @@ clean_part a ss f at i rest h =
     (clean_next a ss (at + total p.front) p.end rest
     (clean_behind a ss at p.front (p.end ∷ rest) h))
 
-compiled_from : (a : Around) (ss : List Spot) (whole front behind : List Stated) (line : ℕ)
+compiled_from : (a : Around) (ss : List StatementSpot) (whole front behind : List Stated) (line : ℕ)
     → whole ≡ front ++ (behind ++ returning line ∷ []) → AreMade (length front) behind
     → IsClean a ss (ends_at front) (the_code (position whole) (behind ++ returning line ∷ []))
     → IsShort (the_code (position whole) (behind ++ returning line ∷ []))
@@ -592,9 +592,9 @@ compiled_from a ss whole front (s ∷ behind) line e made clean short = (
 
 -- its code has no fault, and no statement of more than 64 ops
 record IsRightCode (code : List OpData) : Type 0 where
-  around : Around
-  statements : List Spot
-  clean : IsClean around statements 0 code
+  around_block : Around
+  statements : List StatementSpot
+  clean : IsClean around_block statements 0 code
   short : IsShort code
 
 block_compilable : (b : StatedBlock) → IsMadeBlock b → IsRightCode (code_in b.statements)
@@ -613,12 +613,12 @@ block_compilable b made right =
 
 -- ---- a program that verifies
 
-first_none : (a b : Option ℕ) → is_nowhere (first_of a b) ≡ true → a ≡ None
+first_none : (a b : Option ℕ) → is_nowhere (first_found a b) ≡ true → a ≡ None
 first_none None b e = refl
 first_none (Some at) b e = absurd cc
 
-code_short : (count : ℕ) (ops : List OpData) → (code_of true count).good ops ≡ true → IsShort ops
-unfolding code_of
+code_short : (count : ℕ) (ops : List OpData) → (code_layout true count).good ops ≡ true → IsShort ops
+unfolding code_layout
 code_short count ops e = record {
   at = 0;
   none = first_none (overlong 0 0 ops) (if ends_right ops then None else Some (last_place 0 ops))
@@ -658,9 +658,9 @@ right_codes : (lens : List (ℕ × ℕ)) (all : List BlockRecord) (bs : List Sta
 right_codes lens all [] clean short = tt
 right_codes lens all (b ∷ bs) clean short = (
   record {
-    around = around (Some lens) all (record_of_block (compiled b));
+    around = around_block (Some lens) all (record_of_block (compiled b));
     statements = spots (code_in b.statements);
-    clean = code_clean (around (Some lens) all (record_of_block (compiled b)))
+    clean = code_clean (around_block (Some lens) all (record_of_block (compiled b)))
         (code_in b.statements) clean.0;
     short = short.0;
   },

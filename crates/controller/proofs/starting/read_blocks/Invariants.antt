@@ -1,8 +1,8 @@
 use Rattle.std.proofs.Common.{◌≡◌, map, take}
-use Rattle.plc_mem.specs.Blocks.{bytes_of}
+use Rattle.plc_mem.specs.Blocks.{bytes_by_number}
 use Rattle.controller.specs.Starting.{read_block}
 use Rattle.controller.proofs.starting.read_blocks.Given as goal
 
 abbrev pub invariant-loop-number : goal.invariant-loop-number
 invariant-loop-number l =
-    bytes_of l.blocks.items ≡ map (read_block l.program.program.data_blocks) (take l.number-index l.numbers)
+    bytes_by_number l.blocks.items ≡ map (read_block l.program.program.data_blocks) (take l.number-index l.numbers)

@@ -1,10 +1,10 @@
 use Rattle.std.proofs.Common.{◌-◌, ◌≤◌, length}
-use Rattle.image_file.specs.Walking.{HasRead}
+use Rattle.image_file.specs.Walking.{HasReadOps}
 use Rattle.image_file.proofs.codes.ops_in.Given as goal
 
 abbrev pub invariant-loop-found : goal.invariant-loop-found
 invariant-loop-found l = record {
-  read : HasRead l.code l.ops.items l.at l.last l.ended l.count;
+  read : HasReadOps l.code l.ops.items l.at l.last l.ended l.count;
   before : l.last ≤ l.at;
   few : l.count ≤ 64;
 }

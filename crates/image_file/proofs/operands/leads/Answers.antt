@@ -2,7 +2,7 @@ use Rattle.std.proofs.Common.{arith, ◌∙◌, ap, drop, ◌+◌, ℕ, ◌-◌,
 use Rattle.std.proofs.lemmas.Bool.{ne_eqb}
 use Rattle.plc_base.proofs.ListLemmas.{drop_next}
 use Rattle.flat_code.specs.Blocks.{leads}
-use Rattle.image_file.proofs.JudgeLemmas.{leads_step, left_next, here_fits}
+use Rattle.image_file.proofs.CheckLemmas.{leads_step, left_next, here_fits}
 use Rattle.image_file.proofs.operands.leads.Goals as goal
 
 pub overflow_add-at : goal.overflow_add-at

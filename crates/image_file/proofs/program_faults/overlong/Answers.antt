@@ -1,5 +1,5 @@
 use Rattle.std.proofs.Common.{arith, ap, ◌∙◌, ◌+◌, ℕ}
-use Rattle.image_file.proofs.JudgeLemmas.{here_fits, left_next}
+use Rattle.image_file.proofs.CheckLemmas.{here_fits, left_next}
 use Rattle.image_file.proofs.ProgramFaultLemmas.{overlong_here, overlong_next, overlong_done, count_few}
 use Rattle.image_file.proofs.program_faults.overlong.Goals as goal
 

@@ -1,5 +1,5 @@
 use Rattle.std.proofs.Common.{arith, ◌∙◌, ap, ◌+◌, ℕ}
-use Rattle.image_file.proofs.JudgeLemmas.{here_fits, left_next, spots_next}
+use Rattle.image_file.proofs.CheckLemmas.{here_fits, left_next, spots_next}
 use Rattle.image_file.proofs.statement_table.statement_list.Goals as goal
 
 pub overflow_add-at : goal.overflow_add-at

@@ -5,15 +5,15 @@ use Rattle.flat_code.specs.Programs.{CodeBlock}
 use Rattle.flat_code.specs.Image.{block_of_record}
 use Rattle.flat_code.specs.Loading.{blocks_of}
 use Rattle.image_file.specs.declared.records.Started.{Started}
-use Rattle.image_file.specs.Running.{started}
+use Rattle.image_file.specs.Running.{started_block}
 use Rattle.image_file.specs.Typing.{AreFew}
 use Rattle.image_file.proofs.typing.code_blocks.Goals as goal
 
 abbrev Few : List Started → Type 0
-Few xs = AreFew (blocks_of (map started xs))
+Few xs = AreFew (blocks_of (map started_block xs))
 
 abbrev typed_of : List Started → List CodeBlock
-typed_of xs = map block_of_record (blocks_of (map started xs))
+typed_of xs = map block_of_record (blocks_of (map started_block xs))
 
 few_front : (xs : List Started) (s : Started) → Few (xs ++ s ∷ []) → Few xs × (length s.block.params ≤ 60)
 few_front [] s h = (tt, h.0)

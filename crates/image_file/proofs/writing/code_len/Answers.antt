@@ -1,5 +1,5 @@
 use Rattle.std.proofs.Common.{arith, ap, ◌+◌, ℕ}
-use Rattle.image_file.proofs.JudgeLemmas.{here_fits, left_next}
+use Rattle.image_file.proofs.CheckLemmas.{here_fits, left_next}
 use Rattle.image_file.proofs.writing.code_len.Goals as goal
 
 pub overflow_add-len : goal.overflow_add-len

@@ -1,5 +1,5 @@
 use Rattle.std.proofs.Common.{subst}
-use Rattle.machine.specs.Flat.{code_of, statement_at}
+use Rattle.machine.specs.Flat.{code_of, statement_fetched}
 use Rattle.machine.specs.Statement.{IsNotStuck, world}
 use Rattle.machine.proofs.FetchLemmas.{found_is, found_nowhere, goes_there}
 use Rattle.machine.proofs.statements.execute_at.Goals as goal
@@ -15,7 +15,7 @@ pub unreachable-requires : goal.unreachable-requires
 unreachable-requires c =
     absurd
     (found_nowhere c.args.code.now c.args.a.now.running.frame.at c.in-None.ensures
-    (goes_there (code_of c.args.c.now.program) (statement_at c.args.code.now c.args.a.now.running.frame.at) c.args.a.now
+    (goes_there (code_of c.args.c.now.program) (statement_fetched c.args.code.now c.args.a.now.running.frame.at) c.args.a.now
     (world c.args.m.now c.args.t.now c.args.n.now) c.requires.there))
 
 pub returns : goal.returns

@@ -8,7 +8,7 @@ use Rattle.machine.specs.Flat.{code_of}
 use Rattle.var_access.specs.declared.Entry.{Entry}
 use Rattle.controller.specs.Recording.{Recording}
 use Rattle.controller.specs.Replay.{replay}
-use Rattle.controller.specs.Replayed.{events, replayed}
+use Rattle.controller.specs.Replayed.{entry_events, final_state}
 use Rattle.s7_cli.specs.Answer.{Answer}
 use Rattle.s7_cli.specs.Command.{Gen}
 use Rattle.s7_cli.specs.Ends.{taking}
@@ -36,9 +36,9 @@ returns g c = λ files.
     let line : List ℕ = c.as_slice.result.now in
     let is : line ≡ summary_text number Large runs.0 (history number) =
     c.as_slice.ensures ∙ c.summary_line.ensures
-    ∙ ap (λ (r : Recording). summary_of number (length r.history) (replayed r)) c.in_ok-controller.ensures.ok
-    ∙ ap (λ (f : Profile). summary_of number (length entries) (replay f running (events entries))) c.in_ok-program.ensures.large
-    ∙ summary-kept number (length entries) Large runs.0 running runs.2 (events entries)
+    ∙ ap (λ (r : Recording). summary_of number (length r.history) (final_state r)) c.in_ok-controller.ensures.ok
+    ∙ ap (λ (f : Profile). summary_of number (length entries) (replay f running (entry_events entries))) c.in_ok-program.ensures.large
+    ∙ summary-kept number (length entries) Large runs.0 running runs.2 (entry_events entries)
     ∙ ap (λ (es : List Entry). summary_text number Large runs.0 es) c.in_ok-entries.ensures.entries in
     comes-written (Gen number) files files _ [] (summary_text number Large runs.0 (history number)) _ refl
     (record { same = unchanged files; hold = tt })

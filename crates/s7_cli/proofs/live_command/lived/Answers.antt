@@ -1,7 +1,7 @@
 use Rattle.std.proofs.Common.{◌∙◌, ap, subst, Err, List, arith, map}
 use Rattle.std.proofs.lemmas.Result.{err_from_is_err_and}
 use Rattle.var_access.specs.declared.Entry.{Entry}
-use Rattle.s7_cli.specs.declared.judging.LiveWork.{LiveWork}
+use Rattle.s7_cli.specs.declared.command_checks.LiveWork.{LiveWork}
 use Rattle.s7_cli.specs.LiveTexts.{TextSays}
 use Rattle.s7_cli.specs.Living.{IsLive}
 use Rattle.s7_cli.proofs.LiveLemmas.{live-said, refused-on}

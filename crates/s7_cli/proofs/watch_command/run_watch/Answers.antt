@@ -1,7 +1,7 @@
 use Rattle.std.proofs.Common.{◌∙◌, ap, subst, Err, List, arith, map}
 use Rattle.std.proofs.lemmas.Result.{err_from_is_err_and}
 use Rattle.var_access.specs.declared.Entry.{Entry}
-use Rattle.s7_cli.specs.declared.watch_judging.WatchWork.{WatchWork}
+use Rattle.s7_cli.specs.declared.watch_checks.WatchWork.{WatchWork}
 use Rattle.s7_cli.specs.Living.{IsLive}
 use Rattle.s7_cli.specs.WatchTexts.{WatchTextSays}
 use Rattle.s7_cli.specs.Watching.{watch_lists}

@@ -1,35 +1,35 @@
 use Rattle.std.proofs.Common.{◌≡◌, ap, sym, ◌∙◌, List, ℕ}
 use Rattle.std.specs.Prelude.{slice_get}
 use Rattle.std.specs.FinMap as finmap
-use Rattle.controller.specs.Starting.{numbers_of}
+use Rattle.controller.specs.Starting.{data_block_numbers}
 use Rattle.controller.specs.State.{State}
-use Rattle.controller.specs.Views.{state_of}
+use Rattle.controller.specs.Views.{cpu_state}
 use Rattle.controller.specs.Recording.{Recording}
-use Rattle.controller.specs.Replayed.{replayed}
+use Rattle.controller.specs.Replayed.{final_state}
 use Rattle.controller.proofs.history.BlockLemmas.{block_there, memory_numbers, no_block_there}
 use Rattle.controller.proofs.controllers.Controller.data_block.Goals as goal
 
 pub returns-in-None : goal.returns-in-None
 returns-in-None c =
-    let now : State = state_of c.self.inside.cpu in
-    let after : now ≡ replayed c.args.self.now =
-    c.self.invariant.state ∙ ap (λ (r : Recording). replayed r) c.self.view_is in
-    let are : numbers_of (finmap.entries (replayed c.args.self.now).world.memory.data_blocks) ≡ c.self.inside.numbers.items =
-    ap (λ (s : State). numbers_of (finmap.entries s.world.memory.data_blocks)) (sym after)
+    let now : State = cpu_state c.self.inside.cpu in
+    let after : now ≡ final_state c.args.self.now =
+    c.self.invariant.state ∙ ap (λ (r : Recording). final_state r) c.self.view_is in
+    let are : data_block_numbers (finmap.entries (final_state c.args.self.now).world.memory.data_blocks) ≡ c.self.inside.numbers.items =
+    ap (λ (s : State). data_block_numbers (finmap.entries s.world.memory.data_blocks)) (sym after)
     ∙ memory_numbers c.self.inside.program.program now.world.memory c.self.invariant.verifies c.self.invariant.fit.memory
     ∙ sym c.self.invariant.numbers in
-    sym (no_block_there (replayed c.args.self.now).world.memory.data_blocks c.self.inside.numbers.items c.args.place are
+    sym (no_block_there (final_state c.args.self.now).world.memory.data_blocks c.self.inside.numbers.items c.args.place are
     (ap (λ (ns : List ℕ). slice_get ns c.args.place) (sym c.as_slice.ensures.value) ∙ sym c.in-None.ensures))
 
 pub returns-in-Some : goal.returns-in-Some
 returns-in-Some c =
-    let now : State = state_of c.self.inside.cpu in
-    let after : now ≡ replayed c.args.self.now =
-    c.self.invariant.state ∙ ap (λ (r : Recording). replayed r) c.self.view_is in
-    let are : numbers_of (finmap.entries (replayed c.args.self.now).world.memory.data_blocks) ≡ c.self.inside.numbers.items =
-    ap (λ (s : State). numbers_of (finmap.entries s.world.memory.data_blocks)) (sym after)
+    let now : State = cpu_state c.self.inside.cpu in
+    let after : now ≡ final_state c.args.self.now =
+    c.self.invariant.state ∙ ap (λ (r : Recording). final_state r) c.self.view_is in
+    let are : data_block_numbers (finmap.entries (final_state c.args.self.now).world.memory.data_blocks) ≡ c.self.inside.numbers.items =
+    ap (λ (s : State). data_block_numbers (finmap.entries s.world.memory.data_blocks)) (sym after)
     ∙ memory_numbers c.self.inside.program.program now.world.memory c.self.invariant.verifies c.self.invariant.fit.memory
     ∙ sym c.self.invariant.numbers in
     c.numbered.ensures
-    ∙ sym (block_there (replayed c.args.self.now).world.memory.data_blocks c.self.inside.numbers.items c.args.place c.in-Some.number are
+    ∙ sym (block_there (final_state c.args.self.now).world.memory.data_blocks c.self.inside.numbers.items c.args.place c.in-Some.number are
     (ap (λ (ns : List ℕ). slice_get ns c.args.place) (sym c.as_slice.ensures.value) ∙ sym c.in-Some.ensures))

@@ -8,12 +8,12 @@ use Rattle.var_access.specs.declared.Entry.{Entry}
 use Rattle.var_access.specs.declared.What.TheVariants.{Step}
 use Rattle.controller.specs.Quiet.{ShowNothing, steps_quietly}
 use Rattle.controller.specs.Replay.{last_seen, replay, run_from}
-use Rattle.controller.specs.Shown.{watched}
+use Rattle.controller.specs.Shown.{watched_state}
 use Rattle.controller.specs.State.{State}
-use Rattle.controller.specs.Views.{state_of}
+use Rattle.controller.specs.Views.{cpu_state}
 use Rattle.controller.specs.declared.observing.Observed.{Observed}
 use Rattle.controller.specs.Recording.{Recording}
-use Rattle.controller.specs.Replayed.{events, replayed}
+use Rattle.controller.specs.Replayed.{entry_events, final_state}
 use Rattle.controller.proofs.history.QuietLemmas.{fits-behind, observer-behind, quiet-behind, replay-more, seen-behind, state-behind, steps-are}
 use Rattle.controller.proofs.controllers.Controller.step_quietly.Goals as goal
 
@@ -25,34 +25,34 @@ invariant_of-self-2 c =
     let history : List Entry = c.self.inside.history.entries in
     let made : ℕ = c.step_quietly-made.result in
     let more : List Entry = replicate made c.args.step.now in
-    let s : State = state_of c.self.inside.cpu in
-    let t : State = state_of c.step_quietly-made.new.self in
-    let steps : events more ≡ replicate made Step = steps-are c.args.step.now made c.requires.step in
+    let s : State = cpu_state c.self.inside.cpu in
+    let t : State = cpu_state c.step_quietly-made.new.self in
+    let steps : entry_events more ≡ replicate made Step = steps-are c.args.step.now made c.requires.step in
     let entries : c.push.new.self.entries ≡ history ++ more = ap (λ (kept : History). kept.entries) c.push.ensures in
     let some : 1 ≤ made = omega arith in
     record {
       verifies = c.self.invariant.verifies;
       state =
           state-behind c.continues_replay.ensures.more profile code history more s t made c.self.invariant.state steps c.step_quietly-made.ensures.state
-          ∙ ap (λ (es : List Entry). replay profile code (events es)) (sym entries);
+          ∙ ap (λ (es : List Entry). replay profile code (entry_events es)) (sym entries);
       fit =
           fits-behind p s t made c.what_runs_goes_on.ensures.entry c.self.invariant.verifies c.self.invariant.fit
           c.step_quietly-made.ensures.state;
       observer =
           observer-behind s t c.self.inside.observer c.pass.new.self _ c.self.invariant.observer c.pass.ensures
           c.step_quietly-made.ensures.outputs c.step_quietly-made.ensures.mode
-          ∙ ap (λ (o : Observed). watched t o)
+          ∙ ap (λ (o : Observed). watched_state t o)
           (seen-behind c.continues_replay.ensures.more_seen profile code history more s made c.self.invariant.state steps c.step_quietly-made.ensures.nothing some
-          ∙ ap (λ (es : List Entry). last_seen profile code (events es)) (sym entries));
+          ∙ ap (λ (es : List Entry). last_seen profile code (entry_events es)) (sym entries));
       numbers = c.self.invariant.numbers;
     }
 
 pub returns-clause-nothing : goal.returns-clause-nothing
 returns-clause-nothing c =
-    subst (λ (r : Recording). ShowNothing (code_of r.program) (replayed r) (replicate c.step_quietly-made.result Step))
+    subst (λ (r : Recording). ShowNothing (code_of r.program) (final_state r) (replicate c.step_quietly-made.result Step))
     c.self.view_is
     (quiet-behind c.self.inside.program.profile (code_of c.self.inside.program.program) c.self.inside.history.entries
-    (state_of c.self.inside.cpu) c.step_quietly-made.result c.self.invariant.state c.step_quietly-made.ensures.nothing)
+    (cpu_state c.self.inside.cpu) c.step_quietly-made.result c.self.invariant.state c.step_quietly-made.ensures.nothing)
 
 pub returns-clause-state : goal.returns-clause-state
 returns-clause-state c =
@@ -61,10 +61,10 @@ returns-clause-state c =
     let history : List Entry = c.self.inside.history.entries in
     let made : ℕ = c.step_quietly-made.result in
     let more : List Entry = replicate made c.args.step.now in
-    ap (λ (kept : History). replay profile code (events kept.entries)) c.push.ensures
+    ap (λ (kept : History). replay profile code (entry_events kept.entries)) c.push.ensures
     ∙ replay-more c.continues_replay.ensures.more profile code history more
-    ∙ ap (run_from code (replay profile code (events history))) (steps-are c.args.step.now made c.requires.step)
-    ∙ ap (λ (r : Recording). run_from (code_of r.program) (replayed r) (replicate made Step)) c.self.view_is
+    ∙ ap (run_from code (replay profile code (entry_events history))) (steps-are c.args.step.now made c.requires.step)
+    ∙ ap (λ (r : Recording). run_from (code_of r.program) (final_state r) (replicate made Step)) c.self.view_is
 
 pub returns-clause-stops : goal.returns-clause-stops
 returns-clause-stops c = λ less.
@@ -73,10 +73,10 @@ returns-clause-stops c = λ less.
     let history : List Entry = c.self.inside.history.entries in
     let made : ℕ = c.step_quietly-made.result in
     let more : List Entry = replicate made c.args.step.now in
-    let is : state_of c.step_quietly-made.new.self ≡ replay profile code (events c.push.new.self.entries) =
-    state-behind c.continues_replay.ensures.more profile code history more (state_of c.self.inside.cpu) (state_of c.step_quietly-made.new.self) made c.self.invariant.state
+    let is : cpu_state c.step_quietly-made.new.self ≡ replay profile code (entry_events c.push.new.self.entries) =
+    state-behind c.continues_replay.ensures.more profile code history more (cpu_state c.self.inside.cpu) (cpu_state c.step_quietly-made.new.self) made c.self.invariant.state
     (steps-are c.args.step.now made c.requires.step) c.step_quietly-made.ensures.state
-    ∙ ap (λ (kept : History). replay profile code (events kept.entries)) (sym c.push.ensures) in
-    subst (λ (r : Recording). steps_quietly (code_of r.program) (replay profile code (events c.push.new.self.entries)) ≡ false)
+    ∙ ap (λ (kept : History). replay profile code (entry_events kept.entries)) (sym c.push.ensures) in
+    subst (λ (r : Recording). steps_quietly (code_of r.program) (replay profile code (entry_events c.push.new.self.entries)) ≡ false)
     c.self.view_is
     (subst (λ (s : State). steps_quietly code s ≡ false) is (c.step_quietly-made.ensures.stops less))

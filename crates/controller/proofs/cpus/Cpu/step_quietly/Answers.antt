@@ -3,18 +3,18 @@ use Rattle.machine.specs.Flat.{code_of}
 use Rattle.machine.specs.Statement.{world}
 use Rattle.ob_sched.specs.Request.{best_of}
 use Rattle.controller.specs.State.{is_stop}
-use Rattle.controller.specs.Views.{state_of}
+use Rattle.controller.specs.Views.{cpu_state}
 use Rattle.controller.proofs.QuietLemmas.{fit_goes_on, no_quiet_step, none_there, steps_quietly, IsQuiet}
 use Rattle.controller.proofs.cpus.Cpu.step_quietly.Goals as goal
 
 pub run_quietly-done-requires : goal.run_quietly-done-requires
 run_quietly-done-requires c =
     fit_goes_on c.what_fits_goes.ensures c.what_fits_lasts.ensures.step
-    c.args.program.now.program (state_of c.args.self.now) c.law_of_verifying.ensures c.requires.fit
+    c.args.program.now.program (cpu_state c.args.self.now) c.law_of_verifying.ensures c.requires.fit
 
 pub returns : goal.returns
 returns c =
-    let quiet : IsQuiet (state_of c.args.self.now) = record {
+    let quiet : IsQuiet (cpu_state c.args.self.now) = record {
       unwatched = none_there c.args.self.now.monitored (sym c.is_some.ensures ∙ c.if-is_some.false);
       running = sym c.is_stop.ensures ∙ c.if-is_stop.false;
       none =
@@ -22,7 +22,7 @@ returns c =
           ∙ none_there c.best.result (sym c.is_some-else-is_stop.ensures ∙ c.if-is_some-2.false);
     } in
     let steps = steps_quietly (code_of c.args.program.now.program) c.run_quietly-done.result
-    (state_of c.args.self.now) c.run_quietly-done.new.self
+    (cpu_state c.args.self.now) c.run_quietly-done.new.self
     (world c.run_quietly-done.new.m c.run_quietly-done.new.t c.run_quietly-done.new.n) quiet
     c.run_quietly-done.ensures.runs in
     record {
@@ -32,6 +32,6 @@ returns c =
       outputs = steps.outputs;
       mode = refl;
       stops = λ less. no_quiet_step (not (is_some c.args.self.now.monitored)) (not (is_stop c.args.self.now.mode))
-          (not (is_some (best_of c.args.self.now.mode (state_of c.args.self.now).sched.pending))) _
+          (not (is_some (best_of c.args.self.now.mode (cpu_state c.args.self.now).sched.pending))) _
           (c.run_quietly-done.ensures.stops less);
     }

@@ -2,7 +2,7 @@ use Rattle.std.proofs.Common.{◌∙◌, ◌++◌, length, map, List, arith, ap,
 use Rattle.flat_code.specs.Image.{IsProgram}
 use Rattle.flat_code.specs.Loading.{Verifies}
 use Rattle.flat_code.specs.Programs.{CodeBlock, DataBlock, Program}
-use Rattle.image_file.specs.Readers.{data_id}
+use Rattle.image_file.specs.Readers.{data_block_id}
 use Rattle.image_file.specs.Tables.{HaveSlots, FindsBlocks}
 use Rattle.image_file.proofs.ProgramLemmas.{program_room, program_count}
 use Rattle.image_file.proofs.loaded.Loaded.new.Goals as goal
@@ -19,8 +19,8 @@ invariant_of-result c =
       is_program = subst IsProgram (sym same) c.program.invariant;
       verifies = subst Verifies (sym (same ∙ c.program.view_is)) c.requires;
       blocks = c.in_ok-ids.ensures
-          ∙ ap (λ (z : List CodeBlock). map (λ b. b.id) z ++ map data_id c.as_slice-2.result.now) c.as_slice.ensures.value
-          ∙ ap (λ (z : List DataBlock). map (λ b. b.id) c.in_ok-blocks.blocks.items ++ map data_id z) c.as_slice-2.ensures.value;
+          ∙ ap (λ (z : List CodeBlock). map (λ b. b.id) z ++ map data_block_id c.as_slice-2.result.now) c.as_slice.ensures.value
+          ∙ ap (λ (z : List DataBlock). map (λ b. b.id) c.in_ok-blocks.blocks.items ++ map data_block_id z) c.as_slice-2.ensures.value;
       slots = subst HaveSlots (sym c.in_ok-blocks.ensures) (program_room _ c.program.invariant).slots;
       finds = subst (λ (z : List CodeBlock). FindsBlocks z c.in_ok-table.table.items) c.as_slice-3.ensures.value c.in_ok-table.ensures;
     }

@@ -3,7 +3,7 @@ use Rattle.std.proofs.lemmas.Result.{err_from_is_err_and}
 use Rattle.flat_code.specs.Programs.{Program}
 use Rattle.flat_code.specs.Image.{cut}
 use Rattle.flat_code.specs.declared.stamps.Stamp.{Stamp}
-use Rattle.image_file.specs.Running.{Log, Ran, Stops, ran_read, place_of, log_of, front_values, SeesImage}
+use Rattle.image_file.specs.Running.{Log, Ran, Stops, run_of_read, reader_cursor, log_of, front_values, SeesImage}
 use Rattle.image_file.proofs.WholeRunLemmas.{front_stops, cut_image, small_total, far_total, great_total}
 use Rattle.image_file.proofs.reader.Reader.image.Goals as goal
 
@@ -18,23 +18,23 @@ stopped read log last p q = sym (p ∙ ap (λ (z : Log). Stops z) (sym q))
 pub returns-then-front-lt20 : goal.returns-then-front-lt20
 returns-then-front-lt20 c =
     let text = c.args.self.now.rest.now in
-    let whole = cut_image text c.args.self.now.at (log_of c.args.self.now) (front_values c.in_ok-front.front) (place_of c.front.new.self) (log_of c.front.new.self) c.requires c.in_ok-front.ensures.read in
-    stopped _ _ _ (whole ∙ small_total _ (length text) c.in_ok-front.front.total_length (place_of c.front.new.self) (log_of c.front.new.self) c.if-front-lt20.true) c.note_if.ensures.log
+    let whole = cut_image text c.args.self.now.at (log_of c.args.self.now) (front_values c.in_ok-front.front) (reader_cursor c.front.new.self) (log_of c.front.new.self) c.requires c.in_ok-front.ensures.read in
+    stopped _ _ _ (whole ∙ small_total _ (length text) c.in_ok-front.front.total_length (reader_cursor c.front.new.self) (log_of c.front.new.self) c.if-front-lt20.true) c.note_if.ensures.log
 
 pub returns-then-size-front : goal.returns-then-size-front
 returns-then-size-front c =
     let text = c.args.self.now.rest.now in
-    let whole = cut_image text c.args.self.now.at (log_of c.args.self.now) (front_values c.in_ok-front.front) (place_of c.front.new.self) (log_of c.front.new.self) c.requires c.in_ok-front.ensures.read in
-    stopped _ _ _ (whole ∙ far_total _ (length text) c.in_ok-front.front.total_length (place_of c.front.new.self) (log_of c.front.new.self) c.if-size-front.true) c.note_if-then-size-front.ensures.log
+    let whole = cut_image text c.args.self.now.at (log_of c.args.self.now) (front_values c.in_ok-front.front) (reader_cursor c.front.new.self) (log_of c.front.new.self) c.requires c.in_ok-front.ensures.read in
+    stopped _ _ _ (whole ∙ far_total _ (length text) c.in_ok-front.front.total_length (reader_cursor c.front.new.self) (log_of c.front.new.self) c.if-size-front.true) c.note_if-then-size-front.ensures.log
 
 pub returns-then-front-gt8388608 : goal.returns-then-front-gt8388608
 returns-then-front-gt8388608 c =
     let text = c.args.self.now.rest.now in
-    let whole = cut_image text c.args.self.now.at (log_of c.args.self.now) (front_values c.in_ok-front.front) (place_of c.front.new.self) (log_of c.front.new.self) c.requires c.in_ok-front.ensures.read in
-    stopped _ _ _ (whole ∙ great_total _ (length text) c.in_ok-front.front.total_length (place_of c.front.new.self) (log_of c.front.new.self) c.if-front-lt20.false c.if-size-front.false (omega (arith, c.if-front-gt8388608.true))) c.note_if-then-front-gt8388608.ensures.log
+    let whole = cut_image text c.args.self.now.at (log_of c.args.self.now) (front_values c.in_ok-front.front) (reader_cursor c.front.new.self) (log_of c.front.new.self) c.requires c.in_ok-front.ensures.read in
+    stopped _ _ _ (whole ∙ great_total _ (length text) c.in_ok-front.front.total_length (reader_cursor c.front.new.self) (log_of c.front.new.self) c.if-front-lt20.false c.if-size-front.false (omega (arith, c.if-front-gt8388608.true))) c.note_if-then-front-gt8388608.ensures.log
 
 pub returns : goal.returns
 returns c =
     let text = c.args.self.now.rest.now in
-    let whole = cut_image text c.args.self.now.at (log_of c.args.self.now) (front_values c.in_ok-front.front) (place_of c.front.new.self) (log_of c.front.new.self) c.requires c.in_ok-front.ensures.read in
-    subst (λ (z : Ran (Stamp × Program)). SeesImage c.rest_of_image.result c.rest_of_image.new.self z) (sym (whole ∙ ap (λ (s : Stamp). ran_read (cut true s (length text) c.in_ok-front.front.total_length (place_of c.front.new.self)) (log_of c.front.new.self)) (sym c.of-stamp.ensures))) c.rest_of_image.ensures
+    let whole = cut_image text c.args.self.now.at (log_of c.args.self.now) (front_values c.in_ok-front.front) (reader_cursor c.front.new.self) (log_of c.front.new.self) c.requires c.in_ok-front.ensures.read in
+    subst (λ (z : Ran (Stamp × Program)). SeesImage c.rest_of_image.result c.rest_of_image.new.self z) (sym (whole ∙ ap (λ (s : Stamp). run_of_read (cut true s (length text) c.in_ok-front.front.total_length (reader_cursor c.front.new.self)) (log_of c.front.new.self)) (sym c.of-stamp.ensures))) c.rest_of_image.ensures

@@ -1,7 +1,7 @@
 use Rattle.std.proofs.Common.{◌∙◌, ap, sym, subst, arith, length, List}
 use Rattle.std.specs.Vec.{with_items}
 use Rattle.std.proofs.lemmas.List.{with_items_is}
-use Rattle.ob_sched.specs.Bin.{ranked}
+use Rattle.ob_sched.specs.Bin.{requests_by_rank}
 use Rattle.ob_sched.specs.declared.bin.Bin.{Bin}
 use Rattle.ob_sched.proofs.ChangeLemmas.{AreEmpty, AreEmpty-set, AreEmpty-all, keeps-empty, bitmap_of-empty, ranked-empty}
 use Rattle.ob_sched.proofs.bins.Bins.clear.Goals as goal
@@ -32,4 +32,4 @@ returns c =
     let empty : AreEmpty c.loop-bin.bin-items =
     AreEmpty-all c.loop-bin.bin-items c.loop-bin.bin-index (omega (arith, c.loop-bin-test.false, c.loop-bin.auto.bin-items)) c.loop-bin.invariant in
     let whole = with_items_is c.args.self.now.bins c.loop-bin.bin-items (omega (arith, c.loop-bin.auto.bin-items, c.deref_mut-bin-items.ensures.len, c.args.self.now.bins.ok.0)) in
-    ap ranked whole ∙ ranked-empty c.loop-bin.bin-items empty
+    ap requests_by_rank whole ∙ ranked-empty c.loop-bin.bin-items empty

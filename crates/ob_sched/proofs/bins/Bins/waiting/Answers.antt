@@ -1,5 +1,5 @@
 use Rattle.std.proofs.Common.{◌∙◌, ap, sym, arith}
-use Rattle.ob_sched.specs.Request.{waiting}
+use Rattle.ob_sched.specs.Request.{waiting_count}
 use Rattle.ob_sched.proofs.BinLemmas.{waiting-found}
 use Rattle.ob_sched.proofs.bins.Bins.waiting.Goals as goal
 
@@ -9,4 +9,4 @@ returns c =
     let whole =
     waiting-found c.args.ob c.from.result c.args.self.now.bins.items c.index-bin.result.now c.args.self.now.placed
     (omega (arith, c.args.self.now.count, c.class_of.ensures.bound, c.from.ensures)) class c.index-bin.ensures in
-    c.count.ensures ∙ ap (waiting c.args.ob) c.as_slice.ensures.value ∙ sym whole
+    c.count.ensures ∙ ap (waiting_count c.args.ob) c.as_slice.ensures.value ∙ sym whole

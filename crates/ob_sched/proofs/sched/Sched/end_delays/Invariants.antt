@@ -1,10 +1,10 @@
 use Rattle.std.proofs.Common.{◌≡◌, drop}
-use Rattle.ob_sched.specs.Millisecond.{each_of, delay_ended}
-use Rattle.ob_sched.specs.Views.{course_of}
+use Rattle.ob_sched.specs.Millisecond.{each_ob, delay_ended}
+use Rattle.ob_sched.specs.Views.{tick_state_of}
 use Rattle.ob_sched.proofs.sched.Sched.end_delays.Given as goal
 
 -- what is left comes to what all of them do
 abbrev pub invariant-loop-ob : goal.invariant-loop-ob
 invariant-loop-ob l =
-    each_of (delay_ended l.mode) (drop l.ob-index l.obs) (course_of l.self l.passed)
-    ≡ each_of (delay_ended l.mode) l.obs (course_of l.fn.self l.fn.passed)
+    each_ob (delay_ended l.mode) (drop l.ob-index l.obs) (tick_state_of l.self l.passed)
+    ≡ each_ob (delay_ended l.mode) l.obs (tick_state_of l.fn.self l.fn.passed)

@@ -1,6 +1,6 @@
 use Rattle.std.proofs.Common.{◌-◌, drop, length}
 use Rattle.std.specs.List.{flat_map}
-use Rattle.controller.specs.Replayed.{data_blocks}
+use Rattle.controller.specs.Replayed.{final_data_blocks}
 use Rattle.s7_cli.specs.run_text.RunText.{block_text}
 use Rattle.s7_cli.proofs.run.WritingLemmas.{GoesOn}
 use Rattle.s7_cli.proofs.run_text.closing.write_blocks.Given as goal
@@ -9,10 +9,10 @@ use Rattle.s7_cli.proofs.run_text.closing.write_blocks.Given as goal
 abbrev pub invariant-loop-number : goal.invariant-loop-number
 invariant-loop-number g l =
     GoesOn
-    (flat_map block_text (data_blocks l.controller))
-    (flat_map block_text (drop l.place (data_blocks l.controller)))
+    (flat_map block_text (final_data_blocks l.controller))
+    (flat_map block_text (drop l.place (final_data_blocks l.controller)))
     (g.K.Sink.shown l.fn.out)
     (g.K.Sink.shown l.out)
 
 abbrev pub decreases-loop-number : goal.decreases-loop-number
-decreases-loop-number g l = length (data_blocks l.controller) - l.place
+decreases-loop-number g l = length (final_data_blocks l.controller) - l.place

@@ -1,0 +1,33 @@
+-- Checking the ops of a block.
+use Rattle.std.specs.Prelude.{ℕ, ◌≤◌, List, [], ◌∷◌}
+use Rattle.std.specs.Option.{option_map}
+use Rattle.std.specs.Borrow.{Bor}
+use Rattle.flat_code.specs.declared.image_fields.OpenBracket.{OpenBracket}
+use Rattle.flat_code.specs.declared.image_fields.ParameterRecord.{ParameterRecord}
+use Rattle.flat_code.specs.Blocks.{Around, CalleeSeen}
+use Rattle.flat_code.specs.Ops.{OpData}
+use Rattle.flat_code.specs.Placed.{Placed}
+use Rattle.image_file.specs.declared.surroundings.Surroundings.{Surroundings}
+use Rattle.image_file.specs.declared.verifying.Place.{Place}
+
+-- what the faults of a block depend on besides its ops, by the record of the code
+abbrev pub around_of : Surroundings → Around
+around_of s = record { kind = s.kind; local_len = s.local_len; params = s.params.now; blocks = s.blocks.now; data_lens = option_map (λ d. d.now) s.data_lens }
+
+-- what is called, by its kind, its instance bytes and its parameters as the code finds them
+abbrev pub callee_values : ℕ × ℕ × Bor (List ParameterRecord) → CalleeSeen
+callee_values r = (r.0, r.1, r.2.now)
+
+-- all brackets stand at most at an offset
+abbrev pub AllUpTo : ℕ → List OpenBracket → Type 0
+AllUpTo n [] = Unit {0}
+AllUpTo n (b ∷ bs) = (b.at ≤ n) × AllUpTo n bs
+
+-- all zones are opened at most at an offset
+abbrev pub ZonesUpTo : ℕ → List ℕ → Type 0
+ZonesUpTo n [] = Unit {0}
+ZonesUpTo n (at ∷ zones) = (at ≤ n) × ZonesUpTo n zones
+
+-- an op in its place
+abbrev pub placed_of : OpData → Place → Placed
+placed_of op p = record { at = p.at; brackets = p.brackets.now; zones = p.zones.now; before = p.before.now; op = op; rest = p.rest.now }

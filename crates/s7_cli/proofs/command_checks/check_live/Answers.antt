@@ -1,0 +1,54 @@
+use Rattle.std.proofs.Common.{◌∙◌, ap, sym, subst, Err, Ok, List, ℕ, Vec, Global, length, map, arith}
+use Rattle.std.proofs.lemmas.Result.{err_from_is_err_and}
+use Rattle.flat_code.specs.Loading.{faults_of}
+use Rattle.flat_code.specs.Programs.{NameEntry}
+use Rattle.image_file.specs.Refusing.{IsLoadError}
+use Rattle.event_text.specs.TextFault.{IsTextFault}
+use Rattle.event_text.specs.Texts.{stimuli_of}
+use Rattle.s7_cli.specs.declared.command_checks.LiveWork.{LiveWork}
+use Rattle.s7_cli.specs.LiveSays.{scripts_from}
+use Rattle.s7_cli.specs.LiveTexts.{TellsScript, scripts_of}
+use Rattle.s7_cli.specs.Loads.{LoadsAs}
+use Rattle.s7_cli.proofs.LiveLemmas.{live-image-refused, scripts-refused, stimuli-refused}
+use Rattle.s7_cli.proofs.PassLemmas.{length_items}
+use Rattle.s7_cli.proofs.command_checks.check_live.Goals as goal
+
+abbrev all_bytes : List (Vec ℕ Global) → List (List ℕ)
+all_bytes texts = map (λ t. t.items) texts
+
+pub returns-in_err-program-clause-refused : goal.returns-in_err-program-clause-refused
+returns-in_err-program-clause-refused c =
+    let fault = err_from_is_err_and c.from_residual.result c.from_residual.ensures.1 in
+    live-image-refused _ c.args.text.now c.in_err-program.field-0.0 _ (fault.1 ∙ ap Err fault.2)
+    (subst (λ (bytes : List ℕ). IsLoadError c.in_err-program.field-0.0 (faults_of bytes)) c.deref.ensures.value c.in_err-program.ensures.refused)
+
+pub returns-in-Err-clause-refused : goal.returns-in-Err-clause-refused
+returns-in-Err-clause-refused c =
+    let p = c.in_ok-program.program in
+    stimuli-refused LiveWork c.args.text.now p c.in-Err.fault (Err c.failure_of_text.result) (ap Err c.failure_of_text.ensures)
+    (subst (λ (bytes : List ℕ). LoadsAs bytes (Ok p)) c.deref.ensures.value c.in_ok-program.ensures.loads)
+    (subst (λ (bytes : List ℕ). IsTextFault (stimuli_of bytes) c.in-Err.fault) c.deref-2.ensures.value c.in-Err.ensures.refused)
+
+pub returns-in_err-scripts-clause-refused : goal.returns-in_err-scripts-clause-refused
+returns-in_err-scripts-clause-refused c =
+    let fault = err_from_is_err_and c.from_residual-in_err-scripts.result c.from_residual-in_err-scripts.ensures.1 in
+    let p = c.in_ok-program.program in
+    scripts-refused _ c.args.text.now p c.in-Ok.entries.items _ _ (fault.1 ∙ ap Err fault.2)
+    (subst (λ (bytes : List ℕ). LoadsAs bytes (Ok p)) c.deref.ensures.value c.in_ok-program.ensures.loads)
+    (ap stimuli_of (sym c.deref-2.ensures.value) ∙ c.in-Ok.ensures.spelled)
+    (subst (λ (names : List NameEntry). TellsScript (scripts_from names 1 (scripts_of c.args.text.now)) c.in_err-scripts.field-0.0) c.names.ensures
+    (subst (λ (texts : List (Vec ℕ Global)). TellsScript (scripts_from c.names.result.now 1 (all_bytes texts)) c.in_err-scripts.field-0.0) c.deref-3.ensures.value
+    c.in_err-scripts.ensures.refused))
+
+pub returns-clause-finds : goal.returns-clause-finds
+returns-clause-finds c =
+    let p = c.in_ok-program.program in record {
+      loads = subst (λ (bytes : List ℕ). LoadsAs bytes (Ok p)) c.deref.ensures.value c.in_ok-program.ensures.loads;
+      are_stimuli = ap stimuli_of (sym c.deref-2.ensures.value) ∙ c.in-Ok.ensures.spelled;
+      are_scripts = ap (λ (names : List NameEntry). scripts_from names 1 (scripts_of c.args.text.now)) (sym c.names.ensures)
+          ∙ ap (λ (texts : List (Vec ℕ Global)). scripts_from c.names.result.now 1 (all_bytes texts)) (sym c.deref-3.ensures.value)
+          ∙ c.in_ok-scripts.ensures.spells;
+      regular = (c.in-Ok.ensures.regular, c.in_ok-scripts.ensures.regular);
+      few = omega (arith, c.in-Ok.ensures.few, ap length c.deref-2.ensures.value, c.requires.stimuli, c.in_ok-scripts.ensures.few);
+      many = length_items (λ v. v.items) c.in_ok-scripts.scripts.items ∙ c.in_ok-scripts.ensures.many ∙ ap length c.deref-3.ensures.value;
+    }
