@@ -80,7 +80,7 @@ verified_at lens all (c ∷ bs) b id h found =
 -- the parts of a block without fault
 record NoneIn (a : Around) (ops : List OpData) : Type 0 where
   over : faults_over a (spots ops) 0 (code_places ops) ≡ []
-  ends_by_be : open_behind 0 [] ops ≡ []
+  ends : open_behind 0 [] ops ≡ []
   zones_end : zones_left 0 [] ops ≡ []
 
 none_open : (start : ℕ) (bs : List OpenBracket) → open_faults start bs ≡ [] → bs ≡ []
